@@ -1,0 +1,147 @@
+-- The listing program (document 01): from a book's bytes to the bytes that it prints.
+use Prim.Native.Nat.{ℕ, zero, suc, _+_, _-_, _*_, _/_, _%_}
+use mathlib.Core.Bool.{Bool, true, false}
+use mathlib.Core.List.{List, [], _∷_, _++_}
+use lib.ListN.{length}
+use lib.Dec.{eqb}
+use Rattle.definitions.specs.{CompleteAnswer}
+use Rattle.definitions.specs.Refusal.{Refusable, refused, accepted}
+use Rattle.definitions.specs.Stop.{Stops, stop, go}
+use Rattle.definitions.specs.Tables.{Forest}
+use Rattle.definitions.specs.Logic.{RootSearchFail, NoMoreSolutions, Floundered, QuantumExceeded, NegativeCycle, InvalidAnswer}
+use Rattle.definitions.specs.Turn.{Ending, found, fail, cut, stopped}
+use Rattle.definitions.specs.Forest.{make, Opened, opened, Peeked, peek-rounds}
+
+-- the decimal digits of n, before those of `after`. The first number bounds them: a tenth of a number is below it.
+abbrev pub digits : ℕ → ℕ → List ℕ → List ℕ
+digits zero n after = after
+digits (suc more) n after = elim (n / 10) [
+  | zero ↦ (48 + n % 10) ∷ after
+  | suc tens ↦ digits more (suc tens) ((48 + n % 10) ∷ after)
+]
+
+abbrev pub decimal : ℕ → List ℕ
+decimal n = digits (suc n) n []
+
+-- The words, in ASCII.
+
+abbrev pub yes-word : List ℕ
+yes-word = 121 ∷ 101 ∷ 115 ∷ []
+
+abbrev pub maybe-word : List ℕ
+maybe-word = 109 ∷ 97 ∷ 121 ∷ 98 ∷ 101 ∷ []
+
+abbrev pub none-word : List ℕ
+none-word = 110 ∷ 111 ∷ 110 ∷ 101 ∷ []
+
+abbrev pub floundered-word : List ℕ
+floundered-word = 102 ∷ 108 ∷ 111 ∷ 117 ∷ 110 ∷ 100 ∷ 101 ∷ 114 ∷ 101 ∷ 100 ∷ []
+
+abbrev pub again-word : List ℕ
+again-word = 97 ∷ 103 ∷ 97 ∷ 105 ∷ 110 ∷ []
+
+abbrev pub negcycle-word : List ℕ
+negcycle-word = 110 ∷ 101 ∷ 103 ∷ 99 ∷ 121 ∷ 99 ∷ 108 ∷ 101 ∷ []
+
+abbrev pub invalid-word : List ℕ
+invalid-word = 105 ∷ 110 ∷ 118 ∷ 97 ∷ 108 ∷ 105 ∷ 100 ∷ []
+
+abbrev pub cut-word : List ℕ
+cut-word = 99 ∷ 117 ∷ 116 ∷ []
+
+abbrev pub stop-word : List ℕ
+stop-word = 115 ∷ 116 ∷ 111 ∷ 112 ∷ []
+
+abbrev pub refused-word : List ℕ
+refused-word = 114 ∷ 101 ∷ 102 ∷ 117 ∷ 115 ∷ 101 ∷ 100 ∷ []
+
+abbrev pub space : List ℕ
+space = 32 ∷ []
+
+abbrev pub newline : List ℕ
+newline = 10 ∷ []
+
+-- the word and, behind it, the number of an ending
+abbrev pub answer-words : CompleteAnswer → List ℕ
+answer-words a = elim (a .ambiguous) [ true ↦ maybe-word | false ↦ yes-word ] ++ space ++ decimal (a .variant)
+
+abbrev pub fail-word : RootSearchFail → List ℕ
+fail-word NoMoreSolutions = none-word
+fail-word Floundered = floundered-word
+fail-word QuantumExceeded = again-word
+fail-word NegativeCycle = negcycle-word
+fail-word InvalidAnswer = invalid-word
+
+abbrev pub ending-words : Ending → List ℕ
+ending-words (found a) = answer-words a
+ending-words (fail e) = fail-word e
+ending-words cut = cut-word
+ending-words (stopped n) = stop-word ++ space ++ decimal n
+
+abbrev pub line : (goal index : ℕ) → Ending → List ℕ
+line goal index ending = decimal goal ++ space ++ decimal index ++ space ++ ending-words ending ++ newline
+
+abbrev pub listing-rounds : ℕ
+listing-rounds = 1000
+
+abbrev pub listing-turns : ℕ
+listing-turns = 10000
+
+abbrev pub listing-clock : ℕ
+listing-clock = 1000000
+
+-- what follows a line: the next index, the next goal, or the end
+pub data Next : Type 0 where
+  next-index : Next
+  next-goal : Next
+  the-end : Next
+
+abbrev pub next : Ending → Next
+next (found a) = next-index
+next (fail e) = next-goal
+next cut = next-goal
+next (stopped n) = the-end
+
+-- what the lines of one goal come to: their bytes, whether a stop ended them, and the forest left
+pub record Listed : Type 0 where
+  pub bytes : List ℕ
+  pub stops : Bool
+  pub forest : Forest
+
+-- The lines of a goal from an index on. The first number bounds them: each index but the last has an answer, and at most 256 are held.
+abbrev pub list-from : ℕ → (goal table index : ℕ) → Forest → Listed
+list-from zero goal t i f = record { bytes = []; stops = true; forest = f }
+list-from (suc more) goal t i f =
+    let p = peek-rounds (listing-rounds - 1) listing-turns 0 t i f in
+    elim (next (p .ending)) [
+      | next-index ↦
+          let rest = list-from more goal t (suc (p .index)) (p .forest) in
+          record { bytes = line goal (p .index) (p .ending) ++ rest .bytes; stops = rest .stops; forest = rest .forest }
+      | next-goal ↦ record { bytes = line goal (p .index) (p .ending); stops = false; forest = p .forest }
+      | the-end ↦ record { bytes = line goal (p .index) (p .ending); stops = true; forest = p .forest }
+    ]
+
+-- one goal: it is opened, then peeked at
+abbrev pub list-goal : (goal : ℕ) → Forest → Listed
+list-goal goal f =
+    let o = opened f goal in
+    elim (o .table) [
+      | stop n ↦ record { bytes = line goal 0 (stopped n); stops = true; forest = o .forest }
+      | go t ↦ list-from 257 goal t 0 (o .forest)
+    ]
+
+-- the last `left` goals of a book, the first of them `goal`
+abbrev pub list-goals : (left goal : ℕ) → Forest → List ℕ
+list-goals zero goal f = []
+list-goals (suc left) goal f =
+    let here = list-goal goal f in
+    elim (here .stops) [
+      | true ↦ here .bytes
+      | false ↦ here .bytes ++ list-goals left (suc goal) (here .forest)
+    ]
+
+abbrev pub listing : (bytes : List ℕ) → List ℕ
+listing bytes = elim (make bytes listing-clock) [
+  | refused n ↦ refused-word ++ space ++ decimal n ++ newline
+  | accepted f ↦ list-goals (length (f .book)) 0 f
+]

@@ -1,0 +1,183 @@
+#!/usr/bin/env python3
+"""The sample papers: books as bytes, made from a notation that people can read.
+
+tools/papers.py           write papers/*.book and papers/README.md
+tools/papers.py --check   say whether the files there are those, and no others
+
+The notation is the one in which `inspect` prints a book, after document 01:
+
+    goal 0 [coinductive] [floundered]         a goal, numbers from 0 upward, with its marks
+    0/2 [cannot prove] [outsized] :- 1, not 2     a clause of the goal above it: its variant behind a slash (none: 0), its
+                                              marks, its literals; with no `:-` it is a fact
+    1/3 [outsized]                            a literal that wants variant 3 of goal 1 (no slash: any), with its mark
+    not 2 [outsized]                          a "not" literal
+
+Nothing here keeps to the limits of a book, so that the books which are refused can be written too.
+"""
+import os
+import re
+import sys
+
+FOLDER = os.path.join(os.path.dirname(os.path.dirname(os.path.abspath(__file__))), "papers")
+GOAL_MARKS = ("coinductive", "floundered")
+CLAUSE_MARKS = ("cannot prove", "outsized")
+LITERAL_MARKS = ("outsized",)
+
+
+def u16(n):
+    return bytes([n % 256, n // 256])
+
+
+def flags(text, marks):
+    """The byte of the marks that stand in square brackets."""
+    found = re.findall(r"\[([^\]]*)\]", text)
+    for mark in found:
+        if mark not in marks:
+            raise ValueError("no such mark here: " + mark)
+    return bytes([sum(1 << i for i, mark in enumerate(marks) if mark in found)])
+
+
+def slashed(text):
+    """`1/3` as (1, 3), `1` as (1, 0)."""
+    goal, _, number = text.split("[")[0].strip().partition("/")
+    return int(goal), int(number or "0")
+
+
+def literal(text):
+    text = text.strip()
+    if text.startswith("not "):
+        goal, want = slashed(text[4:])
+        if want:
+            raise ValueError('a "not" wants no variant: ' + text)
+        return b"\x4e" + u16(goal) + flags(text, LITERAL_MARKS)
+    goal, want = slashed(text)
+    return b"\x50" + u16(goal) + u16(want) + flags(text, LITERAL_MARKS)
+
+
+def book(text):
+    """The bytes of a book in the notation."""
+    out, goals = b"", 0
+    for line in text.strip().splitlines():
+        line = line.strip()
+        if line.startswith("goal "):
+            if slashed(line[5:]) != (goals, 0):
+                raise ValueError("goals are numbered from 0 upward: " + line)
+            out += b"\x47" + flags(line, GOAL_MARKS)
+            goals += 1
+            continue
+        head, _, body = line.partition(":-")
+        goal, variant = slashed(head)
+        if goal != goals - 1:
+            raise ValueError("a clause stands below its goal: " + line)
+        out += b"\x43" + u16(variant) + flags(head, CLAUSE_MARKS)
+        for part in body.split(",") if body else []:
+            out += literal(part)
+    return out + b"\x45"
+
+
+def numbered(goal, number):
+    """(1, 3) as `1/3`, (1, 0) as `1`."""
+    return "%d/%d" % (goal, number) if number else str(goal)
+
+
+def marked(number, marks):
+    return "".join(" [%s]" % mark for i, mark in enumerate(marks) if number >> i & 1)
+
+
+def chain(n):
+    """n goals, each of which rests on the next; the last is a fact."""
+    return "\n".join("goal %d\n%d%s" % (g, g, " :- %d" % (g + 1) if g + 1 < n else "") for g in range(n))
+
+
+def facts(n):
+    return "goal 0\n" + "\n".join("0/%d" % v for v in range(1, n + 1))
+
+
+def wide(n):
+    """A clause with n literals, on n facts."""
+    below = range(1, n + 1)
+    return "goal 0\n0 :- %s\n" % ", ".join(map(str, below)) + "\n".join("goal %d\n%d" % (g, g) for g in below)
+
+
+def largest():
+    lines = []
+    for g in range(64):
+        lines.append("goal %d%s" % (g, marked(g, GOAL_MARKS)))
+        for c in range(4 * g, 4 * g + 4):
+            body = (numbered((c + j) % 64, 256 * j + c) + marked(j % 2, LITERAL_MARKS) for j in range(8))
+            lines.append("%s%s :- %s" % (numbered(g, 257 * c), marked(c, CLAUSE_MARKS), ", ".join(body)))
+    return "\n".join(lines)
+
+
+PAPERS = [
+    ("p1", "a positive literal, a \"not\", two variants, and a goal that rests on itself",
+     "goal 0\n0 :- 1, not 2\ngoal 1\n1/1\n1/2\ngoal 2\n2 :- 2"),
+    ("p2", "a goal that rests on its own \"not\"", "goal 0\n0 :- not 0"),
+    ("p2-coinductive", "the same, coinductive", "goal 0 [coinductive]\n0 :- not 0"),
+    ("p3", "two coinductive goals that rest on each other", "goal 0 [coinductive]\n0 :- 1\ngoal 1 [coinductive]\n1 :- 0"),
+    ("p4", "p3, and a goal that rests on the \"not\" of one of the two",
+     "goal 0 [coinductive]\n0 :- 1\ngoal 1 [coinductive]\n1 :- 0\ngoal 2\n2 :- not 1"),
+    ("p5", "a goal that rests on a floundered one", "goal 0\n0 :- 1\ngoal 1 [floundered]"),
+    ("p5-not", "a goal that rests on the \"not\" of a floundered one", "goal 0\n0 :- not 1\ngoal 1 [floundered]"),
+    ("p6", "a goal that rests on itself and on three facts", "goal 0\n0 :- 0, 1\ngoal 1\n1/1\n1/2\n1/3"),
+    ("p6-one-fact", "the same with one fact", "goal 0\n0 :- 0, 1\ngoal 1\n1/1"),
+    ("p7", "a fact, a clause that cannot prove, and two goals that rest on each other",
+     "goal 0\n0 :- 1\n0/2\ngoal 1\n1/1 [cannot prove]\n1/1 :- 0"),
+    ("p8", "a goal that rests on a fact: four turns", "goal 0\n0 :- 1\ngoal 1\n1"),
+    ("p9-empty", "no bytes: refused 1", None),
+    ("p9-end", "the end alone: refused 8", ""),
+    ("p9-one-goal", "one goal and no clause: the smallest book", "goal 0"),
+    ("goals-64", "64 goals, each of which rests on the next; the last is a fact", chain(64)),
+    ("goals-65", "the same with 65 goals: refused 5", chain(65)),
+    ("clauses-256", "256 facts of one goal, each of its own variant", facts(256)),
+    ("clauses-257", "the same with 257 facts: refused 5", facts(257)),
+    ("literals-8", "a clause with 8 literals, on 8 facts", wide(8)),
+    ("literals-9", "the same with 9: refused 5", wide(9)),
+    ("largest", "the largest book there can be: 64 goals, 256 clauses of 8 positive literals each, with every mark", largest()),
+]
+
+HEADER = """# Sample papers
+
+Each file `NAME.book` holds the bytes of a book. p1 to p9 are the cases of document 01; the others are the sizes at the limits and one
+past them, and the largest book. `inspect` prints what a book says. `tools/papers.py` makes the files and this page from a notation
+that can be read; `tools/papers.py --check` says whether they are those.
+
+| file | bytes | what it is | in hex |
+|---|---|---|---|
+"""
+
+
+def files():
+    """Every file of the folder with its bytes."""
+    out, rows = {}, ""
+    for name, says, text in PAPERS:
+        data = b"" if text is None else book(text)
+        out[name + ".book"] = data
+        shown = "`%s`" % data.hex(" ").upper() if 0 < len(data) <= 64 else ""
+        rows += "| %s.book | %d | %s | %s |\n" % (name, len(data), says, shown)
+    out["README.md"] = (HEADER + rows).encode()
+    return out
+
+
+def main():
+    wanted = files()
+    if sys.argv[1:] == ["--check"]:
+        wrong = sorted(set(os.listdir(FOLDER)) - set(wanted))
+        for name, data in wanted.items():
+            path = os.path.join(FOLDER, name)
+            if not os.path.exists(path) or open(path, "rb").read() != data:
+                wrong.append(name)
+        print("papers: %s" % ("not as made: " + " ".join(wrong) if wrong else "%d files as made" % len(wanted)))
+        return 1 if wrong else 0
+    if sys.argv[1:]:
+        print(__doc__)
+        return 2
+    os.makedirs(FOLDER, exist_ok=True)
+    for name, data in wanted.items():
+        with open(os.path.join(FOLDER, name), "wb") as f:
+            f.write(data)
+    return 0
+
+
+if __name__ == "__main__":
+    sys.exit(main())
