@@ -19,7 +19,11 @@ pub mod Logic
 pub mod Turn
 pub mod Forest
 pub mod Calls
+pub mod Ascii
 pub mod Listing
+pub mod Cases
+pub mod Model
+pub mod Claim
 
 abbrev pub TableIndex : Type 0
 TableIndex = ℕ

@@ -5,6 +5,7 @@ use mathlib.Core.List.{List, [], _∷_, _++_}
 use lib.ListN.{length}
 use lib.Dec.{eqb}
 use Rattle.definitions.specs.{CompleteAnswer}
+use Rattle.definitions.specs.Ascii.{ascii}
 use Rattle.definitions.specs.Refusal.{Refusable, refused, accepted}
 use Rattle.definitions.specs.Stop.{Stops, stop, go}
 use Rattle.definitions.specs.Tables.{Forest}
@@ -23,63 +24,25 @@ digits (suc more) n after = elim (n / 10) [
 abbrev pub decimal : ℕ → List ℕ
 decimal n = digits (suc n) n []
 
--- The words, in ASCII.
-
-abbrev pub yes-word : List ℕ
-yes-word = 121 ∷ 101 ∷ 115 ∷ []
-
-abbrev pub maybe-word : List ℕ
-maybe-word = 109 ∷ 97 ∷ 121 ∷ 98 ∷ 101 ∷ []
-
-abbrev pub none-word : List ℕ
-none-word = 110 ∷ 111 ∷ 110 ∷ 101 ∷ []
-
-abbrev pub floundered-word : List ℕ
-floundered-word = 102 ∷ 108 ∷ 111 ∷ 117 ∷ 110 ∷ 100 ∷ 101 ∷ 114 ∷ 101 ∷ 100 ∷ []
-
-abbrev pub again-word : List ℕ
-again-word = 97 ∷ 103 ∷ 97 ∷ 105 ∷ 110 ∷ []
-
-abbrev pub negcycle-word : List ℕ
-negcycle-word = 110 ∷ 101 ∷ 103 ∷ 99 ∷ 121 ∷ 99 ∷ 108 ∷ 101 ∷ []
-
-abbrev pub invalid-word : List ℕ
-invalid-word = 105 ∷ 110 ∷ 118 ∷ 97 ∷ 108 ∷ 105 ∷ 100 ∷ []
-
-abbrev pub cut-word : List ℕ
-cut-word = 99 ∷ 117 ∷ 116 ∷ []
-
-abbrev pub stop-word : List ℕ
-stop-word = 115 ∷ 116 ∷ 111 ∷ 112 ∷ []
-
-abbrev pub refused-word : List ℕ
-refused-word = 114 ∷ 101 ∷ 102 ∷ 117 ∷ 115 ∷ 101 ∷ 100 ∷ []
-
-abbrev pub space : List ℕ
-space = 32 ∷ []
-
-abbrev pub newline : List ℕ
-newline = 10 ∷ []
-
 -- the word and, behind it, the number of an ending
 abbrev pub answer-words : CompleteAnswer → List ℕ
-answer-words a = elim (a .ambiguous) [ true ↦ maybe-word | false ↦ yes-word ] ++ space ++ decimal (a .variant)
+answer-words a = elim (a .ambiguous) [ true ↦ ascii "maybe" | false ↦ ascii "yes" ] ++ ascii " " ++ decimal (a .variant)
 
 abbrev pub fail-word : RootSearchFail → List ℕ
-fail-word NoMoreSolutions = none-word
-fail-word Floundered = floundered-word
-fail-word QuantumExceeded = again-word
-fail-word NegativeCycle = negcycle-word
-fail-word InvalidAnswer = invalid-word
+fail-word NoMoreSolutions = ascii "none"
+fail-word Floundered = ascii "floundered"
+fail-word QuantumExceeded = ascii "again"
+fail-word NegativeCycle = ascii "negcycle"
+fail-word InvalidAnswer = ascii "invalid"
 
 abbrev pub ending-words : Ending → List ℕ
 ending-words (found a) = answer-words a
 ending-words (fail e) = fail-word e
-ending-words cut = cut-word
-ending-words (stopped n) = stop-word ++ space ++ decimal n
+ending-words cut = ascii "cut"
+ending-words (stopped n) = ascii "stop" ++ ascii " " ++ decimal n
 
 abbrev pub line : (goal index : ℕ) → Ending → List ℕ
-line goal index ending = decimal goal ++ space ++ decimal index ++ space ++ ending-words ending ++ newline
+line goal index ending = decimal goal ++ ascii " " ++ decimal index ++ ascii " " ++ ending-words ending ++ ascii "\n"
 
 abbrev pub listing-rounds : ℕ
 listing-rounds = 1000
@@ -142,6 +105,6 @@ list-goals (suc left) goal f =
 
 abbrev pub listing : (bytes : List ℕ) → List ℕ
 listing bytes = elim (make bytes listing-clock) [
-  | refused n ↦ refused-word ++ space ++ decimal n ++ newline
+  | refused n ↦ ascii "refused" ++ ascii " " ++ decimal n ++ ascii "\n"
   | accepted f ↦ list-goals (length (f .book)) 0 f
 ]
