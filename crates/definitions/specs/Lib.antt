@@ -24,6 +24,7 @@ pub mod Listing
 pub mod Cases
 pub mod Model
 pub mod Claim
+pub mod Instances
 
 abbrev pub TableIndex : Type 0
 TableIndex = ℕ
