@@ -1,0 +1,10 @@
+pub mod Model
+pub mod Machine
+pub mod Claim
+pub mod Steps
+pub mod Stack
+pub mod Cases
+pub mod Pops
+pub mod Clear
+pub mod Turns
+pub mod Whole
