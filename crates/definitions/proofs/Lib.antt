@@ -1,2 +1,3 @@
 pub mod RoundTrip
 pub mod Written
+pub mod Prefix

@@ -4,22 +4,22 @@
 -- far and says that the bytes of a part (a literal, the literals of a clause, the clauses of a goal, the goals) bring it to the
 -- book so far with that part at its end. The part's own limits, with what is there already, keep every refusal away.
 -- Assumes nothing.
-use Prim.Native.Nat.{ℕ, zero, suc, _+_, _*_, _/_, _%_, _<_, _≤_}
+use Prim.Native.Nat.{ℕ, _+_, _*_, _/_, _%_, _<_, _≤_}
 use native.Mathlib.Omega.{arith}
 use mathlib.Core.Bool.{Bool, true, false, not}
-use mathlib.Core.Path.{_≡_, refl, sym, ap, _∙_}
+use mathlib.Core.Path.{_≡_, refl, ap, _∙_}
 use mathlib.Core.List.{List, [], _∷_, _++_, append-nil, append-assoc}
 use lib.ListN.{length, length-append}
 use lib.Dec.{ltb, leb, eqb}
 use borrow.Author.Tests.{le-ltb, lt-ltb, lt-leb, ne-eqb}
-use Rattle.definitions.specs.Refusal.{Refusable, refused, accepted, Test, _refuses_, unless}
+use Rattle.definitions.specs.Refusal.{accepted, _refuses_, unless}
 use Rattle.definitions.specs.Book.{Literal, Positive, Negative, Clause, Goal, Book, clause-count}
-use Rattle.definitions.specs.Book.{Command, goal, clause, positive, negative, end, unknown, command, width, is-end}
-use Rattle.definitions.specs.Book.{u16, bit0, bit1, flag, with-clauses, with-literals, add-clause, add-to-last, add-literal}
-use Rattle.definitions.specs.Book.{last-literals, literals-so-far, literals-name, clauses-name, goals-name, goal-of}
+use Rattle.definitions.specs.Book.{Command, end, command, width, is-end}
+use Rattle.definitions.specs.Book.{bit0, bit1, flag, with-clauses, with-literals, add-clause, add-to-last, add-literal}
+use Rattle.definitions.specs.Book.{last-literals, literals-so-far, literals-name, clauses-name, goals-name}
 use Rattle.definitions.specs.Book.{apply-command, literal-command, whole-command, read-from, read}
 use Rattle.definitions.specs.Book.{write-literal, write-literals, write-clauses, write-goals, write}
-use Rattle.definitions.specs.Book.{LiteralWithin, LiteralsWithin, ClauseWithin, ClausesWithin, GoalsWithin, Within}
+use Rattle.definitions.specs.Book.{LiteralsWithin, ClausesWithin, GoalsWithin, Within}
 
 -- Bytes.
 
@@ -67,7 +67,7 @@ module _ {A : Type 0} where
   unless-three p q r l m n a e f g = rw (e, f, g)
 
 -- where the operands are there, the command's own tests decide
-whole-apply : (c : Command) (after : List ℕ) (book : Book) → width c ≤ length after
+pub whole-apply : (c : Command) (after : List ℕ) (book : Book) → width c ≤ length after
     → whole-command c after book ≡ apply-command c after book
 whole-apply c after book h = rw (le-ltb (length after) (width c) h, whole-command)
 
@@ -102,7 +102,7 @@ last-literals-last [] c = refl
 last-literals-last (d ∷ []) c = refl
 last-literals-last (d ∷ e ∷ cs) c = last-literals-last (e ∷ cs) c
 
-clause-count-append : (gs hs : Book) → clause-count (gs ++ hs) ≡ clause-count gs + clause-count hs
+pub clause-count-append : (gs hs : Book) → clause-count (gs ++ hs) ≡ clause-count gs + clause-count hs
 clause-count-append [] hs = omega arith
 clause-count-append (g ∷ gs) hs = omega (arith, clause-count-append gs hs)
 

@@ -8,7 +8,7 @@ use mathlib.Core.List.{List, [], _∷_, _++_}
 use lib.ListN.{length}
 use Rattle.definitions.specs.Book.{Literal, Positive, Negative, Clause, Goal, Book, byte, flag}
 use Rattle.definitions.specs.Book.{write-literal, write-literals, write-clauses, write-goals, write}
-use Rattle.definitions.specs.Book.{LiteralWithin, LiteralsWithin, ClauseWithin, ClausesWithin, GoalsWithin, Within}
+use Rattle.definitions.specs.Book.{LiteralWithin, LiteralsWithin, ClausesWithin, GoalsWithin, Within}
 
 abbrev Bytes : List ℕ → Type 0
 Bytes [] = Unit {0}

@@ -1,0 +1,75 @@
+-- What is in order while a book is read, and the laws of its arrays that reading rests on.
+use Prim.Native.Nat.{ℕ, zero, suc, _+_, _≤_, _<_}
+use native.Mathlib.Omega.{arith}
+use mathlib.Core.Path.{_≡_, sym, subst, _∙_}
+use mathlib.Core.List.{List, [], _∷_}
+use lib.ListN.{getD, set}
+use lib.Seq.{getD-set-other}
+use lib.Dec.{leb}
+use Rattle.definitions.specs.Book.{goals-name, clause-count}
+use Rattle.book.specs.declared.Book.{Book}
+use Rattle.book.specs.View.{clauseAt, view, Tiles, Full}
+use Rattle.book.proofs.Tilings.{tiles-count}
+
+-- Arrays.
+
+pub below : (l : List ℕ) (i j a : ℕ) → j < i → getD (set l i a) j 0 ≡ getD l j 0
+below l i j a h = getD-set-other l i j a 0 (λ e. omega arith)
+
+pub within : (l : List ℕ) (i a m : ℕ) → a ≤ m → ((c : ℕ) → getD l c 0 ≤ m) → (c : ℕ) → getD (set l i a) c 0 ≤ m
+within [] i a m h k c = k c
+within (x ∷ l) zero a m h k zero = h
+within (x ∷ l) zero a m h k (suc c) = k (suc c)
+within (x ∷ l) (suc i) a m h k zero = k zero
+within (x ∷ l) (suc i) a m h k (suc c) = within l i a m h (λ d. k (suc d)) c
+
+-- Goals side by side.
+
+module _ (first len first′ len′ : List ℕ) where
+  pub tiles-goal : (n g at end : ℕ) → Tiles first len g n at end
+      → ((i : ℕ) → i < g + n → getD first′ i 0 ≡ getD first i 0) → ((i : ℕ) → i < g + n → getD len′ i 0 ≡ getD len i 0)
+      → getD first′ (g + n) 0 ≡ end → getD len′ (g + n) 0 ≡ 0 → Tiles first′ len′ g (suc n) at end
+  tiles-goal zero g at end t sf sl ef el =
+      let e : g + 0 ≡ g = omega arith in
+      let p : getD first′ g 0 ≡ end = subst (λ (i : ℕ). getD first′ i 0 ≡ end) e ef in
+      let q : getD len′ g 0 ≡ 0 = subst (λ (i : ℕ). getD len′ i 0 ≡ 0) e el in
+      (omega arith, omega arith)
+  tiles-goal (suc n) g at end t sf sl ef el =
+      let e : g + suc n ≡ suc g + n = omega arith in
+      let u : Tiles first len (suc g) n (at + getD len′ g 0) end = subst (λ (k : ℕ). Tiles first len (suc g) n (at + k) end) (sym (sl g (omega arith))) (t .1) in (
+        sf g (omega arith) ∙ t .0,
+        tiles-goal n (suc g) (at + getD len′ g 0) end u (λ i h. sf i (omega arith)) (λ i h. sl i (omega arith))
+            (subst (λ (i : ℕ). getD first′ i 0 ≡ end) e ef) (subst (λ (i : ℕ). getD len′ i 0 ≡ 0) e el),
+      )
+
+  pub tiles-clause : (n g at end : ℕ) → Tiles first len g (suc n) at end
+      → ((i : ℕ) → i < g + n → getD len′ i 0 ≡ getD len i 0) → getD len′ (g + n) 0 ≡ getD len (g + n) 0 + 1
+      → Tiles first len′ g (suc n) at (end + 1)
+  tiles-clause zero g at end t sl el =
+      let e : g + 0 ≡ g = omega arith in
+      let q : getD len′ g 0 ≡ getD len g 0 + 1 = subst (λ (i : ℕ). getD len′ i 0 ≡ getD len i 0 + 1) e el in
+      let u : at + getD len g 0 ≡ end = t .1 in
+      (t .0, omega arith)
+  tiles-clause (suc n) g at end t sl el =
+      let e : g + suc n ≡ suc g + n = omega arith in
+      let u : Tiles first len (suc g) (suc n) (at + getD len′ g 0) end = subst (λ (k : ℕ). Tiles first len (suc g) (suc n) (at + k) end) (sym (sl g (omega arith))) (t .1) in (
+        t .0,
+        tiles-clause n (suc g) (at + getD len′ g 0) end u (λ i h. sl i (omega arith))
+            (subst (λ (i : ℕ). getD len′ i 0 ≡ getD len i 0 + 1) e el),
+      )
+
+-- What is in order while a book is read: `literals` are those of the last clause, and `named` the count of goals that holds every goal named.
+pub record Held (b : Book) (literals named : ℕ) : Type 0 where
+  pub full : Full b
+  pub few-goals : b .goals ≤ 64
+  pub few-clauses : b .clauses ≤ 256
+  pub few-literals : (c : ℕ) → getD (b .«clause_len») c 0 ≤ 8
+  pub tiles : Tiles (b .«goal_first») (b .«goal_len») 0 (b .goals) 0 (b .clauses)
+  pub last : (c : ℕ) → b .clauses ≡ suc c → getD (b .«clause_len») c 0 ≡ literals
+  pub none : b .clauses ≡ 0 → literals ≡ 0
+  pub naming : (n : ℕ) → goals-name n (view b) ≡ leb named n
+
+pub held-count : (b : Book) (literals named : ℕ) → Held b literals named → clause-count (view b) ≡ b .clauses
+held-count b literals named h =
+    let r : 0 + clause-count (view b) ≡ b .clauses = tiles-count (clauseAt b) (b .«goal_flags») (b .«goal_first») (b .«goal_len») (b .goals) 0 0 (b .clauses) (h .tiles) in
+    omega arith

@@ -1,0 +1,13 @@
+pub mod Table
+pub mod Tests
+pub mod Spans
+pub mod Names
+pub mod Tilings
+pub mod Held
+pub mod MoreGoals
+pub mod MoreClauses
+pub mod MoreLiterals
+pub mod Turns
+pub mod Course
+pub mod Fits
+pub mod Looks

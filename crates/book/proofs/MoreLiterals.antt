@@ -1,0 +1,133 @@
+-- A literal more: the arrays stay in order, and their view has the literal at the end of its last clause.
+use Prim.Native.Nat.{ℕ, zero, suc, _+_, _*_, _≤_, _<_}
+use native.Mathlib.Numerals.{add-one}
+use native.Mathlib.Omega.{arith}
+use mathlib.Core.Path.{_≡_, refl, sym, ap, subst, _∙_}
+use mathlib.Core.Bool.{Bool, true, false}
+use mathlib.Core.List.{List, [], _∷_, _++_}
+use lib.ListN.{length, getD, set, length-set}
+use lib.Seq.{getD-set-same}
+use lib.Dec.{ltb, leb}
+use Rattle.definitions.specs.Book as said
+use Rattle.definitions.specs.Book.{Clause, Goal, goals-name, clause-count, add-clause, add-literal, goal-of, with-clauses, with-literals, bit0, bit1}
+use Rattle.book.specs.declared.Book.{Book}
+use Rattle.book.specs.View.{span, signed, literalAt, clauseOf, clauseAt, goalOf, goalIn, goalAt, view, Tiles, Full}
+use Rattle.book.specs.Faults.{largest}
+use Rattle.book.proofs.Spans.{span-length, span-snoc, span-ext}
+use Rattle.book.proofs.Names.{and-then, names-goal, names-clause, names-literal, names-more}
+use Rattle.book.proofs.Tilings.{add-clause-last, tiles-within, tiles-last, tiles-add}
+use Rattle.book.proofs.Held.{below, within, tiles-goal, tiles-clause, Held, held-count}
+
+abbrev pub with-literal : Book → (c j kind goal want : ℕ) → Book
+with-literal b c j kind goal want = record {
+  goals = b .goals;
+  clauses = b .clauses;
+  «goal_flags» = b .«goal_flags»;
+  «goal_first» = b .«goal_first»;
+  «goal_len» = b .«goal_len»;
+  «clause_variant» = b .«clause_variant»;
+  «clause_flags» = b .«clause_flags»;
+  «clause_len» = set (b .«clause_len») c (j + 1);
+  «literal_kind» = set (b .«literal_kind») (8 * c + j) kind;
+  «literal_goal» = set (b .«literal_goal») (8 * c + j) goal;
+  «literal_want» = set (b .«literal_want») (8 * c + j) want;
+}
+
+-- the literal that a kind and two numbers say
+abbrev pub literal-of : (kind goal want : ℕ) → said.Literal
+literal-of kind goal want = signed (bit1 kind) goal want (bit0 kind)
+
+pub goal-of-signed : (t : Bool) (goal want : ℕ) (o : Bool) → goal-of (signed t goal want o) ≡ goal
+goal-of-signed true goal want o = refl
+goal-of-signed false goal want o = refl
+
+module _ (b : Book) (c j kind goal want named : ℕ) (h : Held b j named) (last : b .clauses ≡ suc c) (room : j < 8) where
+  abbrev next : Book
+  next = with-literal b c j kind goal want
+
+  abbrev added : said.Literal
+  added = literal-of kind goal want
+
+  has : getD (b .«clause_len») c 0 ≡ j
+  has = h .last c last
+
+  has-now : getD (set (b .«clause_len») c (j + 1)) c 0 ≡ j + 1
+  has-now = getD-set-same (b .«clause_len») c (j + 1) 0 (omega (arith, h .full .clause-len, h .few-clauses))
+
+  literal-before : (i : ℕ) → i < 8 * c + j → literalAt next i ≡ literalAt b i
+  literal-before i l =
+      let p = 8 * c + j in
+      ap (λ (k : ℕ). literal-of k (getD (set (b .«literal_goal») p goal) i 0) (getD (set (b .«literal_want») p want) i 0)) (below (b .«literal_kind») p i kind l)
+      ∙ ap (λ (k : ℕ). literal-of (getD (b .«literal_kind») i 0) k (getD (set (b .«literal_want») p want) i 0)) (below (b .«literal_goal») p i goal l)
+      ∙ ap (λ (k : ℕ). literal-of (getD (b .«literal_kind») i 0) (getD (b .«literal_goal») i 0) k) (below (b .«literal_want») p i want l)
+
+  literal-new : literalAt next (8 * c + j) ≡ added
+  literal-new =
+      let s = h .full in
+      let p = 8 * c + j in
+      ap (λ (k : ℕ). literal-of k (getD (set (b .«literal_goal») p goal) p 0) (getD (set (b .«literal_want») p want) p 0))
+      (getD-set-same (b .«literal_kind») p kind 0 (omega (arith, s .literal-kind, h .few-clauses)))
+      ∙ ap (λ (k : ℕ). literal-of kind k (getD (set (b .«literal_want») p want) p 0))
+      (getD-set-same (b .«literal_goal») p goal 0 (omega (arith, s .literal-goal, h .few-clauses)))
+      ∙ ap (λ (k : ℕ). literal-of kind goal k)
+      (getD-set-same (b .«literal_want») p want 0 (omega (arith, s .literal-want, h .few-clauses)))
+
+  old : (s n : ℕ) → s + n ≤ 8 * c + j → span (literalAt next) s n ≡ span (literalAt b) s n
+  old s n l = span-ext (literalAt next) (literalAt b) s n (λ i x y. literal-before i (omega arith))
+
+  clause-before : (i : ℕ) → i < c → clauseAt b i ≡ clauseAt next i
+  clause-before i l =
+      sym (ap (λ (x : ℕ). clauseOf (literalAt next) i (getD (b .«clause_variant») i 0) (getD (b .«clause_flags») i 0) x) (below (b .«clause_len») c i (j + 1) l)
+      ∙ ap (λ (ls : List said.Literal). with-literals (clauseAt b i) ls) (old (8 * i) (getD (b .«clause_len») i 0) (omega (arith, h .few-literals i))))
+
+  clause-more : with-literals (clauseAt b c) (clauseAt b c .literals ++ (added ∷ [])) ≡ clauseAt next c
+  clause-more =
+      sym (ap (λ (x : ℕ). clauseOf (literalAt next) c (getD (b .«clause_variant») c 0) (getD (b .«clause_flags») c 0) x) (has-now ∙ add-one j)
+      ∙ ap (λ (ls : List said.Literal). with-literals (clauseAt b c) ls)
+      (span-snoc (literalAt next) (8 * c) j
+      ∙ ap (λ (l : said.Literal). span (literalAt next) (8 * c) j ++ (l ∷ [])) literal-new
+      ∙ ap (λ (ls : List said.Literal). ls ++ (added ∷ [])) (old (8 * c) j (omega arith))
+      ∙ ap (λ (n : ℕ). span (literalAt b) (8 * c) n ++ (added ∷ [])) (sym has)))
+
+  pub literal-view : view next ≡ add-literal added (view b)
+  literal-view =
+      sym (tiles-add (clauseAt b) (clauseAt next) added c clause-more clause-before (b .«goal_flags») (b .«goal_first») (b .«goal_len») (b .goals) 0 0
+      (subst (Tiles (b .«goal_first») (b .«goal_len») 0 (b .goals) 0) last (h .tiles)) (omega arith))
+
+  literal-full : Full next
+  literal-full =
+      let s = h .full in
+      record {
+        goal-flags = s .goal-flags;
+        goal-first = s .goal-first;
+        goal-len = s .goal-len;
+        clause-variant = s .clause-variant;
+        clause-flags = s .clause-flags;
+        clause-len = length-set (b .«clause_len») c (j + 1) ∙ s .clause-len;
+        literal-kind = length-set (b .«literal_kind») (8 * c + j) kind ∙ s .literal-kind;
+        literal-goal = length-set (b .«literal_goal») (8 * c + j) goal ∙ s .literal-goal;
+        literal-want = length-set (b .«literal_want») (8 * c + j) want ∙ s .literal-want;
+      }
+
+  literal-names : (n : ℕ) → goals-name n (view next) ≡ leb (largest named (goal + 1)) n
+  literal-names n =
+      let some : 0 < clause-count (view b) = omega (arith, held-count b j named h) in
+      ap (goals-name n) literal-view
+      ∙ names-literal n added (view b) some
+      ∙ ap (λ (t : Bool). and-then t (ltb (goal-of added) n)) (h .naming n)
+      ∙ ap (λ (g : ℕ). and-then (leb named n) (ltb g n)) (goal-of-signed (bit1 kind) goal want (bit0 kind))
+      ∙ sym (names-more n named goal)
+
+  pub literal-held : Held next (j + 1) (largest named (goal + 1))
+  literal-held = record {
+    full = literal-full;
+    few-goals = h .few-goals;
+    few-clauses = h .few-clauses;
+    few-literals = within (b .«clause_len») c (j + 1) 8 (omega arith) (h .few-literals);
+    tiles = h .tiles;
+    last = λ d e.
+        let p : c ≡ d = omega arith in
+        subst (λ (i : ℕ). getD (set (b .«clause_len») c (j + 1)) i 0 ≡ j + 1) p has-now;
+    none = λ e. absurd (omega arith);
+    naming = literal-names;
+  }

@@ -1,0 +1,162 @@
+-- The refusals of the command at a place, by what stands there. One lemma for each way out of `next_fault`.
+use Prim.Native.Nat.{ℕ, zero, suc, _+_, _*_, _-_, _≤_, _<_}
+use native.Mathlib.Numerals.{add-one}
+use native.Mathlib.Omega.{arith}
+use mathlib.Core.Path.{_≡_, refl, sym, ap, subst, _∙_}
+use mathlib.Core.Bool.{Bool, true, false}
+use mathlib.Core.Logic.{_⊎_, inl, inr}
+use mathlib.Core.List.{List, [], _∷_}
+use lib.ListN.{length, drop, getD, length-drop, drop-of-length-le, List·getD-eq-default}
+use lib.Seq.{drop-cons, getD-drop}
+use lib.Dec.{eqb, ltb}
+use borrow.Author.Tests.{lt-ltb, le-ltb, ne-eqb}
+use Rattle.definitions.specs.Book.{Command, goal, clause, positive, negative, end, unknown, command, commands, command-in, width, byte, u16}
+use Rattle.book.specs.Operands.{kind-by, want-by, OperandsAt}
+use Rattle.book.specs.Faults.{
+  marked,
+  fault,
+  goal-tests,
+  clause-tests,
+  literal-tests,
+  end-tests,
+  Counts,
+  command-tests,
+  whole-tests,
+  next-fault,
+}
+
+pub marked-unknown : (c : Command) → marked c ≡ 255 → c ≡ unknown
+marked-unknown goal h = absurd (omega arith)
+marked-unknown clause h = absurd (omega arith)
+marked-unknown positive h = absurd (omega arith)
+marked-unknown negative h = absurd (omega arith)
+marked-unknown end h = absurd (omega arith)
+marked-unknown unknown h = refl
+
+pub marked-known : (c : Command) → (marked c ≡ 255 → ⊥) → marked c ≡ width c
+marked-known goal h = refl
+marked-known clause h = refl
+marked-known positive h = refl
+marked-known negative h = refl
+marked-known end h = refl
+marked-known unknown h = absurd (h refl)
+
+-- what is left where a byte is none of three commands
+abbrev pub left-over-by : Bool → Bool → Command → Command
+left-over-by p q c = elim p [ true ↦ positive | false ↦ elim q [ true ↦ negative | false ↦ c ] ]
+
+abbrev pub left-over : Bool → Bool → Command
+left-over p q = left-over-by p q unknown
+
+pub sign : (p q : Bool) → (marked (left-over p q) ≡ 255 → ⊥) → (left-over p q ≡ positive) ⊎ (left-over p q ≡ negative)
+sign true q h = inl refl
+sign false true h = inr refl
+sign false false h = absurd (h refl)
+
+pub others : (b : ℕ) → (b ≡ 0x47 → ⊥) → (b ≡ 0x43 → ⊥) → (b ≡ 0x45 → ⊥) → command b ≡ left-over (eqb b 0x50) (eqb b 0x4E)
+others b g c e =
+    ap (λ (t : Bool). elim t [ true ↦ goal | false ↦ command-in (drop 1 commands) b ]) (ne-eqb b 0x47 g)
+    ∙ ap (λ (t : Bool). elim t [ true ↦ clause | false ↦ command-in (drop 2 commands) b ]) (ne-eqb b 0x43 c)
+    ∙ ap (λ (t : Bool). left-over-by (eqb b 0x50) (eqb b 0x4E) (elim t [ true ↦ end | false ↦ unknown ])) (ne-eqb b 0x45 e)
+
+-- two bytes as the number that they say
+pub two-bytes : (bs : List ℕ) (i low high r : ℕ) → low ≡ byte bs i → high ≡ byte bs (i + 1) → r ≡ low + 256 * high → r ≡ u16 bs i
+two-bytes bs i low high r l h e =
+    let s : byte bs (i + 1) ≡ byte bs (suc i) = ap (byte bs) (add-one i) in
+    omega arith
+
+pub no-bytes : (bs : List ℕ) (i : ℕ) → length bs ≤ i → 0 ≡ u16 bs i
+no-bytes bs i h =
+    let a : byte bs i ≡ 0 = List·getD-eq-default bs 0 {n = i} h in
+    let b : byte bs (suc i) ≡ 0 = List·getD-eq-default bs 0 {n = suc i} (omega arith) in
+    omega arith
+
+-- the operands, from the calls that take them
+pub operands-are : (bs : List ℕ) (at b v w f k n t : ℕ) → v ≡ marked (command b) → w ≡ v → f ≡ byte bs (at + w) → k ≡ kind-by (eqb b 0x4E) f
+    → n ≡ u16 bs (at + 1) → t ≡ want-by (eqb b 0x50) (u16 bs (at + 3))
+    → OperandsAt bs at b (record { flags = f; kind = k; number = n; want = t; next = at + w + 1 })
+operands-are bs at b v w f k n t ev ew ef ek en et =
+    let e : w ≡ marked (command b) = ew ∙ ev in
+    let g : f ≡ byte bs (at + marked (command b)) = ef ∙ ap (λ (i : ℕ). byte bs (at + i)) e in
+    record {
+      flags-are = g;
+      kind-is = ek ∙ ap (kind-by (eqb b 0x4E)) g;
+      number-is = en;
+      want-is = et;
+      next-is = ap (λ (i : ℕ). at + i + 1) e;
+    }
+
+module _ (bs : List ℕ) (at : ℕ) (n : Counts) where
+  pub fault-none : length bs ≤ at → 1 ≡ next-fault (drop at bs) n
+  fault-none h = ap (λ (l : List ℕ). next-fault l n) (sym (drop-of-length-le bs {i = at} h))
+
+  here : at < length bs → next-fault (drop at bs) n ≡ fault (whole-tests (command (byte bs at)) (drop (suc at) bs) n)
+  here h = ap (λ (l : List ℕ). next-fault l n) (drop-cons bs at 0 h)
+
+  module _ (h : at < length bs) (b w : ℕ) (eb : b ≡ byte bs at) (ew : w ≡ marked (command b)) where
+    here-by : (c : Command) → command b ≡ c → next-fault (drop at bs) n ≡ fault (whole-tests c (drop (suc at) bs) n)
+    here-by c e = here h ∙ ap (λ (x : Command). fault (whole-tests x (drop (suc at) bs) n)) (ap command (sym eb) ∙ e)
+
+    pub fault-unknown : w ≡ 255 → 2 ≡ next-fault (drop at bs) n
+    fault-unknown u =
+        let s : fault (whole-tests unknown (drop (suc at) bs) n) ≡ 2 =
+        ap (λ (t : Bool). elim t [ true ↦ 1 | false ↦ fault (command-tests unknown (drop (suc at) bs) n) ]) (le-ltb (length (drop (suc at) bs)) 0 (omega arith)) in
+        sym (here-by unknown (marked-unknown (command b) (sym ew ∙ u)) ∙ s)
+
+    pub fault-short : (w ≡ 255 → ⊥) → length bs - (at + 1) < w → 1 ≡ next-fault (drop at bs) n
+    fault-short k l =
+        let d : length (drop (suc at) bs) ≡ length bs - suc at = length-drop (suc at) bs in
+        let m : marked (command b) ≡ width (command b) = marked-known (command b) (λ x. k (ew ∙ x)) in
+        let s : fault (whole-tests (command b) (drop (suc at) bs) n) ≡ 1 =
+        ap (λ (t : Bool). elim t [ true ↦ 1 | false ↦ fault (command-tests (command b) (drop (suc at) bs) n) ]) (lt-ltb (length (drop (suc at) bs)) (width (command b)) (omega arith)) in
+        sym (here-by (command b) refl ∙ s)
+
+    whole : (c : Command) → command b ≡ c → marked c ≡ width c → w ≤ length bs - (at + 1)
+        → next-fault (drop at bs) n ≡ fault (command-tests c (drop (suc at) bs) n)
+    whole c e m l =
+        let d : length (drop (suc at) bs) ≡ length bs - suc at = length-drop (suc at) bs in
+        let v : w ≡ marked c = ew ∙ ap marked e in
+        let s : fault (whole-tests c (drop (suc at) bs) n) ≡ fault (command-tests c (drop (suc at) bs) n) =
+        ap (λ (t : Bool). elim t [ true ↦ 1 | false ↦ fault (command-tests c (drop (suc at) bs) n) ]) (le-ltb (length (drop (suc at) bs)) (width c) (omega arith)) in
+        here-by c e ∙ s
+
+    -- a command's flags are the last of its operands
+    last : (k : ℕ) → suc k ≡ w → byte (drop (suc at) bs) k ≡ byte bs (at + w)
+    last k e =
+        let s : suc at + k ≡ at + w = omega arith in
+        getD-drop (suc at) bs k 0 ∙ ap (λ (i : ℕ). byte bs i) s
+
+    module _ (l : w ≤ length bs - (at + 1)) (flags : ℕ) (ef : flags ≡ byte bs (at + w)) where
+      flags-at : (k : ℕ) → suc k ≡ w → flags ≡ byte (drop (suc at) bs) k
+      flags-at k e = ef ∙ sym (last k e)
+
+      pub fault-goal : b ≡ 0x47 → fault (goal-tests flags (n .goals)) ≡ next-fault (drop at bs) n
+      fault-goal e =
+          let v : w ≡ 1 = ew ∙ ap (λ (x : ℕ). marked (command x)) e in
+          ap (λ (f : ℕ). fault (goal-tests f (n .goals))) (flags-at 0 (omega arith)) ∙ sym (whole goal (ap command e) refl l)
+
+      pub fault-clause : b ≡ 0x43 → fault (clause-tests flags (n .goals) (n .clauses)) ≡ next-fault (drop at bs) n
+      fault-clause e =
+          let v : w ≡ 3 = ew ∙ ap (λ (x : ℕ). marked (command x)) e in
+          ap (λ (f : ℕ). fault (clause-tests f (n .goals) (n .clauses))) (flags-at 2 (omega arith)) ∙ sym (whole clause (ap command e) refl l)
+
+      pub fault-end : b ≡ 0x45 → fault (end-tests (length bs - (at + 1)) (n .goals) (n .named)) ≡ next-fault (drop at bs) n
+      fault-end e =
+          let d : length (drop (suc at) bs) ≡ length bs - suc at = length-drop (suc at) bs in
+          let s : length bs - (at + 1) ≡ length (drop (suc at) bs) = omega arith in
+          ap (λ (x : ℕ). fault (end-tests x (n .goals) (n .named))) s ∙ sym (whole end (ap command e) refl l)
+
+      literal-by : (command b ≡ positive) ⊎ (command b ≡ negative) → fault (literal-tests flags (n .clauses) (n .literals)) ≡ next-fault (drop at bs) n
+      literal-by (inl e) =
+          let v : w ≡ 5 = ew ∙ ap marked e in
+          ap (λ (f : ℕ). fault (literal-tests f (n .clauses) (n .literals))) (flags-at 4 (omega arith)) ∙ sym (whole positive e refl l)
+      literal-by (inr e) =
+          let v : w ≡ 3 = ew ∙ ap marked e in
+          ap (λ (f : ℕ). fault (literal-tests f (n .clauses) (n .literals))) (flags-at 2 (omega arith)) ∙ sym (whole negative e refl l)
+
+      pub fault-literal : (w ≡ 255 → ⊥) → (b ≡ 0x47 → ⊥) → (b ≡ 0x43 → ⊥) → (b ≡ 0x45 → ⊥)
+          → fault (literal-tests flags (n .clauses) (n .literals)) ≡ next-fault (drop at bs) n
+      fault-literal k g c e =
+          let o : command b ≡ left-over (eqb b 0x50) (eqb b 0x4E) = others b g c e in
+          literal-by (subst (λ (x : Command). (x ≡ positive) ⊎ (x ≡ negative)) (sym o)
+          (sign (eqb b 0x50) (eqb b 0x4E) (λ x. k (ew ∙ ap marked o ∙ x))))

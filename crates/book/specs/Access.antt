@@ -1,0 +1,28 @@
+-- What stands at a place of a book's arrays, for any place: past an array's size there is nothing.
+use Prim.Native.Nat.{ℕ, _+_, _*_}
+use mathlib.Core.Bool.{Bool, true, false}
+use mathlib.Core.List.{List}
+use lib.ListN.{getD}
+use lib.Dec.{ltb}
+use Rattle.book.specs.declared.Literal.{Literal}
+use Rattle.book.specs.View.{literalIn}
+
+abbrev pub entry-by : Bool → ℕ → ℕ
+entry-by true x = x
+entry-by false x = 0
+
+-- the entry of an array of a size
+abbrev pub entry : (size : ℕ) → List ℕ → ℕ → ℕ
+entry size l i = entry-by (ltb i size) (getD l i 0)
+
+abbrev pub noLiteral : Literal
+noLiteral = record { goal = 0; want = 0; negative = false; outsized = false }
+
+abbrev pub literal-by : Bool → Bool → Literal → Literal
+literal-by true true l = l
+literal-by true false l = noLiteral
+literal-by false b l = noLiteral
+
+-- literal j of clause c
+abbrev pub literalOf : (kind goal want : List ℕ) → (c j : ℕ) → Literal
+literalOf kind goal want c j = literal-by (ltb c 256) (ltb j 8) (literalIn kind goal want (8 * c + j))

@@ -1,0 +1,5 @@
+pub mod Faults
+pub mod Operands
+pub mod View
+pub mod Access
+pub mod Fitting

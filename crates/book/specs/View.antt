@@ -1,0 +1,121 @@
+-- What the arrays of a book mean: the book of the definitions that they hold, and the soundness that reading gives and every use keeps.
+use Prim.Native.Nat.{ℕ, zero, suc, _+_, _*_, _≤_, _<_}
+use mathlib.Core.Path.{_≡_}
+use mathlib.Core.Bool.{Bool, true, false, _&&_}
+use mathlib.Core.List.{List, [], _∷_}
+use lib.ListN.{length, getD, replicate}
+use lib.Dec.{eqb, ltb}
+use Rattle.definitions.specs.Refusal.{Refusable, refused, accepted}
+use Rattle.definitions.specs.Book as said
+use Rattle.book.specs.declared.Book.{Book}
+use Rattle.book.specs.declared.Reading.{Reading}
+use Rattle.book.specs.declared.Literal.{Literal}
+
+module _ {A : Type 0} where
+  -- f at n places from s on
+  abbrev pub span : (ℕ → A) → (s n : ℕ) → List A
+  span f s zero = []
+  span f s (suc n) = f s ∷ span f (suc s) n
+
+-- a literal by its sign
+abbrev pub signed : (negative : Bool) → (goal want : ℕ) → (outsized : Bool) → said.Literal
+signed true goal want outsized = said.Negative goal outsized
+signed false goal want outsized = said.Positive goal want outsized
+
+abbrev pub meant : Literal → said.Literal
+meant l = signed (l .negative) (l .goal) (l .want) (l .outsized)
+
+-- the literal at a place of the arrays
+abbrev pub literalIn : (kind goal want : List ℕ) → ℕ → Literal
+literalIn kind goal want i = record {
+  goal = getD goal i 0;
+  want = getD want i 0;
+  negative = said.bit1 (getD kind i 0);
+  outsized = said.bit0 (getD kind i 0);
+}
+
+abbrev pub literalAt : Book → ℕ → said.Literal
+literalAt b i = meant (literalIn (b .«literal_kind») (b .«literal_goal») (b .«literal_want») i)
+
+abbrev pub clauseOf : (ℕ → said.Literal) → (c variant flags len : ℕ) → said.Clause
+clauseOf literal c variant flags len = record {
+  variant = variant;
+  cannot-prove = said.bit0 flags;
+  outsized = said.bit1 flags;
+  literals = span literal (8 * c) len;
+}
+
+abbrev pub clauseAt : Book → ℕ → said.Clause
+clauseAt b c =
+    clauseOf (literalAt b) c (getD (b .«clause_variant») c 0) (getD (b .«clause_flags») c 0) (getD (b .«clause_len») c 0)
+
+abbrev pub goalOf : (ℕ → said.Clause) → (flags first len : ℕ) → said.Goal
+goalOf clause flags first len = record {
+  coinductive = said.bit0 flags;
+  floundered = said.bit1 flags;
+  clauses = span clause first len;
+}
+
+abbrev pub goalIn : (ℕ → said.Clause) → (flags first len : List ℕ) → ℕ → said.Goal
+goalIn clause flags first len g = goalOf clause (getD flags g 0) (getD first g 0) (getD len g 0)
+
+abbrev pub goalAt : Book → ℕ → said.Goal
+goalAt b g = goalIn (clauseAt b) (b .«goal_flags») (b .«goal_first») (b .«goal_len») g
+
+-- THE VIEW
+abbrev pub view : Book → said.Book
+view b = span (goalAt b) 0 (b .goals)
+
+-- n goals from g on, with so many clauses each, lie side by side in the clauses from `at` to `end`
+abbrev pub Tiles : (first len : List ℕ) → (g n at end : ℕ) → Type 0
+Tiles first len g zero at end = at ≡ end
+Tiles first len g (suc n) at end = (getD first g 0 ≡ at) × Tiles first len (suc g) n (at + getD len g 0) end
+
+-- the arrays have their sizes
+pub record Full (b : Book) : Type 0 where
+  pub goal-flags : length (b .«goal_flags») ≡ 64
+  pub goal-first : length (b .«goal_first») ≡ 64
+  pub goal-len : length (b .«goal_len») ≡ 64
+  pub clause-variant : length (b .«clause_variant») ≡ 256
+  pub clause-flags : length (b .«clause_flags») ≡ 256
+  pub clause-len : length (b .«clause_len») ≡ 256
+  pub literal-kind : length (b .«literal_kind») ≡ 2048
+  pub literal-goal : length (b .«literal_goal») ≡ 2048
+  pub literal-want : length (b .«literal_want») ≡ 2048
+
+pub record Sound (b : Book) : Type 0 where
+  pub full : Full b
+  pub few-goals : b .goals ≤ 64
+  pub few-clauses : b .clauses ≤ 256
+  pub few-literals : (c : ℕ) → getD (b .«clause_len») c 0 ≤ 8
+  pub tiles : Tiles (b .«goal_first») (b .«goal_len») 0 (b .goals) 0 (b .clauses)
+  pub named : said.goals-name (b .goals) (view b) ≡ true
+
+abbrev pub blank : Book
+blank = record {
+  goals = 0;
+  clauses = 0;
+  «goal_flags» = replicate 64 0;
+  «goal_first» = replicate 64 0;
+  «goal_len» = replicate 64 0;
+  «clause_variant» = replicate 256 0;
+  «clause_flags» = replicate 256 0;
+  «clause_len» = replicate 256 0;
+  «literal_kind» = replicate 2048 0;
+  «literal_goal» = replicate 2048 0;
+  «literal_want» = replicate 2048 0;
+}
+
+-- a reading as the definitions have it
+abbrev pub seen-by : Bool → Reading → Refusable said.Book
+seen-by true r = accepted (view (r .book))
+seen-by false r = refused (r .number)
+
+abbrev pub seen : Reading → Refusable said.Book
+seen r = seen-by (eqb (r .number) 0) r
+
+-- what reading is to give
+pub record Read (bytes : List ℕ) (r : Reading) : Type 0 where
+  pub means : seen r ≡ said.read bytes
+  pub sound : r .number ≡ 0 → Sound (r .book)
+  pub bare : (r .number ≡ 0 → ⊥) → r .book ≡ blank

@@ -1,0 +1,45 @@
+// A rule book (document 01, "A book"): read from bytes into arrays of numbers, looked up by goal, clause and literal, and fitted to answers.
+pub mod access;
+mod decode;
+mod faults;
+pub mod fitting;
+mod reader;
+mod widths;
+
+pub use crate::reader::read;
+
+// Goals, clauses and literals by number, so that each array can be lent alone. The clauses of goal g are the goal_len[g] clauses
+// from goal_first[g] on, and literal j of clause c stands at 8 * c + j. Flags are as in the bytes; of a literal's kind bit 0 says
+// outsized and bit 1 "not".
+pub struct Book {
+    pub goals: usize,
+    pub clauses: usize,
+    pub goal_flags: [u8; 64],
+    pub goal_first: [u16; 64],
+    pub goal_len: [u16; 64],
+    pub clause_variant: [u16; 256],
+    pub clause_flags: [u8; 256],
+    pub clause_len: [u8; 256],
+    pub literal_kind: [u8; 2048],
+    pub literal_goal: [u16; 2048],
+    pub literal_want: [u16; 2048],
+}
+
+pub struct Literal {
+    pub goal: u16,
+    pub want: u16,
+    pub negative: bool,
+    pub outsized: bool,
+}
+
+// What reading gives: number 0 and the book, or the number of a refusal and a blank book.
+pub struct Reading {
+    pub number: u8,
+    pub book: Book,
+}
+
+// A strand's substitution: the variant that it stands for, and whether that answer is too large to keep.
+pub struct Subst {
+    pub variant: u16,
+    pub outsized: bool,
+}

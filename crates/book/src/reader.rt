@@ -1,0 +1,88 @@
+// Reading a book: each command is tested against document 01's refusals, in its order, and then done.
+use crate::Book;
+use crate::Reading;
+use crate::decode::byte;
+use crate::decode::operands_at;
+use crate::faults::next_fault;
+use crate::widths::CLAUSE;
+use crate::widths::END;
+use crate::widths::GOAL;
+ghost use mathlib.Core.Path.{_≡_};
+ghost use Rattle.book.specs.View.{Read, blank as blankBook};
+ghost use Rattle.book.specs.Faults.{largest};
+
+fn blank() -> Book
+    ensures { λ r. ⌜ r ≡ blankBook ⌝ }
+{
+    Book {
+        goals: 0,
+        clauses: 0,
+        goal_flags: [0; 64],
+        goal_first: [0; 64],
+        goal_len: [0; 64],
+        clause_variant: [0; 256],
+        clause_flags: [0; 256],
+        clause_len: [0; 256],
+        literal_kind: [0; 2048],
+        literal_goal: [0; 2048],
+        literal_want: [0; 2048],
+    }
+}
+
+fn larger(a: usize, b: usize) -> usize
+    ensures { λ r. ⌜ r ≡ largest a b ⌝ }
+{
+    if a < b { b } else { a }
+}
+
+// The book that the bytes say, or the number by which they are refused. `literals` are those of the last clause, and `named` is the
+// least count of goals that holds every goal named so far, so that the end command need not look at the literals again.
+pub fn read(bytes: &[u8]) -> Reading
+    ensures { λ r. ⌜ Read (now (bytes .entry)) r ⌝ }
+{
+    let mut book = blank();
+    let mut literals: usize = 0;
+    let mut named: usize = 0;
+    let mut at: usize = 0;
+    loop {
+        let goals = book.goals;
+        let clauses = book.clauses;
+        let fault = next_fault(bytes, at, goals, clauses, literals, named);
+        if fault != 0 {
+            let none = blank();
+            return Reading {
+                number: fault,
+                book: none,
+            };
+        }
+        let b = byte(bytes, at);
+        if b == END {
+            return Reading { number: 0, book };
+        }
+        let o = operands_at(bytes, at, b);
+        at = o.next;
+        if b == GOAL {
+            book.goal_flags[goals] = o.flags;
+            book.goal_first[goals] = clauses as u16;
+            book.goal_len[goals] = 0;
+            book.goals = goals + 1;
+        } else if b == CLAUSE {
+            let g = goals - 1;
+            book.goal_len[g] = book.goal_len[g] + 1;
+            book.clause_variant[clauses] = o.number;
+            book.clause_flags[clauses] = o.flags;
+            book.clause_len[clauses] = 0;
+            book.clauses = clauses + 1;
+            literals = 0;
+        } else {
+            let c = clauses - 1;
+            let place = 8 * c + literals;
+            book.literal_kind[place] = o.kind;
+            book.literal_goal[place] = o.number;
+            book.literal_want[place] = o.want;
+            literals = literals + 1;
+            book.clause_len[c] = literals as u8;
+            named = larger(named, o.number as usize + 1);
+        }
+    }
+}

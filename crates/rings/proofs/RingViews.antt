@@ -1,0 +1,442 @@
+-- What the ring operations do to the tables' queues, and that `RingSound` is kept: theorems over the models, no code in sight.
+use Prim.Native.Nat.{ℕ, zero, suc, _+_, _-_, _≤_, _<_}
+use native.Mathlib.Omega.{arith}
+use mathlib.Core.Path.{_≡_, refl, sym, ap, ap₂, subst, subst₃, _∙_}
+use mathlib.Core.Bool.{Bool, true, false, not}
+use mathlib.Core.List.{List, [], _∷_, _++_, map, append-nil}
+use lib.ListN.{length, take, drop, getD, set, length-set, length-append, length-drop, replicate, length-replicate}
+use lib.Seq.{getD-set-other, getD-set-same, length-take-le, split-at}
+use lib.Dec.{eqb, ltb}
+use borrow.Author.Tests.{eq-eqb, ne-eqb, eqb-true, eqb-false, lt-ltb, ltb-true, ltb-false}
+use Rattle.rings.specs.Lists.{firstIndex, one, times, grown, turned, Full}
+use Rattle.rings.specs.Rings.{walk, end, ringOf, heldAt, RingTookAt, RingMoved, movedNext, movedTail, Chain, RingSound, linkedAt, linked, lengthened}
+use Rattle.rings.proofs.Counts.{map-append, map-away, times-append, times-self, times-out, pigeons}
+use Rattle.rings.proofs.Walks.{length-walk, chain-walk, chain-join, chain-front, chain-back, chain-last, chain-in, ring-frame, ring-turn, ring-append, ring-splice}
+
+-- what holds of the changed queue of t and of every other queue holds of all
+any : (t : ℕ) (P : ℕ → Type 0) → P t → ((u : ℕ) → (u ≡ t → ⊥) → P u) → (u : ℕ) → P u
+any t P here there u = go (eqb u t) refl
+  where
+    go : (b : Bool) → eqb u t ≡ b → P u
+    go true e = subst P (sym (eqb-true u t e)) here
+    go false e = there u (eqb-false u t e)
+
+-- THE START: every queue is empty, and no place was used
+none-at : (n t : ℕ) → _≡_ {A = ℕ} (getD (replicate n 0) t 0) 0
+none-at zero t = refl
+none-at (suc n) zero = refl
+none-at (suc n) (suc t) = none-at n t
+
+pub ring-start : (t : ℕ) (next tail : List ℕ) → ringOf next tail (replicate 256 0) t ≡ []
+ring-start t next tail = ap (λ (m : ℕ). walk m next (getD tail t 0)) (none-at 256 t)
+
+pub ring-start-sound : RingSound (replicate 256 0) (replicate 256 0) (replicate 256 0) 0
+ring-start-sound = record {
+  room = omega arith;
+  fullNext = length-replicate {A = ℕ} 256 0;
+  fullTail = length-replicate {A = ℕ} 256 0;
+  fullLen = length-replicate {A = ℕ} 256 0;
+  closed = λ t. rw (ring-start t (replicate 256 0) (replicate 256 0)) refl;
+  once = λ t p. rw (ring-start t (replicate 256 0) (replicate 256 0)) (omega arith);
+  small = λ t p h. rw (ring-start t (replicate 256 0) (replicate 256 0)) refl;
+  apart = λ t u p n h. rw (ring-start u (replicate 256 0) (replicate 256 0)) refl;
+}
+
+module _ (next tail len : List ℕ) (top : ℕ) (sound : RingSound next tail len top) where
+  -- the queue of a table, as it was
+  abbrev q : ℕ → List ℕ
+  q u = ringOf next tail len u
+
+  pub below-top : (t p : ℕ) → 1 ≤ times p (q t) → p < top
+  below-top t p h = go (ltb p top) refl
+    where
+      go : (b : Bool) → ltb p top ≡ b → p < top
+      go true e = ltb-true p top e
+      go false e = absurd (omega (arith, sound .small t p (ltb-false p top e)))
+
+  below : (t p : ℕ) → 1 ≤ times p (q t) → p < 256
+  below t p h = omega (arith, below-top t p h, sound .room)
+
+  size : (t : ℕ) → length (q t) ≡ getD len t 0
+  size t = length-walk (getD len t 0) next (getD tail t 0)
+
+  -- the first place that was never used is free for the taking
+  pub ring-fresh-top : top < 256 → RingSound next tail len (top + 1) × ((u : ℕ) → times top (q u) ≡ 0)
+  ring-fresh-top h = (
+    record {
+      room = omega arith;
+      fullNext = sound .fullNext;
+      fullTail = sound .fullTail;
+      fullLen = sound .fullLen;
+      closed = sound .closed;
+      once = sound .once;
+      small = λ t p k. sound .small t p (omega arith);
+      apart = sound .apart;
+    },
+    λ u. sound .small u top (omega arith),
+  )
+
+  -- TAKE
+  module _ (t j : ℕ) (has : j < length (q t)) (tt256 : t < 256) where
+    abbrev p : ℕ
+    p = getD (q t) j 0
+
+    abbrev b : ℕ
+    b = end (getD tail t 0) (take j (q t))
+
+    abbrev rest : List ℕ
+    rest = turned j (q t)
+
+    abbrev next′ : List ℕ
+    next′ = set next b (getD next p 0)
+
+    abbrev tail′ : List ℕ
+    tail′ = set tail t b
+
+    abbrev len′ : List ℕ
+    len′ = set len t (getD len t 0 - 1)
+
+    whole : Chain next (getD tail t 0) (take j (q t) ++ (p ∷ drop (suc j) (q t))) (getD tail t 0)
+    whole = subst (λ (l : List ℕ). Chain next (getD tail t 0) l (getD tail t 0)) (split-at (q t) j 0 has) (sound .closed t)
+
+    -- from the place that is taken, through those behind it and those before it, to the place before it
+    round : Chain next p rest b
+    round = chain-join next p (drop (suc j) (q t)) (getD tail t 0) (take j (q t)) b
+        (chain-back next (getD tail t 0) (take j (q t)) (p ∷ drop (suc j) (q t)) (getD tail t 0) whole .1)
+        (chain-front next (getD tail t 0) (take j (q t)) (p ∷ drop (suc j) (q t)) (getD tail t 0) whole)
+
+    counts : (x : ℕ) → times x rest + one (eqb x p) ≡ times x (q t)
+    counts x = times-out x (q t) j has
+
+    b-in : 1 ≤ times b (q t)
+    b-in = omega (arith, chain-in next p rest b round, counts b)
+
+    ring : Chain next′ b rest b
+    ring = ring-turn next p b rest round (omega (arith, counts b, sound .once t b)) (λ h. omega (arith, below t b b-in, sound .fullNext))
+
+    tail-t : getD tail′ t 0 ≡ b
+    tail-t = getD-set-same tail t b 0 (omega (arith, sound .fullTail))
+
+    len-t : getD len′ t 0 ≡ length rest
+    len-t =
+        let d : length (drop (suc j) (q t)) ≡ length (q t) - suc j = length-drop (suc j) (q t) in
+        let k : length (take j (q t)) ≡ j = length-take-le j (q t) (omega arith) in
+        let e : length rest ≡ getD len t 0 - 1 = omega (arith, length-append (drop (suc j) (q t)) (take j (q t)), size t) in
+        getD-set-same len t (getD len t 0 - 1) 0 (omega (arith, sound .fullLen)) ∙ sym e
+
+    ring-own : ringOf next′ tail′ len′ t ≡ rest
+    ring-own = ap₂ (λ (m a : ℕ). walk m next′ a) len-t tail-t ∙ chain-walk next′ b rest b ring
+
+    module _ (u : ℕ) (n : u ≡ t → ⊥) where
+      other-tail : getD tail′ u 0 ≡ getD tail u 0
+      other-tail = getD-set-other tail t u b 0 n
+
+      other-ring : Chain next′ (getD tail u 0) (q u) (getD tail u 0)
+      other-ring = ring-frame next b (getD next p 0) (getD tail u 0) (q u) (sound .closed u) (sound .apart t u b n b-in)
+
+      ring-other : ringOf next′ tail′ len′ u ≡ q u
+      ring-other =
+          ap₂ (λ (m a : ℕ). walk m next′ a) (getD-set-other len t u (getD len t 0 - 1) 0 n ∙ sym (size u)) other-tail
+          ∙ chain-walk next′ (getD tail u 0) (q u) (getD tail u 0) other-ring
+
+    fewer : (u x : ℕ) → times x (ringOf next′ tail′ len′ u) ≤ times x (q u)
+    fewer = any t (λ u. (x : ℕ) → times x (ringOf next′ tail′ len′ u) ≤ times x (q u))
+        (λ x. rw ring-own (omega (arith, counts x))) (λ u n x. rw (ring-other u n) (omega arith))
+
+    ring-sound : RingSound next′ tail′ len′ top
+    ring-sound = record {
+      room = sound .room;
+      fullNext = length-set next b (getD next p 0) ∙ sound .fullNext;
+      fullTail = length-set tail t b ∙ sound .fullTail;
+      fullLen = length-set len t (getD len t 0 - 1) ∙ sound .fullLen;
+      closed = any t (λ u. Chain next′ (getD tail′ u 0) (ringOf next′ tail′ len′ u) (getD tail′ u 0))
+          (rw (ring-own, tail-t) ring) (λ u n. rw (ring-other u n, other-tail u n) (other-ring u n));
+      once = λ u x. omega (arith, fewer u x, sound .once u x);
+      small = λ u x h. omega (arith, fewer u x, sound .small u x h);
+      apart = λ u v x n h. omega (arith, fewer v x, sound .apart u v x n (omega (arith, fewer u x)));
+    }
+
+    -- the same of what the code leaves
+    module _ (n′ t′ l′ : List ℕ) (r : ℕ) (did : RingTookAt next tail len t (q t) j b n′ t′ l′ r) where
+      moved : (P : List ℕ → List ℕ → List ℕ → Type 0) → P next′ tail′ len′ → P n′ t′ l′
+      moved P x = subst₃ P (sym (did .links has)) (sym (did .ends has)) (sym (did .size has)) x
+
+      pub ring-take-place : r ≡ getD (q t) j 0
+      ring-take-place = did .place has
+
+      pub ring-take-own : ringOf n′ t′ l′ t ≡ turned j (q t)
+      ring-take-own = moved (λ n a l. ringOf n a l t ≡ turned j (q t)) ring-own
+
+      pub ring-take-other : (u : ℕ) → (u ≡ t → ⊥) → ringOf n′ t′ l′ u ≡ q u
+      ring-take-other u e = moved (λ n a l. ringOf n a l u ≡ q u) (ring-other u e)
+
+      pub ring-take-sound : RingSound n′ t′ l′ top
+      ring-take-sound = moved (λ n a l. RingSound n a l top) ring-sound
+
+      pub ring-take-used : r < top
+      ring-take-used = below-top t r (rw ring-take-place (omega (arith, counts p, times-self p)))
+
+      -- the place that was taken waits nowhere
+      pub ring-take-out : (u : ℕ) → times r (ringOf n′ t′ l′ u) ≡ 0
+      ring-take-out = any t (λ u. times r (ringOf n′ t′ l′ u) ≡ 0)
+          (rw (ring-take-own, ring-take-place) (omega (arith, counts p, times-self p, sound .once t p)))
+          (λ u e. rw (ring-take-other u e, ring-take-place) (sound .apart t u p e (omega (arith, counts p, times-self p))))
+
+  -- ENQUEUE a place that waits nowhere
+  module _ (t p : ℕ) (fresh : (u : ℕ) → times p (q u) ≡ 0) (place : p < top) (table : t < 256) where
+    abbrev nextE : List ℕ
+    nextE = linked next tail len t p
+
+    abbrev tailE : List ℕ
+    tailE = set tail t p
+
+    abbrev lenE : List ℕ
+    lenE = lengthened len t
+
+    once-more : (x : ℕ) (b : Bool) → eqb x p ≡ b → times x (q t) + one (eqb x p) ≤ 1
+    once-more x true e =
+        let z : times x (q t) ≡ 0 = ap (λ (y : ℕ). times y (q t)) (eqb-true x p e) ∙ fresh t in
+        omega (arith, ap one e)
+    once-more x false e = omega (arith, ap one e, sound .once t x)
+
+    countsE : (x : ℕ) → times x (q t ++ (p ∷ [])) ≡ times x (q t) + one (eqb x p)
+    countsE x = omega (arith, times-append x (q t) (p ∷ []))
+
+    smallE : (x : ℕ) → top ≤ x → times x (q t ++ (p ∷ [])) ≡ 0
+    smallE x h = omega (arith, countsE x, sound .small t x h, ap one (ne-eqb x p (λ e. omega arith)))
+
+    onceE : (x : ℕ) → times x (q t ++ (p ∷ [])) ≤ 1
+    onceE x = omega (arith, countsE x, once-more x (eqb x p) refl)
+
+    room : getD len t 0 < 256
+    room = omega (arith, pigeons top (q t ++ (p ∷ [])) onceE smallE, sound .room, length-append (q t) (p ∷ []), size t)
+
+    ringE : Chain nextE p (q t ++ (p ∷ [])) p
+    ringE = go (eqb (getD len t 0) 0) refl (q t) refl
+      where
+        go : (b : Bool) → eqb (getD len t 0) 0 ≡ b → (l : List ℕ) → q t ≡ l → Chain nextE p (q t ++ (p ∷ [])) p
+        go true e [] i = rw (i, e) (getD-set-same next p p 0 (omega (arith, sound .fullNext, sound .room)), refl)
+        go true e (x ∷ l) i = absurd (omega (arith, size t, ap length i, eqb-true (getD len t 0) 0 e))
+        go false e [] i = absurd (eqb-false (getD len t 0) 0 e (sym (size t) ∙ ap length i))
+        go false e (x ∷ l) i =
+            let c : Chain next (getD tail t 0) (x ∷ l) (getD tail t 0) = rw i at (sound .closed t) in
+            let h : 1 ≤ times (getD tail t 0) (q t) = rw i (chain-last next (getD tail t 0) x l (getD tail t 0) c) in
+            rw (i, e) (ring-append next (getD tail t 0) p x l c (rw i at (fresh t)) (rw i at (sound .once t (getD tail t 0)))
+            (omega (arith, sound .fullNext, sound .room)) (omega (arith, sound .fullNext, below t (getD tail t 0) h)))
+
+    tailE-t : getD tailE t 0 ≡ p
+    tailE-t = getD-set-same tail t p 0 (omega (arith, sound .fullTail))
+
+    lenE-t : getD lenE t 0 ≡ length (q t ++ (p ∷ []))
+    lenE-t =
+        let g : grown (ltb (getD len t 0) 256) (getD len t 0) ≡ getD len t 0 + 1 = ap (λ (b : Bool). grown b (getD len t 0)) (lt-ltb (getD len t 0) 256 room) in
+        getD-set-same len t (grown (ltb (getD len t 0) 256) (getD len t 0)) 0 (omega (arith, sound .fullLen)) ∙ omega (arith, g, length-append (q t) (p ∷ []), size t)
+
+    pub ring-enqueue-own : ringOf nextE tailE lenE t ≡ q t ++ (p ∷ [])
+    ring-enqueue-own = ap₂ (λ (m a : ℕ). walk m nextE a) lenE-t tailE-t ∙ chain-walk nextE p (q t ++ (p ∷ [])) p ringE
+
+    module _ (u : ℕ) (n : u ≡ t → ⊥) where
+      tailE-u : getD tailE u 0 ≡ getD tail u 0
+      tailE-u = getD-set-other tail t u p 0 n
+
+      ringE-u : Chain nextE (getD tail u 0) (q u) (getD tail u 0)
+      ringE-u = go (eqb (getD len t 0) 0) refl (q t) refl
+        where
+          go : (b : Bool) → eqb (getD len t 0) 0 ≡ b → (l : List ℕ) → q t ≡ l → Chain nextE (getD tail u 0) (q u) (getD tail u 0)
+          go true e l i = rw e (ring-frame next p p (getD tail u 0) (q u) (sound .closed u) (fresh u))
+          go false e [] i = absurd (eqb-false (getD len t 0) 0 e (sym (size t) ∙ ap length i))
+          go false e (x ∷ l) i =
+              let c : Chain next (getD tail t 0) (x ∷ l) (getD tail t 0) = rw i at (sound .closed t) in
+              let h : 1 ≤ times (getD tail t 0) (q t) = rw i (chain-last next (getD tail t 0) x l (getD tail t 0) c) in
+              rw e (ring-frame (set next p (getD next (getD tail t 0) 0)) (getD tail t 0) p (getD tail u 0) (q u)
+              (ring-frame next p (getD next (getD tail t 0) 0) (getD tail u 0) (q u) (sound .closed u) (fresh u)) (sound .apart t u (getD tail t 0) n h))
+
+      pub ring-enqueue-other : ringOf nextE tailE lenE u ≡ q u
+      ring-enqueue-other =
+          ap₂ (λ (m a : ℕ). walk m nextE a) (getD-set-other len t u (grown (ltb (getD len t 0) 256) (getD len t 0)) 0 n ∙ sym (size u)) tailE-u
+          ∙ chain-walk nextE (getD tail u 0) (q u) (getD tail u 0) ringE-u
+
+    fullE : Full nextE
+    fullE = go (eqb (getD len t 0) 0)
+      where
+        go : (b : Bool) → Full (linkedAt b next (getD tail t 0) p)
+        go true = length-set next p p ∙ sound .fullNext
+        go false = length-set (set next p (getD next (getD tail t 0) 0)) (getD tail t 0) p ∙ length-set next p (getD next (getD tail t 0) 0) ∙ sound .fullNext
+
+    -- where a place is in the queues after it: as before, and p behind t's
+    apartE : (u v x : ℕ) → (v ≡ u → ⊥) → 1 ≤ times x (ringOf nextE tailE lenE u) → times x (ringOf nextE tailE lenE v) ≡ 0
+    apartE = any t (λ u. (v x : ℕ) → (v ≡ u → ⊥) → 1 ≤ times x (ringOf nextE tailE lenE u) → times x (ringOf nextE tailE lenE v) ≡ 0)
+        (λ v x n h. rw (ring-enqueue-other v n) (new v x n (eqb x p) refl (rw ring-enqueue-own at h)))
+        (λ u m. any t (λ v. (x : ℕ) → (v ≡ u → ⊥) → 1 ≤ times x (ringOf nextE tailE lenE u) → times x (ringOf nextE tailE lenE v) ≡ 0)
+        (λ x n h. rw ring-enqueue-own (old u x n (rw (ring-enqueue-other u m) at h)))
+        (λ v k x n h. rw (ring-enqueue-other v k) (sound .apart u v x n (rw (ring-enqueue-other u m) at h))))
+      where
+        new : (v x : ℕ) → (v ≡ t → ⊥) → (b : Bool) → eqb x p ≡ b → 1 ≤ times x (q t ++ (p ∷ [])) → times x (q v) ≡ 0
+        new v x n true e h = ap (λ (y : ℕ). times y (q v)) (eqb-true x p e) ∙ fresh v
+        new v x n false e h = sound .apart t v x n (omega (arith, countsE x, ap one e))
+
+        old : (u x : ℕ) → (t ≡ u → ⊥) → 1 ≤ times x (q u) → times x (q t ++ (p ∷ [])) ≡ 0
+        old u x n h =
+            let d : x ≡ p → ⊥ = λ e. omega (arith, fresh u, h, ap (λ (y : ℕ). times y (q u)) e) in
+            omega (arith, countsE x, sound .apart u t x n h, ap one (ne-eqb x p d))
+
+    pub ring-enqueue-sound : RingSound nextE tailE lenE top
+    ring-enqueue-sound = record {
+      room = sound .room;
+      fullNext = fullE;
+      fullTail = length-set tail t p ∙ sound .fullTail;
+      fullLen = length-set len t (grown (ltb (getD len t 0) 256) (getD len t 0)) ∙ sound .fullLen;
+      closed = any t (λ u. Chain nextE (getD tailE u 0) (ringOf nextE tailE lenE u) (getD tailE u 0))
+          (rw (ring-enqueue-own, tailE-t) ringE) (λ u n. rw (ring-enqueue-other u n, tailE-u u n) (ringE-u u n));
+      once = any t (λ u. (x : ℕ) → times x (ringOf nextE tailE lenE u) ≤ 1)
+          (λ x. rw ring-enqueue-own (onceE x)) (λ u n x. rw (ring-enqueue-other u n) (sound .once u x));
+      small = any t (λ u. (x : ℕ) → top ≤ x → times x (ringOf nextE tailE lenE u) ≡ 0)
+          (λ x h. rw ring-enqueue-own (smallE x h)) (λ u n x h. rw (ring-enqueue-other u n) (sound .small u x h));
+      apart = apartE;
+    }
+
+    -- what is put at a place that waits nowhere is in no queue, and in the table's once the place is enqueued
+    module _ {A : Type 0} (d : A) (store : List A) (s : A) where
+      pub ring-put : (u : ℕ) → heldAt d (set store p s) (q u) ≡ heldAt d store (q u)
+      ring-put u = map-away store p s d (q u) (fresh u)
+
+      pub ring-put-enqueue : length store ≡ 256 → heldAt d (set store p s) (ringOf nextE tailE lenE t) ≡ heldAt d store (q t) ++ (s ∷ [])
+      ring-put-enqueue long =
+          let f : ℕ → A = λ x. getD (set store p s) x d in
+          ap (map f) ring-enqueue-own ∙ map-append f (q t) (p ∷ [])
+          ∙ ap₂ (λ (l : List A) (z : A). l ++ (z ∷ [])) (ring-put t) (getD-set-same store p s d (omega (arith, sound .room)))
+
+      pub ring-put-enqueue-other : (u : ℕ) → (u ≡ t → ⊥) → heldAt d (set store p s) (ringOf nextE tailE lenE u) ≡ heldAt d store (q u)
+      ring-put-enqueue-other u n = ap (map (λ x. getD (set store p s) x d)) (ring-enqueue-other u n) ∙ ring-put u
+
+  -- MOVE: f's queue goes behind g's
+  module _ (f g : ℕ) (n : g ≡ f → ⊥) (hf : f < 256) (hg : g < 256) (n′ t′ l′ : List ℕ) (did : RingMoved next tail len f g n′ t′ l′) where
+    both : (x : ℕ) → times x (q g ++ q f) ≡ times x (q g) + times x (q f)
+    both x = times-append x (q g) (q f)
+
+    -- no place is in both, so the two are at most 256 together
+    once-both : (x : ℕ) → times x (q g ++ q f) ≤ 1
+    once-both x = go (times x (q f)) refl
+      where
+        go : (k : ℕ) → times x (q f) ≡ k → times x (q g ++ q f) ≤ 1
+        go zero e = omega (arith, both x, sound .once g x)
+        go (suc k) e = omega (arith, both x, sound .once f x, sound .apart f g x n (omega arith))
+
+    small-both : (x : ℕ) → top ≤ x → times x (q g ++ q f) ≡ 0
+    small-both x h = omega (arith, both x, sound .small g x h, sound .small f x h)
+
+    room-both : getD len g 0 + getD len f 0 ≤ 256
+    room-both = omega (arith, pigeons top (q g ++ q f) once-both small-both, sound .room, length-append (q g) (q f), size g, size f)
+
+    lens : l′ ≡ set (set len f 0) g (getD len g 0 + getD len f 0)
+    lens = did .size (omega (arith, room-both)) (omega (arith, room-both))
+
+    len-g : getD l′ g 0 ≡ length (q g ++ q f)
+    len-g =
+        let h : g < length (set len f 0) = omega (arith, length-set len f 0, sound .fullLen) in
+        ap (λ (l : List ℕ). getD l g 0) lens ∙ getD-set-same (set len f 0) g (getD len g 0 + getD len f 0) 0 h
+        ∙ omega (arith, length-append (q g) (q f), size g, size f)
+
+    len-f : getD l′ f 0 ≡ 0
+    len-f = ap (λ (l : List ℕ). getD l f 0) lens ∙ getD-set-other (set len f 0) g f (getD len g 0 + getD len f 0) 0 (λ e. n (sym e))
+        ∙ getD-set-same len f 0 0 (omega (arith, sound .fullLen))
+
+    len-u : (u : ℕ) → (u ≡ g → ⊥) → (u ≡ f → ⊥) → getD l′ u 0 ≡ getD len u 0
+    len-u u a b = ap (λ (l : List ℕ). getD l u 0) lens ∙ getD-set-other (set len f 0) g u (getD len g 0 + getD len f 0) 0 a ∙ getD-set-other len f u 0 0 b
+
+    -- by what the two queues are: the ring of g, and every other
+    Rings : List ℕ → List ℕ → Type 0
+    Rings m a = Chain m (getD a g 0) (q g ++ q f) (getD a g 0) × ((u : ℕ) → (u ≡ g → ⊥) → (u ≡ f → ⊥) → Chain m (getD tail u 0) (q u) (getD tail u 0))
+
+    rings : Rings n′ t′
+    unfolding Rings
+    rings = rw (did .links, did .ends) (go (q f) refl (q g) refl)
+      where
+        zero-of : (t : ℕ) → q t ≡ [] → eqb (getD len t 0) 0 ≡ true
+        zero-of t i = eq-eqb (getD len t 0) 0 (sym (size t) ∙ ap length i)
+
+        some-of : (t x : ℕ) (l : List ℕ) → q t ≡ x ∷ l → eqb (getD len t 0) 0 ≡ false
+        some-of t x l i = ne-eqb (getD len t 0) 0 (λ e. omega (arith, size t, ap length i, e))
+
+        go : (l : List ℕ) → q f ≡ l → (m : List ℕ) → q g ≡ m
+            → Rings (movedNext (eqb (getD len f 0) 0) (eqb (getD len g 0) 0) next (getD tail f 0) (getD tail g 0)) (movedTail (eqb (getD len f 0) 0) tail g (getD tail f 0))
+        go [] i m k = rw (zero-of f i, i, append-nil (q g)) (sound .closed g, λ u a b. sound .closed u)
+        go (x ∷ l) i [] k =
+            rw (some-of f x l i, zero-of g k, k, getD-set-same tail g (getD tail f 0) 0 (omega (arith, sound .fullTail))) (sound .closed f, λ u a b. sound .closed u)
+        go (x ∷ l) i (y ∷ m) k =
+            let cf : Chain next (getD tail f 0) (x ∷ l) (getD tail f 0) = rw i at (sound .closed f) in
+            let cg : Chain next (getD tail g 0) (y ∷ m) (getD tail g 0) = rw k at (sound .closed g) in
+            let inf : 1 ≤ times (getD tail f 0) (q f) = rw i (chain-last next (getD tail f 0) x l (getD tail f 0) cf) in
+            let ing : 1 ≤ times (getD tail g 0) (q g) = rw k (chain-last next (getD tail g 0) y m (getD tail g 0) cg) in
+            rw (some-of f x l i, some-of g y m k, getD-set-same tail g (getD tail f 0) 0 (omega (arith, sound .fullTail))) (
+              rw (i, k) (ring-splice next (getD tail f 0) (getD tail g 0) x y l m cf cg
+                  (rw k at (sound .apart f g (getD tail f 0) n inf)) (rw i at (sound .apart g f (getD tail g 0) (λ e. n (sym e)) ing))
+                  (rw i at (sound .once f (getD tail f 0))) (rw k at (sound .once g (getD tail g 0)))
+                  (omega (arith, sound .fullNext, below f (getD tail f 0) inf)) (omega (arith, sound .fullNext, below g (getD tail g 0) ing))),
+              λ u a b. ring-frame (set next (getD tail f 0) (getD next (getD tail g 0) 0)) (getD tail g 0) (getD next (getD tail f 0) 0) (getD tail u 0) (q u)
+                  (ring-frame next (getD tail f 0) (getD next (getD tail g 0) 0) (getD tail u 0) (q u) (sound .closed u) (sound .apart f u (getD tail f 0) b inf))
+                  (sound .apart g u (getD tail g 0) a ing),
+            )
+
+    tail-u : (u : ℕ) → (u ≡ g → ⊥) → getD t′ u 0 ≡ getD tail u 0
+    tail-u u a = ap (λ (l : List ℕ). getD l u 0) (did .ends) ∙ go (eqb (getD len f 0) 0)
+      where
+        go : (b : Bool) → getD (movedTail b tail g (getD tail f 0)) u 0 ≡ getD tail u 0
+        go true = refl
+        go false = getD-set-other tail g u (getD tail f 0) 0 a
+
+    pub ring-move-to : ringOf n′ t′ l′ g ≡ q g ++ q f
+    unfolding Rings
+    ring-move-to = ap (λ (m : ℕ). walk m n′ (getD t′ g 0)) len-g ∙ chain-walk n′ (getD t′ g 0) (q g ++ q f) (getD t′ g 0) (rings .0)
+
+    pub ring-move-from : ringOf n′ t′ l′ f ≡ []
+    ring-move-from = ap (λ (m : ℕ). walk m n′ (getD t′ f 0)) len-f
+
+    pub ring-move-other : (u : ℕ) → (u ≡ g → ⊥) → (u ≡ f → ⊥) → ringOf n′ t′ l′ u ≡ q u
+    unfolding Rings
+    ring-move-other u a b =
+        ap₂ (λ (m x : ℕ). walk m n′ x) (len-u u a b ∙ sym (size u)) (tail-u u a) ∙ chain-walk n′ (getD tail u 0) (q u) (getD tail u 0) (rings .1 u a b)
+
+    -- what holds of the three kinds of queue holds of all
+    each : (P : ℕ → List ℕ → Type 0) → P g (q g ++ q f) → P f [] → ((u : ℕ) → (u ≡ g → ⊥) → (u ≡ f → ⊥) → P u (q u)) → (u : ℕ) → P u (ringOf n′ t′ l′ u)
+    each P pg pf pu = any g (λ u. P u (ringOf n′ t′ l′ u)) (rw ring-move-to pg)
+        (λ u a. any f (λ v. (v ≡ g → ⊥) → P v (ringOf n′ t′ l′ v)) (λ b. rw ring-move-from pf) (λ v b c. rw (ring-move-other v c b) (pu v c b)) u a)
+
+    pub ring-move-sound : RingSound n′ t′ l′ top
+    unfolding Rings
+    ring-move-sound = record {
+      room = sound .room;
+      fullNext = ap length (did .links) ∙ full-next (eqb (getD len f 0) 0) (eqb (getD len g 0) 0);
+      fullTail = ap length (did .ends) ∙ full-tail (eqb (getD len f 0) 0);
+      fullLen = ap length lens ∙ length-set (set len f 0) g (getD len g 0 + getD len f 0) ∙ length-set len f 0 ∙ sound .fullLen;
+      closed = each (λ u l. Chain n′ (getD t′ u 0) l (getD t′ u 0)) (rings .0) refl (λ u a b. rw (tail-u u a) (rings .1 u a b));
+      once = each (λ u l. (x : ℕ) → times x l ≤ 1) once-both (λ x. omega arith) (λ u a b x. sound .once u x);
+      small = each (λ u l. (x : ℕ) → top ≤ x → times x l ≡ 0) small-both (λ x h. refl) (λ u a b x h. sound .small u x h);
+      apart = λ u v x k h. each (λ w l. (w ≡ u → ⊥) → times x l ≡ 0)
+          (λ i. to u x i h) (λ i. refl) (λ w a b i. there u w x a b i h) v k;
+    }
+      where
+        full-next : (x y : Bool) → Full (movedNext x y next (getD tail f 0) (getD tail g 0))
+        full-next true y = sound .fullNext
+        full-next false true = sound .fullNext
+        full-next false false =
+            length-set (set next (getD tail f 0) (getD next (getD tail g 0) 0)) (getD tail g 0) (getD next (getD tail f 0) 0)
+            ∙ length-set next (getD tail f 0) (getD next (getD tail g 0) 0) ∙ sound .fullNext
+
+        full-tail : (x : Bool) → Full (movedTail x tail g (getD tail f 0))
+        full-tail true = sound .fullTail
+        full-tail false = length-set tail g (getD tail f 0) ∙ sound .fullTail
+
+        -- a place of the queue u is not in the joined queue, nor in a third
+        to : (u x : ℕ) → (g ≡ u → ⊥) → 1 ≤ times x (ringOf n′ t′ l′ u) → times x (q g ++ q f) ≡ 0
+        to u x i h = each (λ w l. (g ≡ w → ⊥) → 1 ≤ times x l → times x (q g ++ q f) ≡ 0)
+            (λ j k. absurd (j refl)) (λ j k. absurd (omega arith))
+            (λ w a b j k. omega (arith, both x, sound .apart w g x j k, sound .apart w f x (λ e. b (sym e)) k)) u i h
+
+        there : (u w x : ℕ) → (w ≡ g → ⊥) → (w ≡ f → ⊥) → (w ≡ u → ⊥) → 1 ≤ times x (ringOf n′ t′ l′ u) → times x (q w) ≡ 0
+        there u w x a b i h = each (λ v l. (w ≡ v → ⊥) → 1 ≤ times x l → times x (q w) ≡ 0)
+            (λ j k. either x k (times x (q g)) refl) (λ j k. absurd (omega arith)) (λ v c d j k. sound .apart v w x j k) u i h
+          where
+            either : (y : ℕ) → 1 ≤ times y (q g ++ q f) → (k : ℕ) → times y (q g) ≡ k → times y (q w) ≡ 0
+            either y k zero e = sound .apart f w y b (omega (arith, both y))
+            either y k (suc m) e = sound .apart g w y a (omega arith)
