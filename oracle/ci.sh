@@ -1,0 +1,54 @@
+#!/bin/sh
+# Builds the oracle and runs its checks, in under two minutes; stops at the first failure.
+set -eu
+here=$(cd "$(dirname "$0")" && pwd)
+cd "$here"
+oracle=${CARGO_TARGET_DIR:-$here/target}/release/oracle
+work=$(mktemp -d)
+trap 'rm -rf "$work"' EXIT
+
+say() {
+    echo "oracle: $*"
+}
+
+say "build, offline"
+cargo build --release --offline --locked --quiet
+
+say "the control files against the published ones"
+./derive.sh
+
+say "cases, sizes and the standard run"
+"$oracle" check >"$work/check" || {
+    cat "$work/check"
+    exit 1
+}
+grep -c '^ok ' "$work/check" | sed 's/$/ cases and sizes agree/'
+grep -e '^standard run' -e '^each of the numbers' "$work/check"
+
+say "every profile twice from one seed: the same script, the same output, no unexpected panic"
+for profile in mix plain tiny bytes answers small limits large; do
+    "$oracle" gen 11 300 $profile >"$work/script"
+    "$oracle" gen 11 300 $profile | cmp - "$work/script"
+    "$oracle" run <"$work/script" >"$work/out"
+    "$oracle" run <"$work/script" | cmp - "$work/out"
+    # A dump in full and its hash: as many lines, the results the same.
+    "$oracle" run quiet <"$work/script" >"$work/quiet"
+    awk 'NR % 2 == 1' "$work/out" >"$work/results"
+    awk 'NR % 2 == 1' "$work/quiet" | cmp - "$work/results"
+    echo "$profile: $(wc -l <"$work/script") lines"
+done
+
+say "damaged books"
+"$oracle" books 11 20000 >"$work/books"
+"$oracle" books 11 20000 | cmp - "$work/books"
+"$oracle" read <"$work/books" | sort | uniq -c
+
+say "demand 3"
+"$oracle" demand3 11 100000
+
+say "bench"
+"$oracle" bench
+
+say "planted faults"
+./faults.sh
+say "all passed"

@@ -1,0 +1,1 @@
+// Stand-in for slg/aggregate.rs: nothing of it is used.

@@ -1,0 +1,209 @@
+//! The book reader: bytes to goals and clauses, or the number of the refusal.
+
+use chalk_ir::interner::BookInterner;
+use chalk_ir::{Goal, ProgramClause, UnificationDatabase};
+use chalk_solve::RustIrDatabase;
+
+pub const GOAL: u8 = 0x47;
+pub const CLAUSE: u8 = 0x43;
+pub const POSITIVE: u8 = 0x50;
+pub const NOT: u8 = 0x4E;
+pub const END: u8 = 0x45;
+
+pub const MOST_GOALS: usize = 64;
+pub const MOST_CLAUSES: usize = 256;
+pub const MOST_LITERALS: usize = 8;
+
+#[derive(Clone, Debug, PartialEq, Eq)]
+pub struct Literal {
+    pub positive: bool,
+    pub goal: u16,
+    pub want: u16,
+    pub outsized: bool,
+}
+
+#[derive(Clone, Debug, PartialEq, Eq)]
+pub struct Clause {
+    /// The goal whose clause it is.
+    pub goal: usize,
+    pub variant: u16,
+    pub cannot_prove: bool,
+    pub outsized: bool,
+    pub literals: Vec<Literal>,
+}
+
+#[derive(Clone, Copy, Debug, PartialEq, Eq)]
+pub struct GoalFlags {
+    pub coinductive: bool,
+    pub floundered: bool,
+}
+
+#[derive(Clone, Debug, PartialEq, Eq, Default)]
+pub struct Book {
+    pub goals: Vec<GoalFlags>,
+    pub clauses: Vec<Clause>,
+}
+
+struct Reader<'a> {
+    bytes: &'a [u8],
+    at: usize,
+}
+
+impl Reader<'_> {
+    fn byte(&mut self) -> Result<u8, u8> {
+        let byte = *self.bytes.get(self.at).ok_or(1)?;
+        self.at += 1;
+        Ok(byte)
+    }
+
+    fn operands<const N: usize>(&mut self) -> Result<[u8; N], u8> {
+        let operands = self.bytes.get(self.at..self.at + N).ok_or(1)?;
+        self.at += N;
+        Ok(operands.try_into().unwrap())
+    }
+}
+
+impl Book {
+    /// Each command is tested in the order 1 (its byte), 2, 1 (operands), 3, 4, 5; the end in the order 7, 8, 6.
+    pub fn read(bytes: &[u8]) -> Result<Book, u8> {
+        let mut reader = Reader { bytes, at: 0 };
+        let mut book = Book::default();
+        loop {
+            match reader.byte()? {
+                GOAL => {
+                    let [flags] = reader.operands()?;
+                    known(flags, 3)?;
+                    if book.goals.len() == MOST_GOALS {
+                        return Err(5);
+                    }
+                    book.goals.push(GoalFlags { coinductive: flags & 1 != 0, floundered: flags & 2 != 0 });
+                }
+                CLAUSE => {
+                    let [v0, v1, flags] = reader.operands()?;
+                    let goal = book.goals.len().checked_sub(1).ok_or(3)?;
+                    known(flags, 3)?;
+                    if book.clauses.len() == MOST_CLAUSES {
+                        return Err(5);
+                    }
+                    book.clauses.push(Clause {
+                        goal,
+                        variant: u16::from_le_bytes([v0, v1]),
+                        cannot_prove: flags & 1 != 0,
+                        outsized: flags & 2 != 0,
+                        literals: Vec::new(),
+                    });
+                }
+                POSITIVE => {
+                    let [g0, g1, w0, w1, flags] = reader.operands()?;
+                    book.literal(true, [g0, g1], [w0, w1], flags)?;
+                }
+                NOT => {
+                    let [g0, g1, flags] = reader.operands()?;
+                    book.literal(false, [g0, g1], [0, 0], flags)?;
+                }
+                END => {
+                    if reader.at != bytes.len() {
+                        return Err(7);
+                    }
+                    if book.goals.is_empty() {
+                        return Err(8);
+                    }
+                    let mut literals = book.clauses.iter().flat_map(|clause| &clause.literals);
+                    if literals.any(|literal| usize::from(literal.goal) >= book.goals.len()) {
+                        return Err(6);
+                    }
+                    return Ok(book);
+                }
+                _ => return Err(2),
+            }
+        }
+    }
+
+    /// A literal belongs to the last clause so far, even if a goal came between.
+    fn literal(&mut self, positive: bool, goal: [u8; 2], want: [u8; 2], flags: u8) -> Result<(), u8> {
+        let clause = self.clauses.last_mut().ok_or(3)?;
+        known(flags, 1)?;
+        if clause.literals.len() == MOST_LITERALS {
+            return Err(5);
+        }
+        clause.literals.push(Literal {
+            positive,
+            goal: u16::from_le_bytes(goal),
+            want: u16::from_le_bytes(want),
+            outsized: flags & 1 != 0,
+        });
+        Ok(())
+    }
+
+    /// The bytes of this book: each goal, then its clauses.
+    pub fn bytes(&self) -> Vec<u8> {
+        let mut out = Vec::new();
+        for (number, goal) in self.goals.iter().enumerate() {
+            out.push(GOAL);
+            out.push(u8::from(goal.coinductive) | u8::from(goal.floundered) << 1);
+            for clause in self.clauses.iter().filter(|clause| clause.goal == number) {
+                out.push(CLAUSE);
+                out.extend(clause.variant.to_le_bytes());
+                out.push(u8::from(clause.cannot_prove) | u8::from(clause.outsized) << 1);
+                for literal in &clause.literals {
+                    out.push(if literal.positive { POSITIVE } else { NOT });
+                    out.extend(literal.goal.to_le_bytes());
+                    if literal.positive {
+                        out.extend(literal.want.to_le_bytes());
+                    }
+                    out.push(u8::from(literal.outsized));
+                }
+            }
+        }
+        out.push(END);
+        out
+    }
+}
+
+fn known(flags: u8, known: u8) -> Result<(), u8> {
+    if flags & !known != 0 {
+        return Err(4);
+    }
+    Ok(())
+}
+
+#[derive(Debug)]
+struct NoUnification;
+
+impl UnificationDatabase<BookInterner> for NoUnification {}
+
+/// The book as the control files' program.
+impl RustIrDatabase<BookInterner> for Book {
+    fn interner(&self) -> BookInterner {
+        BookInterner
+    }
+
+    fn unification_database(&self) -> &dyn UnificationDatabase<BookInterner> {
+        &NoUnification
+    }
+
+    fn is_coinductive(&self, goal: u16) -> bool {
+        self.goals[usize::from(goal)].coinductive
+    }
+
+    fn is_floundered(&self, goal: u16) -> bool {
+        self.goals[usize::from(goal)].floundered
+    }
+
+    fn clauses(&self, goal: u16) -> Vec<ProgramClause<BookInterner>> {
+        self.clauses
+            .iter()
+            .filter(|clause| clause.goal == usize::from(goal))
+            .map(|clause| ProgramClause {
+                variant: clause.variant,
+                cannot_prove: clause.cannot_prove,
+                outsized: clause.outsized,
+                literals: clause
+                    .literals
+                    .iter()
+                    .map(|l| (l.positive, Goal::literal(l.goal, l.want, l.outsized)))
+                    .collect(),
+            })
+            .collect()
+    }
+}

@@ -1,0 +1,271 @@
+//! Books of chance: small ones of every kind, plain levelled ones, books at the limits, damaged bytes.
+
+use crate::book::{Book, Clause, GoalFlags, Literal, CLAUSE, END, GOAL, NOT, POSITIVE};
+use crate::rng::Rng;
+
+/// How likely each thing is in a book, in percent.
+pub struct Taste {
+    pub goals: (u64, u64),
+    pub clauses: (u64, u64),
+    pub most_clauses: usize,
+    pub literals: (u64, u64),
+    pub coinductive: u64,
+    pub floundered: u64,
+    pub variant: u64,
+    pub want: u64,
+    pub cannot_prove: u64,
+    pub outsized_answer: u64,
+    pub outsized_literal: u64,
+    pub not: u64,
+}
+
+pub fn taste(rng: &mut Rng) -> Taste {
+    Taste {
+        goals: (1, 5),
+        clauses: (0, 3),
+        most_clauses: 256,
+        literals: (0, 3),
+        coinductive: rng.pick(&[0, 0, 30, 60, 100]),
+        floundered: rng.pick(&[0, 0, 0, 10, 30]),
+        variant: rng.pick(&[0, 20, 50, 90]),
+        want: rng.pick(&[0, 0, 20, 50]),
+        cannot_prove: rng.pick(&[0, 0, 10, 40]),
+        outsized_answer: rng.pick(&[0, 0, 0, 10, 25]),
+        outsized_literal: rng.pick(&[0, 0, 0, 10, 25]),
+        not: rng.pick(&[0, 0, 15, 35]),
+    }
+}
+
+pub fn variant(rng: &mut Rng) -> u16 {
+    rng.pick(&[1, 1, 1, 2, 2, 3, 4, 256, 65535])
+}
+
+pub fn random_book(rng: &mut Rng, taste: &Taste) -> Book {
+    let goals = rng.range(taste.goals.0, taste.goals.1);
+    let mut book = Book::default();
+    for goal in 0..goals as usize {
+        book.goals.push(GoalFlags {
+            coinductive: rng.chance(taste.coinductive),
+            floundered: rng.chance(taste.floundered),
+        });
+        for _ in 0..rng.range(taste.clauses.0, taste.clauses.1) {
+            if book.clauses.len() == taste.most_clauses {
+                break;
+            }
+            let mut literals = Vec::new();
+            for _ in 0..rng.range(taste.literals.0, taste.literals.1) {
+                let positive = !rng.chance(taste.not);
+                literals.push(Literal {
+                    positive,
+                    goal: rng.below(goals) as u16,
+                    want: if positive && rng.chance(taste.want) { variant(rng) } else { 0 },
+                    outsized: rng.chance(taste.outsized_literal),
+                });
+            }
+            book.clauses.push(Clause {
+                goal,
+                variant: if rng.chance(taste.variant) { variant(rng) } else { 0 },
+                cannot_prove: rng.chance(taste.cannot_prove),
+                outsized: rng.chance(taste.outsized_answer),
+                literals,
+            });
+        }
+    }
+    book
+}
+
+/// A plain book, and levels for its goals that make it a levelled one.
+pub fn plain_book(rng: &mut Rng) -> (Book, Vec<u64>) {
+    let goals = rng.pick(&[1, 2, 3, 3, 4, 5, 6, 9]);
+    let count = rng.pick(&[1, 1, 2, 3]);
+    let levels: Vec<u64> = (0..goals).map(|_| rng.below(count)).collect();
+    let mut book = Book::default();
+    for goal in 0..goals {
+        book.goals.push(GoalFlags { coinductive: false, floundered: false });
+        for _ in 0..rng.pick(&[0, 1, 1, 2, 2, 3, 4]) {
+            let mut literals = Vec::new();
+            for _ in 0..rng.pick(&[0, 1, 1, 2, 2, 3]) {
+                let positive = !rng.chance(25);
+                let named: Vec<usize> = (0..goals)
+                    .filter(|other| {
+                        levels[*other] < levels[goal] || positive && levels[*other] == levels[goal]
+                    })
+                    .collect();
+                if !named.is_empty() {
+                    literals.push(Literal {
+                        positive,
+                        goal: rng.pick(&named) as u16,
+                        want: 0,
+                        outsized: false,
+                    });
+                }
+            }
+            book.clauses.push(Clause { goal, variant: 0, cannot_prove: false, outsized: false, literals });
+        }
+    }
+    (book, levels)
+}
+
+pub fn want(goal: u16, want: u16) -> Literal {
+    Literal { positive: true, goal, want, outsized: false }
+}
+
+pub fn any(goal: u16) -> Literal {
+    want(goal, 0)
+}
+
+pub fn not(goal: u16) -> Literal {
+    Literal { positive: false, goal, want: 0, outsized: false }
+}
+
+/// A builder for books made on purpose.
+#[derive(Default)]
+pub struct Made(pub Book);
+
+impl Made {
+    pub fn goal(&mut self, coinductive: bool) -> u16 {
+        self.0.goals.push(GoalFlags { coinductive, floundered: false });
+        self.0.goals.len() as u16 - 1
+    }
+
+    pub fn clause(&mut self, goal: u16, variant: u16, literals: Vec<Literal>) {
+        self.0.clauses.push(Clause {
+            goal: usize::from(goal),
+            variant,
+            cannot_prove: false,
+            outsized: false,
+            literals,
+        });
+    }
+}
+
+/// A book that fills a limit, or goes one past it.
+pub fn limit_book(rng: &mut Rng) -> Vec<u8> {
+    let mut made = Made::default();
+    let over = rng.below(2);
+    match rng.below(3) {
+        0 => {
+            for _ in 0..64 + over {
+                made.goal(rng.chance(10));
+            }
+            for _ in 0..rng.below(5) {
+                let (goal, named) = (rng.below(64) as u16, rng.below(64) as u16);
+                made.clause(goal, rng.below(3) as u16, vec![any(named)]);
+            }
+        }
+        1 => {
+            let goals = rng.range(1, 4);
+            for _ in 0..goals {
+                made.goal(false);
+            }
+            for i in 0..256 + over {
+                let literals = if rng.chance(10) { vec![any(rng.below(goals) as u16)] } else { vec![] };
+                made.clause(rng.below(goals) as u16, i as u16, literals);
+            }
+        }
+        _ => {
+            let goals = rng.range(1, 4);
+            for _ in 0..goals {
+                made.goal(rng.chance(30));
+            }
+            for _ in 0..rng.range(1, 3) {
+                let count = rng.range(7, 8 + over);
+                let literals = (0..count).map(|_| any(rng.below(goals) as u16)).collect();
+                made.clause(rng.below(goals) as u16, rng.below(3) as u16, literals);
+            }
+        }
+    }
+    made.0.bytes()
+}
+
+/// A command with operands of chance, some of them out of bounds.
+pub fn random_command(rng: &mut Rng, out: &mut Vec<u8>) {
+    let small = |rng: &mut Rng| rng.pick(&[0u16, 0, 1, 1, 2, 3, 63, 64, 256, 65535]).to_le_bytes();
+    let flags = |rng: &mut Rng| rng.pick(&[0u8, 0, 0, 0, 0, 1, 1, 2, 3, 4, 255]);
+    match rng.below(20) {
+        0..=4 => out.extend([GOAL, flags(rng)]),
+        5..=9 => {
+            out.push(CLAUSE);
+            out.extend(small(rng));
+            out.push(flags(rng));
+        }
+        10..=13 => {
+            out.push(POSITIVE);
+            out.extend(small(rng));
+            out.extend(small(rng));
+            out.push(flags(rng));
+        }
+        14..=16 => {
+            out.push(NOT);
+            out.extend(small(rng));
+            out.push(flags(rng));
+        }
+        17..=18 => out.push(END),
+        _ => out.push(rng.below(256) as u8),
+    }
+}
+
+/// Bytes that may be a book: whole, or damaged in one or two ways, or commands in any order.
+pub fn damaged_book(rng: &mut Rng) -> Vec<u8> {
+    if rng.chance(6) {
+        return vec![END];
+    }
+    let mut bytes = match rng.below(20) {
+        0..=5 => limit_book(rng),
+        6..=9 => {
+            let mut soup = Vec::new();
+            if rng.chance(70) {
+                soup.extend([GOAL, 0]);
+            }
+            if rng.chance(50) {
+                soup.extend([CLAUSE, 0, 0, 0]);
+            }
+            for _ in 0..rng.below(8) {
+                random_command(rng, &mut soup);
+            }
+            if rng.chance(70) {
+                soup.push(END);
+            }
+            soup
+        }
+        10 => {
+            let mut noise = Vec::new();
+            for _ in 0..rng.below(6) {
+                noise.push(rng.below(256) as u8);
+            }
+            noise
+        }
+        _ => {
+            let taste = taste(rng);
+            let mut book = random_book(rng, &taste);
+            if rng.chance(25) {
+                let beyond = book.goals.len() as u16;
+                if let Some(literal) = book.clauses.iter_mut().flat_map(|c| &mut c.literals).next() {
+                    literal.goal = rng.pick(&[beyond, beyond + 1, 64, 255, 256, 65535]);
+                }
+            }
+            book.bytes()
+        }
+    };
+    for _ in 0..rng.below(3) {
+        if bytes.is_empty() {
+            break;
+        }
+        let at = rng.below(bytes.len() as u64) as usize;
+        match rng.below(8) {
+            0 => bytes.truncate(at),
+            1 => bytes[at] ^= 1 << rng.below(8),
+            2 => bytes[at] = rng.below(256) as u8,
+            3 => bytes.push(rng.pick(&[0, END, GOAL, 255])),
+            4 => {
+                bytes.remove(at);
+            }
+            5 => bytes.insert(at, rng.pick(&[0, 1, GOAL, CLAUSE, POSITIVE, NOT, END, 255])),
+            6 => bytes[at] = rng.pick(&[GOAL, CLAUSE, POSITIVE, NOT, END]),
+            _ => {
+                bytes.pop();
+            }
+        }
+    }
+    bytes
+}

@@ -1,0 +1,138 @@
+//! The oracle: chalk-engine's control files run on books. See README.md for the subcommands.
+
+mod bench;
+mod book;
+mod bounded;
+mod check;
+mod demand3;
+mod gen;
+mod list;
+mod rng;
+mod script;
+
+use std::io::{self, Read, Write};
+use std::process::ExitCode;
+
+const USAGE: &str = "usage: oracle list [hex] < BOOK
+       oracle run [quiet] < SCRIPT
+       oracle read < LINES OF HEX
+       oracle gen SEED COUNT [mix|plain|tiny|bytes|answers|small|limits|large|lines]
+       oracle books SEED COUNT
+       oracle check [CALLS [SEED]]
+       oracle demand3 SEED COUNT
+       oracle bench [PROGRAM [ARGUMENT..]]
+       oracle load ladder|ring|random|plain";
+
+/// A book from standard input: its bytes, or with the word `hex` their digits.
+fn input_book(words: &[&str]) -> Result<Vec<u8>, String> {
+    let mut bytes = Vec::new();
+    io::stdin().read_to_end(&mut bytes).map_err(|e| e.to_string())?;
+    if words == ["hex"] {
+        let text: String = String::from_utf8_lossy(&bytes).split_whitespace().collect();
+        return script::hex(&text).ok_or("no hex digits".into());
+    }
+    Ok(bytes)
+}
+
+/// For each line of hex: `accepted`, or `refused` and the number.
+fn read_books() -> Result<(), String> {
+    let mut out = io::BufWriter::new(io::stdout().lock());
+    for line in io::stdin().lines() {
+        let line = line.map_err(|e| e.to_string())?;
+        let text: String = line.split(' ').collect();
+        match script::hex(&text).map(|bytes| book::Book::read(&bytes)) {
+            None => writeln!(out, "no hex"),
+            Some(Ok(_)) => writeln!(out, "accepted"),
+            Some(Err(number)) => writeln!(out, "refused {number}"),
+        }
+        .map_err(|e| e.to_string())?;
+    }
+    out.flush().map_err(|e| e.to_string())
+}
+
+fn number(word: &str) -> Result<u64, String> {
+    word.parse().map_err(|_| format!("{word} is no number"))
+}
+
+/// COUNT scripts, each with a forest of its own.
+fn generate(seed: u64, count: u64, profile: gen::Profile) -> Result<(), String> {
+    let mut stdout = io::BufWriter::new(io::stdout().lock());
+    let mut out = String::new();
+    for forest in 0..count {
+        gen::forest(&mut gen::rng_of(seed, forest), profile, &mut out);
+        stdout.write_all(out.as_bytes()).map_err(|e| e.to_string())?;
+        out.clear();
+    }
+    stdout.flush().map_err(|e| e.to_string())
+}
+
+/// COUNT books, whole or damaged, as lines of hex.
+fn books(seed: u64, count: u64) -> Result<(), String> {
+    let mut stdout = io::BufWriter::new(io::stdout().lock());
+    for book in 0..count {
+        let bytes = gen::damaged_book(&mut gen::rng_of(seed, book));
+        writeln!(stdout, "{}", script::to_hex(&bytes)).map_err(|e| e.to_string())?;
+    }
+    stdout.flush().map_err(|e| e.to_string())
+}
+
+fn command(words: &[&str]) -> Result<(), String> {
+    match words {
+        ["list", rest @ ..] => {
+            let text = list::list(&input_book(rest)?)?;
+            io::stdout().write_all(text.as_bytes()).map_err(|e| e.to_string())
+        }
+        ["run"] => script::run(false, io::stdin().lock(), io::stdout().lock()),
+        ["run", "quiet"] => script::run(true, io::stdin().lock(), io::stdout().lock()),
+        ["read"] => read_books(),
+        ["gen", seed, count] => generate(number(seed)?, number(count)?, gen::Profile::Mix),
+        ["gen", seed, count, profile] => {
+            let profile = gen::Profile::named(profile).ok_or(USAGE)?;
+            generate(number(seed)?, number(count)?, profile)
+        }
+        ["books", seed, count] => books(number(seed)?, number(count)?),
+        ["check"] => check::check(check::STANDARD_CALLS, check::STANDARD_SEED),
+        ["check", calls] => check::check(number(calls)?, check::STANDARD_SEED),
+        ["check", calls, seed] => check::check(number(calls)?, number(seed)?),
+        ["demand3", seed, count] => {
+            let totals = demand3::demand3(number(seed)?, number(count)?)?;
+            println!(
+                "demand 3 held: {count} books, {} calls, {} answers, {} none, {} again, {} cut, {} stopped (21); \
+                 the bound was reached exactly in {} books",
+                totals.calls,
+                totals.answers,
+                totals.none,
+                totals.again,
+                totals.cut,
+                totals.stopped,
+                totals.tight
+            );
+            Ok(())
+        }
+        ["bench", other @ ..] => bench::bench(other),
+        ["load", name] => {
+            print!("{}", bench::script(name).ok_or(USAGE)?);
+            Ok(())
+        }
+        _ => Err(USAGE.into()),
+    }
+}
+
+fn main() -> ExitCode {
+    // The stops 25 to 29 are panics of the control files; what matters of them is reported by us.
+    std::panic::set_hook(Box::new(|info| {
+        let message = info.payload_as_str().unwrap_or("");
+        if chalk_engine::solve::known_panic(message).is_none() {
+            eprintln!("oracle: {info}");
+        }
+    }));
+    let words: Vec<String> = std::env::args().skip(1).collect();
+    let words: Vec<&str> = words.iter().map(String::as_str).collect();
+    match command(&words) {
+        Ok(()) => ExitCode::SUCCESS,
+        Err(message) => {
+            eprintln!("{message}");
+            ExitCode::FAILURE
+        }
+    }
+}
