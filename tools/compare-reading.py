@@ -1,0 +1,67 @@
+#!/usr/bin/env python3
+"""Holds our reading of books against the oracle's, on books made by chance, most of them damaged.
+
+tools/compare-reading.py [SEED [COUNT]]     default 1 300000
+
+The oracle makes COUNT books and says of each how it reads it. The same books go, in one list, through the program `reading_tests` and,
+each as the input of a process of its own, through `inspect`, whose first line is `refused N` or the line of goal 0. Both programs are
+taken from target/bin, so `rt check` comes first. Status 0 if all agree.
+"""
+import collections
+import os
+import subprocess
+import sys
+
+ROOT = os.path.dirname(os.path.dirname(os.path.abspath(__file__)))
+ORACLE = os.path.join(ROOT, "oracle", "target", "release", "oracle")
+BIN = os.path.join(ROOT, "target", "bin")
+
+
+def output(words, given):
+    return subprocess.run(words, input=given, capture_output=True, check=True).stdout.decode()
+
+
+def listed(books):
+    """What reading_tests says of each, as the oracle would say it."""
+    given = "".join(":%s\n" % book for book in books)
+    said = output([os.path.join(BIN, "reading_tests")], given.encode()).splitlines()
+    return [line[2:].split(",")[0] for line in said]
+
+
+def inspected(book):
+    """What inspect says of one: the input is put into a pipe before it starts, for it fits."""
+    given, out = os.pipe(), os.pipe()
+    os.write(given[1], bytes.fromhex(book))
+    os.close(given[1])
+    child = os.posix_spawn(os.path.join(BIN, "inspect"), ["inspect"], {}, file_actions=[
+        (os.POSIX_SPAWN_DUP2, given[0], 0), (os.POSIX_SPAWN_DUP2, out[1], 1), (os.POSIX_SPAWN_CLOSE, out[0])])
+    os.close(given[0])
+    os.close(out[1])
+    first = os.read(out[0], 4096).decode().split("\n")[0]
+    while os.read(out[0], 65536):
+        pass
+    os.close(out[0])
+    os.waitpid(child, 0)
+    return "accepted" if first.startswith("goal 0") else first
+
+
+def report(name, books, wanted, found):
+    wrong = [i for i, w in enumerate(wanted) if i >= len(found) or found[i] != w]
+    print("%s: %d books, %d agree" % (name, len(wanted), len(wanted) - len(wrong)))
+    for i in wrong[:5]:
+        print("  %s: the oracle %s, %s %s" % (books[i][:200], wanted[i], name, found[i] if i < len(found) else "nothing"))
+    return not wrong and len(found) == len(wanted)
+
+
+def main():
+    seed, count = (sys.argv[1:] + ["1", "300000"][len(sys.argv) - 1:])[:2]
+    books = output([ORACLE, "books", seed, count], b"").splitlines()
+    wanted = output([ORACLE, "read"], "\n".join(books + [""]).encode()).splitlines()
+    for answer, number in sorted(collections.Counter(wanted).items()):
+        print("%8d %s" % (number, answer))
+    right = report("reading_tests", books, wanted, listed(books))
+    return 0 if report("inspect", books, wanted, [inspected(book) for book in books]) and right else 1
+
+
+if __name__ == "__main__":
+    sys.exit(main())

@@ -1,0 +1,158 @@
+#!/usr/bin/env python3
+"""The vectors of the test program `reading_tests`: for each sample paper and each short book how it must be read.
+
+tools/vectors.py           write the program's stdin (names and bytes), stdout (what it must say) and data/ (the papers)
+tools/vectors.py --check   say whether the files are those
+
+What is expected stands here by hand, after document 01: a number by which a book is refused, or how many goals and clauses it has.
+Document 01's order: for each command 1 (its byte), 2, 1 (its operands), 3, 4, 5; at 45: 7, 8, 6. No bytes have two faults of which
+one is 3 and the other 5, or one is 8 and the other 6: without a clause there are no eight literals, and without a goal no literal.
+"""
+import os
+import sys
+
+ROOT = os.path.dirname(os.path.dirname(os.path.abspath(__file__)))
+FOLDER = os.path.join(ROOT, "crates", "reading_tests")
+
+PAPERS = [
+    ("p1", (3, 4)), ("p2", (1, 1)), ("p2-coinductive", (1, 1)), ("p3", (2, 2)), ("p4", (3, 3)), ("p5", (2, 1)), ("p5-not", (2, 1)),
+    ("p6", (2, 4)), ("p6-one-fact", (2, 2)), ("p7", (2, 4)), ("p8", (2, 2)),
+    ("p9-empty", 1), ("p9-end", 8), ("p9-one-goal", (1, 0)),
+    ("goals-64", (64, 64)), ("goals-65", 5), ("clauses-256", (1, 256)), ("clauses-257", 5), ("literals-8", (9, 9)), ("literals-9", 5),
+    ("largest", (64, 256)),
+]
+
+G = "47 00 "                    # a goal
+C = "43 00 00 00 "              # a clause of variant 0
+P = "50 00 00 00 00 00 "        # the literal 0
+N = "4E 00 00 00 "              # the literal not 0
+P5 = "50 05 00 00 00 00 "       # the literal 5
+END = "45"
+
+VECTORS = [
+    # what is accepted
+    ("one goal", G + END, (1, 0)),
+    ("a goal that is coinductive and floundered", "47 03 " + END, (1, 0)),
+    ("a clause that can't prove, with an outsized answer", G + "43 00 00 03 " + END, (1, 1)),
+    ("the largest variant", G + "43 FF FF 00 " + END, (1, 1)),
+    ("the largest want, outsized", G + C + "50 00 00 FF FF 01 " + END, (1, 1)),
+    ("an outsized not", G + C + "4E 00 00 01 " + END, (1, 1)),
+    ("a literal that names a later goal", G + C + "50 01 00 00 00 00 " + G + END, (2, 1)),
+    ("a literal that names goal 63", G + C + "50 3F 00 00 00 00 " + G * 63 + END, (64, 1)),
+    ("a literal of the last clause, after a goal", G + C + G + P + END, (2, 1)),
+    ("64 goals", G * 64 + END, (64, 0)),
+    ("256 clauses of two goals", G + C * 128 + G + C * 128 + END, (2, 256)),
+    ("8 literals", G + C + (P + N) * 4 + END, (1, 1)),
+    ("8 literals in each of two clauses", G + (C + P * 8) * 2 + END, (1, 2)),
+    ("hex in small letters", "47 00 43 0a 0b 00 4e 00 00 00 45", (1, 1)),
+
+    # each refusal
+    ("no bytes", "", 1),
+    ("a goal without flags", "47", 1),
+    ("no end after a goal", G, 1),
+    ("a clause without flags", G + "43 00 00", 1),
+    ("a literal without flags", G + C + "50 00 00 00 00", 1),
+    ("a not without flags", G + C + "4E 00 00", 1),
+    ("no end after a literal", G + C + P, 1),
+    ("no command 00", "00 " + END, 2),
+    ("no command FF", G + "FF " + END, 2),
+    ("no command 46", G + C + "46 " + END, 2),
+    ("no command 67", "67 00 " + END, 2),
+    ("a clause before a goal", C + END, 3),
+    ("a literal before a goal", P + END, 3),
+    ("a not before a goal", N + END, 3),
+    ("a literal before a clause", G + P + END, 3),
+    ("a not before a clause", G + G + N + END, 3),
+    ("bit 2 of a goal", "47 04 " + END, 4),
+    ("bit 7 of a goal", "47 80 " + END, 4),
+    ("bit 2 of a clause", G + "43 00 00 04 " + END, 4),
+    ("bit 1 of a literal", G + C + "50 00 00 00 00 02 " + END, 4),
+    ("bit 1 of a not", G + C + "4E 00 00 02 " + END, 4),
+    ("65 goals", G * 65 + END, 5),
+    ("257 clauses of two goals", G + C * 128 + G + C * 129 + END, 5),
+    ("9 literals", G + C + P * 9 + END, 5),
+    ("9 literals, the last a not", G + C + P * 8 + N + END, 5),
+    ("9 literals of the last clause, after a goal", G + C + P * 8 + G + P + END, 5),
+    ("a literal that names goal 1 of one goal", G + C + "50 01 00 00 00 00 " + END, 6),
+    ("a not that names goal 1 of one goal", G + C + "4E 01 00 00 " + END, 6),
+    ("a literal that names goal 256", G + C + "50 00 01 00 00 00 " + END, 6),
+    ("a literal that names goal 64 of 64", G + C + "50 40 00 00 00 00 " + G * 63 + END, 6),
+    ("a byte after the end", G + END + " 00", 7),
+    ("an end after the end", G + END + " 45", 7),
+    ("a book after the end", G + END + G + END, 7),
+    # 45 alone is the one book that is refused by 8: before a goal any other command is refused, and after the end any byte is
+    ("the end alone", END, 8),
+    ("the end alone, with space around it", "  45  ", 8),
+
+    # two faults: the first command that has one counts
+    ("4, then 2", "47 04 46", 4),
+    ("2, then 4", "46 47 04 45", 2),
+    ("3, then 7", C + END + " 00", 3),
+    # within a command
+    ("2 before 1, no command, and no end", G + "46", 2),
+    ("1 before 3, a clause cut before a goal", "43 00 00", 1),
+    ("1 before 3, a literal cut before a clause", G + "50 00 00", 1),
+    ("1 before 5, the 65th goal cut", G * 64 + "47", 1),
+    ("1 before 5, the 257th clause cut", G + C * 256 + "43 00 00", 1),
+    ("1 before 5, the 9th literal cut", G + C + P * 8 + "50 00 00 00 00", 1),
+    ("3 before 4, a clause before a goal with bit 2", "43 00 00 04 " + END, 3),
+    ("3 before 4, a literal before a clause with bit 1", G + "50 00 00 00 00 02 " + END, 3),
+    ("3 before 4, a not before a clause with bit 1", G + "4E 00 00 02 " + END, 3),
+    ("4 before 5, the 65th goal with bit 2", G * 64 + "47 04 " + END, 4),
+    ("4 before 5, the 257th clause with bit 2", G + C * 256 + "43 00 00 04 " + END, 4),
+    ("4 before 5, the 9th literal with bit 1", G + C + P * 8 + "50 00 00 00 00 02 " + END, 4),
+    ("4 before 5, the 9th literal, a not, with bit 1", G + C + P * 8 + "4E 00 00 02 " + END, 4),
+    # at the end
+    ("7 before 8, a byte after the end alone", END + " 00", 7),
+    ("7 before 6, a byte after the end, and a literal that names no goal", G + C + P5 + END + " 00", 7),
+    # a literal that names no goal is found at the end alone
+    ("1, not 6, a literal that names no goal, and no end", G + C + P5, 1),
+    ("2, not 6, a literal that names no goal, and no command", G + C + P5 + "46 " + END, 2),
+    ("4, not 6, a literal that names no goal, and bit 2 of a goal", G + C + P5 + "47 04 " + END, 4),
+    ("5, not 6, nine literals that name no goal", G + C + P5 * 9 + END, 5),
+]
+
+
+def said(expected):
+    if isinstance(expected, int):
+        return "refused %d" % expected
+    return "accepted, %d goals, %d clauses" % expected
+
+
+def files():
+    """The program's files with their bytes. It is run in a copy of data/, and a link there is not followed: so the papers stand twice."""
+    out = {}
+    given = "".join(name + ".book\n" for name, _ in PAPERS)
+    wanted = "".join("%s.book: %s\n" % (name, said(e)) for name, e in PAPERS)
+    for name, _ in PAPERS:
+        out["data/%s.book" % name] = open(os.path.join(ROOT, "papers", name + ".book"), "rb").read()
+    for label, text, expected in VECTORS:
+        given += "%s: %s\n" % (label, text)
+        wanted += "%s: %s\n" % (label, said(expected))
+    return dict(out, stdin=given.encode(), stdout=wanted.encode())
+
+
+def same(name, data):
+    path = os.path.join(FOLDER, name)
+    return os.path.exists(path) and open(path, "rb").read() == data
+
+
+def main():
+    wanted = files()
+    if sys.argv[1:] == ["--check"]:
+        wrong = [name for name, data in wanted.items() if not same(name, data)]
+        there = len(PAPERS) + len(VECTORS)
+        print("vectors: %s" % ("not as made: " + " ".join(wrong) if wrong else "%d lines as made" % there))
+        return 1 if wrong else 0
+    if sys.argv[1:]:
+        print(__doc__)
+        return 2
+    os.makedirs(os.path.join(FOLDER, "data"), exist_ok=True)
+    for name, data in wanted.items():
+        with open(os.path.join(FOLDER, name), "wb") as f:
+            f.write(data)
+    return 0
+
+
+if __name__ == "__main__":
+    sys.exit(main())
