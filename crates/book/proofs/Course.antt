@@ -1,6 +1,5 @@
 -- Reading a book: what holds before each command, that each command keeps it, and what it gives where reading stops.
-use Prim.Native.Nat.{ℕ, zero, suc, _+_, _-_, _*_, _/_, _%_, _≤_, _<_}
-use native.Mathlib.Numerals.{add-one}
+use Prim.Native.Nat.{ℕ, zero, suc, _+_, _-_, _/_, _%_, _≤_, _<_}
 use native.Mathlib.Omega.{arith}
 use mathlib.Core.Path.{_≡_, refl, sym, ap, subst, _∙_}
 use mathlib.Core.Bool.{Bool, true, false, not}
@@ -9,34 +8,15 @@ use mathlib.Core.List.{List, [], _∷_, _++_}
 use lib.ListN.{length, getD, drop, replicate, length-replicate}
 use lib.Seq.{getD-drop}
 use lib.Dec.{ltb, leb, eqb, leb·zero}
-use borrow.Author.Tests.{ltb-false, leb-false, eqb-true, eqb-false, eq-eqb, ne-eqb, not-false}
-use Rattle.definitions.specs.Refusal.{Refusable, refused, accepted, Test, _refuses_}
+use borrow.Author.Tests.{ltb-false, leb-false, eqb-true, eqb-false, ne-eqb, not-false}
+use Rattle.definitions.specs.Refusal.{_refuses_}
 use Rattle.definitions.specs.Book as said
-use Rattle.definitions.specs.Book.{
-  Command,
-  goal,
-  clause,
-  positive,
-  negative,
-  end,
-  unknown,
-  command,
-  width,
-  byte,
-  u16,
-  bit0,
-  bit1,
-  Positive,
-  Negative,
-  add-clause,
-  add-literal,
-  read-from,
-}
+use Rattle.definitions.specs.Book.{goal, clause, positive, negative, end, unknown, command, width, byte, u16, bit0, Positive, Negative, add-clause, add-literal, read-from}
 use Rattle.book.specs.declared.Book.{Book}
 use Rattle.book.specs.declared.Reading.{Reading}
 use Rattle.book.specs.declared.decode.Operands.{Operands}
-use Rattle.book.specs.View.{view, signed, Full, Sound, blank, seen-by, Read}
-use Rattle.book.specs.Faults.{fault, marked, counts, command-tests, next-fault, goal-tests, clause-tests, literal-tests, end-tests, largest}
+use Rattle.book.specs.View.{view, signed, Full, Ranged, blank, seen-by, Read}
+use Rattle.book.specs.Faults.{fault, marked, counts, next-fault, literal-tests, end-tests, largest}
 use Rattle.book.specs.Operands.{kind-by, want-by, OperandsAt}
 use Rattle.book.proofs.Tests.{left-over, others, marked-unknown, marked-known}
 use Rattle.book.proofs.Held.{Held}
@@ -58,6 +38,10 @@ negative-literal f g w =
     let n : (f % 2 + 2) / 2 % 2 ≡ 1 = omega arith in
     let o : (f % 2 + 2) % 2 ≡ f % 2 = omega arith in
     ap (λ (k : ℕ). signed (eqb k 1) g w (bit0 (f % 2 + 2))) n ∙ ap (λ (k : ℕ). Negative g (eqb k 1)) o
+
+kind-small : (t : Bool) (f : ℕ) → kind-by t f ≤ 3
+kind-small true f = omega arith
+kind-small false f = omega arith
 
 sign-of : (x : ℕ) (p q : Bool) → eqb x 0x50 ≡ p → eqb x 0x4E ≡ q → (left-over p q ≡ unknown → ⊥) → (x ≡ 0x50) ⊎ (x ≡ 0x4E)
 sign-of x true q ep eq h = inl (eqb-true x 0x50 ep)
@@ -89,9 +73,19 @@ blank-full = record {
   literal-want = length-replicate {A = ℕ} 2048 0;
 }
 
+blank-ranged : Ranged blank
+blank-ranged = record {
+  goal-flags = λ g. omega (arith, zeros-at 64 g);
+  clause-flags = λ c. omega (arith, zeros-at 256 c);
+  variants = λ c. omega (arith, zeros-at 256 c);
+  kinds = λ i. omega (arith, zeros-at 2048 i);
+  wants = λ i. omega (arith, zeros-at 2048 i);
+}
+
 blank-held : Held blank 0 0
 blank-held = record {
   full = blank-full;
+  ranged = blank-ranged;
   few-goals = omega arith;
   few-clauses = omega arith;
   few-literals = λ c. omega (arith, zeros-at 256 c);
@@ -106,15 +100,17 @@ start bs b e = subst (λ (x : Book). SoFar bs x 0 0 0) (sym e) (record { held = 
 
 module _ (bs : List ℕ) (b : Book) (literals named at : ℕ) (s : SoFar bs b literals named at) where
   -- a refusal
-  pub stops : (k : ℕ) (none : Book) → (k ≡ 0 → ⊥) → k ≡ next-fault (drop at bs) (counts (b .goals) (b .clauses) literals named) → none ≡ blank
-      → Read bs (record { number = k; book = none })
-  stops k none n e q = record {
-    means =
-        ap (λ (t : Bool). seen-by t (record { number = k; book = none })) (ne-eqb k 0 n)
-        ∙ sym (turn-refused b literals named (s .held) bs at k n (sym e)) ∙ s .rest;
-    sound = λ z. absurd (n z);
-    bare = λ z. q;
-  }
+  pub stops : (r : Reading) (k : ℕ) → (k ≡ 0 → ⊥) → k ≡ next-fault (drop at bs) (counts (b .goals) (b .clauses) literals named) → r .number ≡ k
+      → r .book ≡ blank → Read bs r
+  stops r k n e q z =
+      let m : r .number ≡ 0 → ⊥ = λ y. n (sym q ∙ y) in
+      record {
+        means =
+            ap (λ (t : Bool). seen-by t r) (ne-eqb (r .number) 0 m)
+            ∙ sym (turn-refused b literals named (s .held) bs at (r .number) m (sym e ∙ sym q)) ∙ s .rest;
+        sound = λ y. absurd (m y);
+        bare = λ y. z;
+      }
 
   module _ (fine : 0 ≡ next-fault (drop at bs) (counts (b .goals) (b .clauses) literals named)) where
     abbrev after : List ℕ
@@ -139,6 +135,12 @@ module _ (bs : List ℕ) (b : Book) (literals named at : ℕ) (s : SoFar bs b li
       passed : fault (end-tests (length after) (b .goals) named) ≡ 0
       passed = tests-passed b literals named (s .held) bs at (sym fine) end (ap command is)
 
+      some-goals : 0 < b .goals
+      some-goals =
+          let p = passes (ltb 0 (length after) refuses 7) (eqb (b .goals) 0 refuses 8 ∷ not (leb named (b .goals)) refuses 6 ∷ []) (omega arith) passed in
+          let q = passes (eqb (b .goals) 0 refuses 8) (not (leb named (b .goals)) refuses 6 ∷ []) (omega arith) (p .1) in
+          omega (arith, eqb-false (b .goals) 0 (q .0))
+
       all-named : leb named (b .goals) ≡ true
       all-named =
           let p = passes (ltb 0 (length after) refuses 7) (eqb (b .goals) 0 refuses 8 ∷ not (leb named (b .goals)) refuses 6 ∷ []) (omega arith) passed in
@@ -152,6 +154,8 @@ module _ (bs : List ℕ) (b : Book) (literals named at : ℕ) (s : SoFar bs b li
             means = sym (turn-end b literals named h bs at (sym fine) end (ap command is) refl) ∙ s .rest;
             sound = λ z. record {
               full = h .full;
+              ranged = h .ranged;
+              some-goal = some-goals;
               few-goals = h .few-goals;
               few-clauses = h .few-clauses;
               few-literals = h .few-literals;
@@ -171,7 +175,13 @@ module _ (bs : List ℕ) (b : Book) (literals named at : ℕ) (s : SoFar bs b li
         let high : byte after (suc k) ≡ byte bs (suc i) = byte-after (suc k) (suc i) (omega arith) in
         omega arith
 
-    module _ (o : Operands) (x : ℕ) (ex : x ≡ byte bs at) (ops : OperandsAt bs at x o) where
+    module _ (o : Operands) (ops : OperandsAt bs at o) where
+      abbrev x : ℕ
+      x = o .command
+
+      ex : x ≡ byte bs at
+      ex = ops .command-is
+
       code : (c : ℕ) → x ≡ c → command (byte bs at) ≡ command c
       code c e = ap command (sym ex ∙ e)
 
@@ -189,12 +199,18 @@ module _ (bs : List ℕ) (b : Book) (literals named at : ℕ) (s : SoFar bs b li
         goal-flags : o .flags ≡ byte after 0
         goal-flags = ops .flags-are ∙ ap (λ (y : ℕ). byte bs (at + marked (command y))) is ∙ sym (byte-after 0 (at + 1) (omega arith))
 
+        goal-known : o .flags ≤ 3
+        goal-known =
+            let t = tests-passed b literals named (s .held) bs at (sym fine) goal (code 0x47 is) in
+            let p = passes (ltb 3 (byte after 0) refuses 4) (leb 64 (b .goals) refuses 5 ∷ []) (omega arith) t in
+            omega (arith, ltb-false 3 (byte after 0) (p .0), goal-flags)
+
         goal-seen : view (with-goal b (o .flags)) ≡ done goal after (view b)
-        goal-seen = goal-view b (o .flags) literals named (s .held) goal-room ∙ ap (λ (f : ℕ). view b ++ (bare-goal f ∷ [])) goal-flags
+        goal-seen = goal-view b (o .flags) literals named (s .held) goal-room goal-known ∙ ap (λ (f : ℕ). view b ++ (bare-goal f ∷ [])) goal-flags
 
         pub goal-again : SoFar bs (with-goal b (o .flags)) literals named (o .next)
         goal-again = record {
-          held = goal-held b (o .flags) literals named (s .held) goal-room;
+          held = goal-held b (o .flags) literals named (s .held) goal-room goal-known;
           rest = turn-on b literals named (s .held) bs at (sym fine) goal (code 0x47 is) refl (with-goal b (o .flags)) goal-seen (o .next)
               (ops .next-is ∙ ap (λ (y : ℕ). at + marked (command y) + 1) is) ∙ s .rest;
         }
@@ -210,22 +226,30 @@ module _ (bs : List ℕ) (b : Book) (literals named at : ℕ) (s : SoFar bs b li
               leb-false 256 (b .clauses) (passes (leb 256 (b .clauses) refuses 5) [] (omega arith) (q .1) .0),
             )
 
+        clause-flags : o .flags ≡ byte after 2
+        clause-flags = ops .flags-are ∙ ap (λ (y : ℕ). byte bs (at + marked (command y))) is ∙ sym (byte-after 2 (at + 3) (omega arith))
+
+        clause-known : o .flags ≤ 3
+        clause-known =
+            let t = tests-passed b literals named (s .held) bs at (sym fine) clause (code 0x43 is) in
+            let p = passes (eqb (b .goals) 0 refuses 3) (ltb 3 (byte after 2) refuses 4 ∷ leb 256 (b .clauses) refuses 5 ∷ []) (omega arith) t in
+            let q = passes (ltb 3 (byte after 2) refuses 4) (leb 256 (b .clauses) refuses 5 ∷ []) (omega arith) (p .1) in
+            omega (arith, ltb-false 3 (byte after 2) (q .0), clause-flags)
+
         module _ (g : ℕ) (last : b .goals ≡ suc g) where
           pub own-clauses : getD (b .«goal_len») g 0 < 256
-          own-clauses = omega (arith, clauses-end b g (o .number) (o .flags) literals named (s .held) last (clause-room .1), clause-room .1)
+          own-clauses = omega (arith, clauses-end b g (o .number) (o .flags) literals named (s .held) last (clause-room .1) (ops .number-fits) clause-known, clause-room .1)
 
           clause-seen : view (with-clause b g (o .number) (o .flags)) ≡ done clause after (view b)
           clause-seen =
               let v : o .number ≡ u16 after 0 = ops .number-is ∙ sym (u16-after 0 (at + 1) (omega arith)) in
-              let f : o .flags ≡ byte after 2 =
-              ops .flags-are ∙ ap (λ (y : ℕ). byte bs (at + marked (command y))) is ∙ sym (byte-after 2 (at + 3) (omega arith)) in
-              clause-view b g (o .number) (o .flags) literals named (s .held) last (clause-room .1)
+              clause-view b g (o .number) (o .flags) literals named (s .held) last (clause-room .1) (ops .number-fits) clause-known
               ∙ ap (λ (n : ℕ). add-clause (bare-clause n (o .flags)) (view b)) v
-              ∙ ap (λ (n : ℕ). add-clause (bare-clause (u16 after 0) n) (view b)) f
+              ∙ ap (λ (n : ℕ). add-clause (bare-clause (u16 after 0) n) (view b)) clause-flags
 
           pub clause-again : SoFar bs (with-clause b g (o .number) (o .flags)) 0 named (o .next)
           clause-again = record {
-            held = clause-held b g (o .number) (o .flags) literals named (s .held) last (clause-room .1);
+            held = clause-held b g (o .number) (o .flags) literals named (s .held) last (clause-room .1) (ops .number-fits) clause-known;
             rest = turn-on b literals named (s .held) bs at (sym fine) clause (code 0x43 is) refl (with-clause b g (o .number) (o .flags)) clause-seen (o .next)
                 (ops .next-is ∙ ap (λ (y : ℕ). at + marked (command y) + 1) is) ∙ s .rest;
           }
@@ -256,6 +280,9 @@ module _ (bs : List ℕ) (b : Book) (literals named at : ℕ) (s : SoFar bs b li
         literal-room = room-of which
 
         module _ (c : ℕ) (last : b .clauses ≡ suc c) where
+          kind-known : o .kind ≤ 3
+          kind-known = omega (arith, ops .kind-is, kind-small (eqb x 0x4E) (byte bs (at + marked (command x))))
+
           abbrev grown : Book
           grown = with-literal b c literals (o .kind) (o .number) (o .want)
 
@@ -263,7 +290,7 @@ module _ (bs : List ℕ) (b : Book) (literals named at : ℕ) (s : SoFar bs b li
           number-after = ops .number-is ∙ sym (u16-after 0 (at + 1) (omega arith))
 
           seen : view grown ≡ add-literal (literal-of (o .kind) (o .number) (o .want)) (view b)
-          seen = literal-view b c literals (o .kind) (o .number) (o .want) named (s .held) last (literal-room .1)
+          seen = literal-view b c literals (o .kind) (o .number) (o .want) named (s .held) last (literal-room .1) kind-known (ops .want-fits)
 
           seen-positive : x ≡ 0x50 → view grown ≡ done positive after (view b)
           seen-positive e =
@@ -297,6 +324,6 @@ module _ (bs : List ℕ) (b : Book) (literals named at : ℕ) (s : SoFar bs b li
 
           pub literal-again : SoFar bs grown (literals + 1) (largest named (o .number + 1)) (o .next)
           literal-again = record {
-            held = literal-held b c literals (o .kind) (o .number) (o .want) named (s .held) last (literal-room .1);
+            held = literal-held b c literals (o .kind) (o .number) (o .want) named (s .held) last (literal-room .1) kind-known (ops .want-fits);
             rest = goes-on which ∙ s .rest;
           }

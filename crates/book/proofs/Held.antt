@@ -8,7 +8,7 @@ use lib.Seq.{getD-set-other}
 use lib.Dec.{leb}
 use Rattle.definitions.specs.Book.{goals-name, clause-count}
 use Rattle.book.specs.declared.Book.{Book}
-use Rattle.book.specs.View.{clauseAt, view, Tiles, Full}
+use Rattle.book.specs.View.{clauseAt, view, Tiles, Full, Ranged}
 use Rattle.book.proofs.Tilings.{tiles-count}
 
 -- Arrays.
@@ -16,12 +16,13 @@ use Rattle.book.proofs.Tilings.{tiles-count}
 pub below : (l : List ℕ) (i j a : ℕ) → j < i → getD (set l i a) j 0 ≡ getD l j 0
 below l i j a h = getD-set-other l i j a 0 (λ e. omega arith)
 
-pub within : (l : List ℕ) (i a m : ℕ) → a ≤ m → ((c : ℕ) → getD l c 0 ≤ m) → (c : ℕ) → getD (set l i a) c 0 ≤ m
-within [] i a m h k c = k c
-within (x ∷ l) zero a m h k zero = h
-within (x ∷ l) zero a m h k (suc c) = k (suc c)
-within (x ∷ l) (suc i) a m h k zero = k zero
-within (x ∷ l) (suc i) a m h k (suc c) = within l i a m h (λ d. k (suc d)) c
+-- what holds of every number holds after a store of one of which it holds
+pub stored : (P : ℕ → Type 0) (l : List ℕ) (i a : ℕ) → P a → ((c : ℕ) → P (getD l c 0)) → (c : ℕ) → P (getD (set l i a) c 0)
+stored P [] i a h k c = k c
+stored P (x ∷ l) zero a h k zero = h
+stored P (x ∷ l) zero a h k (suc c) = k (suc c)
+stored P (x ∷ l) (suc i) a h k zero = k zero
+stored P (x ∷ l) (suc i) a h k (suc c) = stored P l i a h (λ d. k (suc d)) c
 
 -- Goals side by side.
 
@@ -61,6 +62,7 @@ module _ (first len first′ len′ : List ℕ) where
 -- What is in order while a book is read: `literals` are those of the last clause, and `named` the count of goals that holds every goal named.
 pub record Held (b : Book) (literals named : ℕ) : Type 0 where
   pub full : Full b
+  pub ranged : Ranged b
   pub few-goals : b .goals ≤ 64
   pub few-clauses : b .clauses ≤ 256
   pub few-literals : (c : ℕ) → getD (b .«clause_len») c 0 ≤ 8

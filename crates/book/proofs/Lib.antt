@@ -1,4 +1,3 @@
-pub mod Table
 pub mod Tests
 pub mod Spans
 pub mod Names
@@ -11,3 +10,4 @@ pub mod Turns
 pub mod Course
 pub mod Fits
 pub mod Looks
+pub mod Limits

@@ -1,9 +1,9 @@
 -- A sound book by goal, clause and literal: what `access` gives at a place is what the view has there.
-use Prim.Native.Nat.{ℕ, zero, suc, _+_, _*_, _≤_, _<_}
+use Prim.Native.Nat.{ℕ, zero, suc, _+_, _*_, _%_, _≤_, _<_}
 use native.Mathlib.Omega.{arith}
 use mathlib.Core.Path.{_≡_, refl, sym, ap, subst, _∙_}
 use mathlib.Core.Bool.{Bool, true, false}
-use mathlib.Core.List.{List, [], _∷_}
+use mathlib.Core.List.{List}
 use lib.ListN.{length, getD}
 use lib.Dec.{ltb}
 use borrow.Author.Tests.{lt-ltb, ltb-true, ltb-false}
@@ -11,10 +11,10 @@ use Rattle.definitions.specs.Book as said
 use Rattle.definitions.specs.Book.{Clause, Goal, goal-of, literals-name, clauses-name, goals-name, bit0, bit1, clause-count}
 use Rattle.book.specs.declared.Book.{Book}
 use Rattle.book.specs.declared.Literal.{Literal}
-use Rattle.book.specs.View.{span, meant, literalIn, literalAt, clauseAt, goalIn, goalAt, view, Tiles, Sound}
-use Rattle.book.specs.Access.{entry, entry-by, literalOf, literal-by}
+use Rattle.book.specs.View.{span, kept, meant, literalAt, clauseAt, goalIn, goalAt, view, Tiles, Sound}
+use Rattle.book.specs.Access.{entry, entry-by, literalIn, literalOf, literal-by}
 use Rattle.book.proofs.Spans.{span-length, span-getD}
-use Rattle.book.proofs.Names.{and-then}
+use Rattle.book.proofs.Names.{and-left, and-right}
 use Rattle.book.proofs.MoreLiterals.{goal-of-signed}
 use Rattle.book.proofs.Tilings.{tiles-count, tiles-within}
 
@@ -28,14 +28,6 @@ literal-in kind goal want c j h k =
     ∙ ap (λ (t : Bool). literal-by true t (literalIn kind goal want (8 * c + j))) (lt-ltb j 8 k)
 
 -- Names.
-
-and-left : (a b : Bool) → and-then a b ≡ true → a ≡ true
-and-left true b e = refl
-and-left false b e = e
-
-and-right : (a b : Bool) → and-then a b ≡ true → b ≡ true
-and-right true b e = e
-and-right false b e = cc
 
 module _ (n : ℕ) where
   named-literal : (f : ℕ → said.Literal) (s k j : ℕ) → literals-name n (span f s k) ≡ true → j < k → goal-of (f (s + j)) < n
@@ -136,18 +128,28 @@ module _ (b : Book) (s : Sound b) where
         entry-in 256 (b .«clause_len») c (omega (arith, s .few-clauses)) ∙ sym (span-length (literalAt b) (8 * c) (getD (b .«clause_len») c 0))
 
     module _ (j : ℕ) (l : j < getD (b .«clause_len») c 0) where
+      goal-named : getD (b .«literal_goal») (8 * c + j) 0 < b .goals
+      goal-named =
+          let in-clause : literals-name (b .goals) (clauseAt b c .literals) ≡ true =
+          named-tiles (b .goals) (clauseAt b) (b .«goal_flags») (b .«goal_first») (b .«goal_len») (b .goals) 0 0 (b .clauses) c (s .tiles) (s .named) (omega arith) h in
+          let named : goal-of (literalAt b (8 * c + j)) < b .goals = named-literal (b .goals) (literalAt b) (8 * c) (getD (b .«clause_len») c 0) j in-clause l in
+          subst (λ (n : ℕ). n < b .goals)
+          (goal-of-signed (bit1 (getD (b .«literal_kind») (8 * c + j) 0)) (getD (b .«literal_goal») (8 * c + j) 0) (getD (b .«literal_want») (8 * c + j) 0) (bit0 (getD (b .«literal_kind») (8 * c + j) 0))) named
+
+      -- it fits the byte that it is kept in
+      goal-fits : getD (b .«literal_goal») (8 * c + j) 0 % 256 ≡ getD (b .«literal_goal») (8 * c + j) 0
+      goal-fits = omega (arith, goal-named, s .few-goals)
+
+      here : literalOf (b .«literal_kind») (b .«literal_goal») (b .«literal_want») c j ≡ literalIn (b .«literal_kind») (b .«literal_goal») (b .«literal_want») (8 * c + j)
+      here = literal-in (b .«literal_kind») (b .«literal_goal») (b .«literal_want») c j (omega (arith, s .few-clauses)) (omega (arith, s .few-literals c))
+
       pub literal-is : (d : said.Literal) → meant (literalOf (b .«literal_kind») (b .«literal_goal») (b .«literal_want») c j) ≡ getD (clauseAt b c .literals) j d
       literal-is d =
-          ap meant (literal-in (b .«literal_kind») (b .«literal_goal») (b .«literal_want») c j (omega (arith, s .few-clauses)) (omega (arith, s .few-literals c)))
+          ap meant here
+          ∙ ap (λ (n : ℕ). kept (getD (b .«literal_kind») (8 * c + j) 0) n (getD (b .«literal_want») (8 * c + j) 0)) goal-fits
           ∙ sym (span-getD (literalAt b) (8 * c) (getD (b .«clause_len») c 0) j d l)
 
       -- a literal names a goal of the book
       pub literal-names : literalOf (b .«literal_kind») (b .«literal_goal») (b .«literal_want») c j .goal < b .goals
       literal-names =
-          let at = literalIn (b .«literal_kind») (b .«literal_goal») (b .«literal_want») (8 * c + j) in
-          let in-clause : literals-name (b .goals) (clauseAt b c .literals) ≡ true =
-          named-tiles (b .goals) (clauseAt b) (b .«goal_flags») (b .«goal_first») (b .«goal_len») (b .goals) 0 0 (b .clauses) c (s .tiles) (s .named) (omega arith) h in
-          let named : goal-of (meant at) < b .goals = named-literal (b .goals) (literalAt b) (8 * c) (getD (b .«clause_len») c 0) j in-clause l in
-          let here = literal-in (b .«literal_kind») (b .«literal_goal») (b .«literal_want») c j (omega (arith, s .few-clauses)) (omega (arith, s .few-literals c)) in
-          subst (λ (x : Literal). x .goal < b .goals) (sym here)
-          (subst (λ (n : ℕ). n < b .goals) (goal-of-signed (at .negative) (at .goal) (at .want) (at .outsized)) named)
+          subst (λ (x : Literal). x .goal < b .goals) (sym here) (subst (λ (n : ℕ). n < b .goals) (sym goal-fits) goal-named)

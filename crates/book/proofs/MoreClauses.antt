@@ -1,22 +1,19 @@
 -- A clause more: the arrays stay in order, and their view has the clause at the end of its last goal.
-use Prim.Native.Nat.{ℕ, zero, suc, _+_, _*_, _≤_, _<_}
+use Prim.Native.Nat.{ℕ, suc, _+_, _≤_, _<_}
 use native.Mathlib.Numerals.{add-one}
 use native.Mathlib.Omega.{arith}
 use mathlib.Core.Path.{_≡_, refl, sym, ap, subst, _∙_}
-use mathlib.Core.Bool.{Bool, true, false}
 use mathlib.Core.List.{List, [], _∷_, _++_}
-use lib.ListN.{length, getD, set, length-set}
+use lib.ListN.{getD, set, length-set}
 use lib.Seq.{getD-set-same}
-use lib.Dec.{ltb, leb}
 use Rattle.definitions.specs.Book as said
-use Rattle.definitions.specs.Book.{Clause, Goal, goals-name, clause-count, add-clause, add-literal, goal-of, with-clauses, with-literals, bit0, bit1}
+use Rattle.definitions.specs.Book.{Clause, Goal, goals-name, add-clause, with-clauses, bit0, bit1}
 use Rattle.book.specs.declared.Book.{Book}
-use Rattle.book.specs.View.{span, signed, literalAt, clauseOf, clauseAt, goalOf, goalIn, goalAt, view, Tiles, Full}
-use Rattle.book.specs.Faults.{largest}
-use Rattle.book.proofs.Spans.{span-length, span-snoc, span-ext}
-use Rattle.book.proofs.Names.{and-then, names-goal, names-clause, names-literal, names-more}
-use Rattle.book.proofs.Tilings.{add-clause-last, tiles-within, tiles-last, tiles-add}
-use Rattle.book.proofs.Held.{below, within, tiles-goal, tiles-clause, Held, held-count}
+use Rattle.book.specs.View.{span, literalAt, clauseOf, clauseAt, goalOf, goalAt, view, Tiles, Full}
+use Rattle.book.proofs.Spans.{span-snoc, span-ext}
+use Rattle.book.proofs.Names.{names-clause}
+use Rattle.book.proofs.Tilings.{add-clause-last, tiles-within, tiles-last}
+use Rattle.book.proofs.Held.{below, stored, tiles-clause, Held}
 
 abbrev pub with-clause : Book → (g variant flags : ℕ) → Book
 with-clause b g variant flags = record {
@@ -36,7 +33,7 @@ with-clause b g variant flags = record {
 abbrev pub bare-clause : (variant flags : ℕ) → Clause
 bare-clause variant flags = record { variant = variant; cannot-prove = bit0 flags; outsized = bit1 flags; literals = [] }
 
-module _ (b : Book) (g variant flags literals named : ℕ) (h : Held b literals named) (last : b .goals ≡ suc g) (room : b .clauses < 256) where
+module _ (b : Book) (g variant flags literals named : ℕ) (h : Held b literals named) (last : b .goals ≡ suc g) (room : b .clauses < 256) (fits : variant < 65536) (known : flags ≤ 3) where
   abbrev next : Book
   next = with-clause b g variant flags
 
@@ -141,9 +138,18 @@ module _ (b : Book) (g variant flags literals named : ℕ) (h : Held b literals 
   pub clause-held : Held next 0 named
   clause-held = record {
     full = clause-full;
+    ranged =
+        let r = h .ranged in
+        record {
+          goal-flags = r .goal-flags;
+          clause-flags = stored (λ (n : ℕ). n ≤ 3) (b .«clause_flags») (b .clauses) flags known (r .clause-flags);
+          variants = stored (λ (n : ℕ). n < 65536) (b .«clause_variant») (b .clauses) variant fits (r .variants);
+          kinds = r .kinds;
+          wants = r .wants;
+        };
     few-goals = h .few-goals;
     few-clauses = omega arith;
-    few-literals = within (b .«clause_len») (b .clauses) 0 8 (omega arith) (h .few-literals);
+    few-literals = stored (λ (n : ℕ). n ≤ 8) (b .«clause_len») (b .clauses) 0 (omega arith) (h .few-literals);
     tiles = clause-tiles;
     last = λ c e.
         let p : b .clauses ≡ c = omega arith in

@@ -1,22 +1,18 @@
 -- A goal more: the arrays stay in order, and their view has the goal at its end.
-use Prim.Native.Nat.{ℕ, zero, suc, _+_, _*_, _≤_, _<_}
+use Prim.Native.Nat.{ℕ, _+_, _≤_, _<_}
 use native.Mathlib.Numerals.{add-one}
 use native.Mathlib.Omega.{arith}
 use mathlib.Core.Path.{_≡_, refl, sym, ap, subst, _∙_}
-use mathlib.Core.Bool.{Bool, true, false}
-use mathlib.Core.List.{List, [], _∷_, _++_}
-use lib.ListN.{length, getD, set, length-set}
+use mathlib.Core.List.{[], _∷_, _++_}
+use lib.ListN.{getD, set, length-set}
 use lib.Seq.{getD-set-same}
-use lib.Dec.{ltb, leb}
 use Rattle.definitions.specs.Book as said
-use Rattle.definitions.specs.Book.{Clause, Goal, goals-name, clause-count, add-clause, add-literal, goal-of, with-clauses, with-literals, bit0, bit1}
+use Rattle.definitions.specs.Book.{Goal, goals-name, bit0, bit1}
 use Rattle.book.specs.declared.Book.{Book}
-use Rattle.book.specs.View.{span, signed, literalAt, clauseOf, clauseAt, goalOf, goalIn, goalAt, view, Tiles, Full}
-use Rattle.book.specs.Faults.{largest}
-use Rattle.book.proofs.Spans.{span-length, span-snoc, span-ext}
-use Rattle.book.proofs.Names.{and-then, names-goal, names-clause, names-literal, names-more}
-use Rattle.book.proofs.Tilings.{add-clause-last, tiles-within, tiles-last, tiles-add}
-use Rattle.book.proofs.Held.{below, within, tiles-goal, tiles-clause, Held, held-count}
+use Rattle.book.specs.View.{span, clauseAt, goalOf, goalAt, view, Tiles, Full}
+use Rattle.book.proofs.Spans.{span-snoc, span-ext}
+use Rattle.book.proofs.Names.{names-goal}
+use Rattle.book.proofs.Held.{below, stored, tiles-goal, Held}
 
 abbrev pub with-goal : Book → (flags : ℕ) → Book
 with-goal b flags = record {
@@ -36,7 +32,7 @@ with-goal b flags = record {
 abbrev pub bare-goal : (flags : ℕ) → Goal
 bare-goal flags = record { coinductive = bit0 flags; floundered = bit1 flags; clauses = [] }
 
-module _ (b : Book) (flags literals named : ℕ) (h : Held b literals named) (room : b .goals < 64) where
+module _ (b : Book) (flags literals named : ℕ) (h : Held b literals named) (room : b .goals < 64) (known : flags ≤ 3) where
   goal-before : (i : ℕ) → i < b .goals → goalAt (with-goal b flags) i ≡ goalAt b i
   goal-before i l =
       ap (λ (x : ℕ). goalOf (clauseAt b) x (getD (set (b .«goal_first») (b .goals) (b .clauses)) i 0) (getD (set (b .«goal_len») (b .goals) 0) i 0))
@@ -91,6 +87,15 @@ module _ (b : Book) (flags literals named : ℕ) (h : Held b literals named) (ro
   pub goal-held : Held (with-goal b flags) literals named
   goal-held = record {
     full = goal-full;
+    ranged =
+        let r = h .ranged in
+        record {
+          goal-flags = stored (λ (n : ℕ). n ≤ 3) (b .«goal_flags») (b .goals) flags known (r .goal-flags);
+          clause-flags = r .clause-flags;
+          variants = r .variants;
+          kinds = r .kinds;
+          wants = r .wants;
+        };
     few-goals = omega arith;
     few-clauses = h .few-clauses;
     few-literals = h .few-literals;

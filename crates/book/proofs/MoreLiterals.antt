@@ -1,22 +1,22 @@
 -- A literal more: the arrays stay in order, and their view has the literal at the end of its last clause.
-use Prim.Native.Nat.{ℕ, zero, suc, _+_, _*_, _≤_, _<_}
+use Prim.Native.Nat.{ℕ, suc, _+_, _*_, _≤_, _<_}
 use native.Mathlib.Numerals.{add-one}
 use native.Mathlib.Omega.{arith}
 use mathlib.Core.Path.{_≡_, refl, sym, ap, subst, _∙_}
 use mathlib.Core.Bool.{Bool, true, false}
 use mathlib.Core.List.{List, [], _∷_, _++_}
-use lib.ListN.{length, getD, set, length-set}
+use lib.ListN.{getD, set, length-set}
 use lib.Seq.{getD-set-same}
 use lib.Dec.{ltb, leb}
 use Rattle.definitions.specs.Book as said
-use Rattle.definitions.specs.Book.{Clause, Goal, goals-name, clause-count, add-clause, add-literal, goal-of, with-clauses, with-literals, bit0, bit1}
+use Rattle.definitions.specs.Book.{goals-name, clause-count, add-literal, goal-of, with-literals, bit0, bit1}
 use Rattle.book.specs.declared.Book.{Book}
-use Rattle.book.specs.View.{span, signed, literalAt, clauseOf, clauseAt, goalOf, goalIn, goalAt, view, Tiles, Full}
+use Rattle.book.specs.View.{span, signed, literalAt, clauseOf, clauseAt, view, Tiles, Full}
 use Rattle.book.specs.Faults.{largest}
-use Rattle.book.proofs.Spans.{span-length, span-snoc, span-ext}
-use Rattle.book.proofs.Names.{and-then, names-goal, names-clause, names-literal, names-more}
-use Rattle.book.proofs.Tilings.{add-clause-last, tiles-within, tiles-last, tiles-add}
-use Rattle.book.proofs.Held.{below, within, tiles-goal, tiles-clause, Held, held-count}
+use Rattle.book.proofs.Spans.{span-snoc, span-ext}
+use Rattle.book.proofs.Names.{and-then, names-literal, names-more}
+use Rattle.book.proofs.Tilings.{tiles-add}
+use Rattle.book.proofs.Held.{below, stored, Held, held-count}
 
 abbrev pub with-literal : Book → (c j kind goal want : ℕ) → Book
 with-literal b c j kind goal want = record {
@@ -41,7 +41,7 @@ pub goal-of-signed : (t : Bool) (goal want : ℕ) (o : Bool) → goal-of (signed
 goal-of-signed true goal want o = refl
 goal-of-signed false goal want o = refl
 
-module _ (b : Book) (c j kind goal want named : ℕ) (h : Held b j named) (last : b .clauses ≡ suc c) (room : j < 8) where
+module _ (b : Book) (c j kind goal want named : ℕ) (h : Held b j named) (last : b .clauses ≡ suc c) (room : j < 8) (known : kind ≤ 3) (fits : want < 65536) where
   abbrev next : Book
   next = with-literal b c j kind goal want
 
@@ -121,9 +121,18 @@ module _ (b : Book) (c j kind goal want named : ℕ) (h : Held b j named) (last 
   pub literal-held : Held next (j + 1) (largest named (goal + 1))
   literal-held = record {
     full = literal-full;
+    ranged =
+        let r = h .ranged in
+        record {
+          goal-flags = r .goal-flags;
+          clause-flags = r .clause-flags;
+          variants = r .variants;
+          kinds = stored (λ (n : ℕ). n ≤ 3) (b .«literal_kind») (8 * c + j) kind known (r .kinds);
+          wants = stored (λ (n : ℕ). n < 65536) (b .«literal_want») (8 * c + j) want fits (r .wants);
+        };
     few-goals = h .few-goals;
     few-clauses = h .few-clauses;
-    few-literals = within (b .«clause_len») c (j + 1) 8 (omega arith) (h .few-literals);
+    few-literals = stored (λ (n : ℕ). n ≤ 8) (b .«clause_len») c (j + 1) (omega arith) (h .few-literals);
     tiles = h .tiles;
     last = λ d e.
         let p : c ≡ d = omega arith in

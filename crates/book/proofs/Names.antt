@@ -1,28 +1,13 @@
 -- Which goals the literals of a book name, as the book grows: the count of goals that holds all of them.
-use Prim.Native.Nat.{ℕ, zero, suc, _+_, _≤_, _<_}
+use Prim.Native.Nat.{ℕ, zero, suc, _+_, _<_}
 use native.Mathlib.Omega.{arith}
 use mathlib.Core.Path.{_≡_, refl, sym, ap, _∙_}
 use mathlib.Core.Bool.{Bool, true, false}
 use mathlib.Core.List.{List, [], _∷_, _++_}
 use lib.ListN.{length}
 use lib.Dec.{ltb, leb, eqb}
-use borrow.Author.Tests.{lt-ltb, le-ltb, le-leb, lt-leb, eq-eqb, ne-eqb, ltb-true, ltb-false, leb-true, leb-false, eqb-true}
-use Rattle.definitions.specs.Book.{
-  Literal,
-  Clause,
-  Goal,
-  Book,
-  clause-count,
-  add-clause,
-  add-to-last,
-  add-literal,
-  with-clauses,
-  with-literals,
-  goal-of,
-  literals-name,
-  clauses-name,
-  goals-name,
-}
+use borrow.Author.Tests.{le-leb, lt-leb, ltb-true, ltb-false, leb-true, leb-false, eqb-true}
+use Rattle.definitions.specs.Book.{Literal, Clause, Goal, Book, clause-count, add-clause, add-to-last, add-literal, with-clauses, goal-of, literals-name, clauses-name, goals-name}
 use Rattle.book.specs.Faults.{largest, larger-by}
 
 -- both tests are passed, the first asked first
@@ -43,6 +28,14 @@ and-swap false b c = refl
 and-assoc : (a b c : Bool) → and-then (and-then a b) c ≡ and-then a (and-then b c)
 and-assoc true b c = refl
 and-assoc false b c = refl
+
+pub and-left : (a b : Bool) → and-then a b ≡ true → a ≡ true
+and-left true b e = refl
+and-left false b e = e
+
+pub and-right : (a b : Bool) → and-then a b ≡ true → b ≡ true
+and-right true b e = e
+and-right false b e = cc
 
 literals-append : (n : ℕ) (ls : List Literal) (l : Literal) → literals-name n (ls ++ (l ∷ [])) ≡ and-then (literals-name n ls) (ltb (goal-of l) n)
 literals-append n [] l = and-true (ltb (goal-of l) n)

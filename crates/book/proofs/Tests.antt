@@ -1,14 +1,14 @@
 -- The refusals of the command at a place, by what stands there. One lemma for each way out of `next_fault`.
-use Prim.Native.Nat.{ℕ, zero, suc, _+_, _*_, _-_, _≤_, _<_}
+use Prim.Native.Nat.{ℕ, suc, _+_, _*_, _-_, _≤_, _<_}
 use native.Mathlib.Numerals.{add-one}
 use native.Mathlib.Omega.{arith}
 use mathlib.Core.Path.{_≡_, refl, sym, ap, subst, _∙_}
 use mathlib.Core.Bool.{Bool, true, false}
 use mathlib.Core.Logic.{_⊎_, inl, inr}
-use mathlib.Core.List.{List, [], _∷_}
-use lib.ListN.{length, drop, getD, length-drop, drop-of-length-le, List·getD-eq-default}
+use mathlib.Core.List.{List}
+use lib.ListN.{length, drop, length-drop, drop-of-length-le, List·getD-eq-default}
 use lib.Seq.{drop-cons, getD-drop}
-use lib.Dec.{eqb, ltb}
+use lib.Dec.{eqb}
 use borrow.Author.Tests.{lt-ltb, le-ltb, ne-eqb}
 use Rattle.definitions.specs.Book.{Command, goal, clause, positive, negative, end, unknown, command, commands, command-in, width, byte, u16}
 use Rattle.book.specs.Operands.{kind-by, want-by, OperandsAt}
@@ -72,16 +72,19 @@ no-bytes bs i h =
     omega arith
 
 -- the operands, from the calls that take them
-pub operands-are : (bs : List ℕ) (at b v w f k n t : ℕ) → v ≡ marked (command b) → w ≡ v → f ≡ byte bs (at + w) → k ≡ kind-by (eqb b 0x4E) f
-    → n ≡ u16 bs (at + 1) → t ≡ want-by (eqb b 0x50) (u16 bs (at + 3))
-    → OperandsAt bs at b (record { flags = f; kind = k; number = n; want = t; next = at + w + 1 })
-operands-are bs at b v w f k n t ev ew ef ek en et =
+pub operands-are : (bs : List ℕ) (at b v w f k n t : ℕ) → b ≡ byte bs at → v ≡ marked (command b) → w ≡ v → f ≡ byte bs (at + w)
+    → k ≡ kind-by (eqb b 0x4E) f → n < 65536 → t < 65536 → n ≡ u16 bs (at + 1) → t ≡ want-by (eqb b 0x50) (u16 bs (at + 3))
+    → OperandsAt bs at (record { command = b; flags = f; kind = k; number = n; want = t; next = at + w + 1 })
+operands-are bs at b v w f k n t eb ev ew ef ek ln lt en et =
     let e : w ≡ marked (command b) = ew ∙ ev in
     let g : f ≡ byte bs (at + marked (command b)) = ef ∙ ap (λ (i : ℕ). byte bs (at + i)) e in
     record {
+      command-is = eb;
       flags-are = g;
       kind-is = ek ∙ ap (kind-by (eqb b 0x4E)) g;
+      number-fits = ln;
       number-is = en;
+      want-fits = lt;
       want-is = et;
       next-is = ap (λ (i : ℕ). at + i + 1) e;
     }

@@ -1,12 +1,12 @@
 -- Goals whose clauses lie side by side: how many clauses there are, where the last clause is, and what one more literal does to it.
 use Prim.Native.Nat.{ℕ, zero, suc, _+_, _≤_, _<_}
 use native.Mathlib.Omega.{arith}
-use mathlib.Core.Path.{_≡_, refl, sym, ap, subst, _∙_}
+use mathlib.Core.Path.{_≡_, refl, ap, subst, _∙_}
 use mathlib.Core.Bool.{Bool, true, false}
 use mathlib.Core.List.{List, [], _∷_, _++_}
 use lib.ListN.{length, getD}
 use lib.Dec.{eqb}
-use borrow.Author.Tests.{eq-eqb, ne-eqb, eqb-true, eqb-false}
+use borrow.Author.Tests.{eq-eqb, eqb-true, eqb-false}
 use Rattle.definitions.specs.Book.{
   Literal,
   Clause,
@@ -21,8 +21,8 @@ use Rattle.definitions.specs.Book.{
   last-literals,
   literals-so-far,
 }
-use Rattle.book.specs.View.{span, goalOf, goalIn, Tiles}
-use Rattle.book.proofs.Spans.{span-length, span-ext, span-snoc}
+use Rattle.book.specs.View.{span, goalIn, Tiles}
+use Rattle.book.proofs.Spans.{span-length, span-ext}
 
 -- a clause is added to the last goal
 pub add-clause-last : (c : Clause) (gs : Book) (g : Goal) → add-clause c (gs ++ (g ∷ [])) ≡ gs ++ (with-clauses g (g .clauses ++ (c ∷ [])) ∷ [])

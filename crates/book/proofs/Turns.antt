@@ -1,41 +1,16 @@
 -- One command of a book's bytes: refused with its number, or done, and the reading goes on behind it.
 use Prim.Native.Nat.{ℕ, zero, suc, _+_, _*_, _≤_, _<_}
-use native.Mathlib.Numerals.{add-one}
 use native.Mathlib.Omega.{arith}
 use mathlib.Core.Path.{_≡_, refl, sym, ap, subst, _∙_}
 use mathlib.Core.Bool.{Bool, true, false, not}
 use mathlib.Core.List.{List, [], _∷_, _++_}
 use lib.ListN.{length, getD, drop, drop-of-length-le, length-drop}
-use lib.Seq.{drop-cons, drop-drop, getD-drop}
-use lib.Dec.{ltb, leb, eqb}
+use lib.Seq.{drop-cons, drop-drop}
+use lib.Dec.{ltb, eqb}
 use borrow.Author.Tests.{ltb-false}
 use Rattle.definitions.specs.Refusal.{Refusable, refused, accepted, Test, _refuses_, unless}
 use Rattle.definitions.specs.Book as said
-use Rattle.definitions.specs.Book.{
-  Command,
-  goal,
-  clause,
-  positive,
-  negative,
-  end,
-  unknown,
-  command,
-  width,
-  byte,
-  u16,
-  bit0,
-  Positive,
-  Negative,
-  add-clause,
-  add-literal,
-  clause-count,
-  literals-so-far,
-  goals-name,
-  apply-command,
-  whole-command,
-  is-end,
-  read-from,
-}
+use Rattle.definitions.specs.Book.{Command, goal, clause, positive, negative, end, unknown, command, width, byte, u16, bit0, Positive, Negative, add-clause, add-literal, clause-count, literals-so-far, apply-command, whole-command, is-end, read-from}
 use Rattle.book.specs.declared.Book.{Book}
 use Rattle.book.specs.View.{clauseAt, literalAt, goalAt, view, Tiles}
 use Rattle.book.specs.Faults.{fault, Counts, counts, command-tests, whole-tests, next-fault, end-tests, literal-tests, goal-tests, clause-tests}

@@ -1,11 +1,10 @@
 -- What stands at a place of a book's arrays, for any place: past an array's size there is nothing.
-use Prim.Native.Nat.{ℕ, _+_, _*_}
+use Prim.Native.Nat.{ℕ, _+_, _*_, _%_}
 use mathlib.Core.Bool.{Bool, true, false}
 use mathlib.Core.List.{List}
 use lib.ListN.{getD}
 use lib.Dec.{ltb}
 use Rattle.book.specs.declared.Literal.{Literal}
-use Rattle.book.specs.View.{literalIn}
 
 abbrev pub entry-by : Bool → ℕ → ℕ
 entry-by true x = x
@@ -16,12 +15,16 @@ abbrev pub entry : (size : ℕ) → List ℕ → ℕ → ℕ
 entry size l i = entry-by (ltb i size) (getD l i 0)
 
 abbrev pub noLiteral : Literal
-noLiteral = record { goal = 0; want = 0; negative = false; outsized = false }
+noLiteral = record { goal = 0; kind = 0; want = 0 }
 
 abbrev pub literal-by : Bool → Bool → Literal → Literal
 literal-by true true l = l
 literal-by true false l = noLiteral
 literal-by false b l = noLiteral
+
+-- the literal at a place; a goal is kept in a byte
+abbrev pub literalIn : (kind goal want : List ℕ) → ℕ → Literal
+literalIn kind goal want i = record { goal = getD goal i 0 % 256; kind = getD kind i 0; want = getD want i 0 }
 
 -- literal j of clause c
 abbrev pub literalOf : (kind goal want : List ℕ) → (c j : ℕ) → Literal

@@ -1,10 +1,10 @@
 -- What the arrays of a book mean: the book of the definitions that they hold, and the soundness that reading gives and every use keeps.
 use Prim.Native.Nat.{ℕ, zero, suc, _+_, _*_, _≤_, _<_}
 use mathlib.Core.Path.{_≡_}
-use mathlib.Core.Bool.{Bool, true, false, _&&_}
+use mathlib.Core.Bool.{Bool, true, false}
 use mathlib.Core.List.{List, [], _∷_}
 use lib.ListN.{length, getD, replicate}
-use lib.Dec.{eqb, ltb}
+use lib.Dec.{eqb}
 use Rattle.definitions.specs.Refusal.{Refusable, refused, accepted}
 use Rattle.definitions.specs.Book as said
 use Rattle.book.specs.declared.Book.{Book}
@@ -22,20 +22,16 @@ abbrev pub signed : (negative : Bool) → (goal want : ℕ) → (outsized : Bool
 signed true goal want outsized = said.Negative goal outsized
 signed false goal want outsized = said.Positive goal want outsized
 
+-- a literal by the numbers that a book keeps of it
+abbrev pub kept : (kind goal want : ℕ) → said.Literal
+kept kind goal want = signed (said.bit1 kind) goal want (said.bit0 kind)
+
 abbrev pub meant : Literal → said.Literal
-meant l = signed (l .negative) (l .goal) (l .want) (l .outsized)
+meant l = kept (l .kind) (l .goal) (l .want)
 
 -- the literal at a place of the arrays
-abbrev pub literalIn : (kind goal want : List ℕ) → ℕ → Literal
-literalIn kind goal want i = record {
-  goal = getD goal i 0;
-  want = getD want i 0;
-  negative = said.bit1 (getD kind i 0);
-  outsized = said.bit0 (getD kind i 0);
-}
-
 abbrev pub literalAt : Book → ℕ → said.Literal
-literalAt b i = meant (literalIn (b .«literal_kind») (b .«literal_goal») (b .«literal_want») i)
+literalAt b i = kept (getD (b .«literal_kind») i 0) (getD (b .«literal_goal») i 0) (getD (b .«literal_want») i 0)
 
 abbrev pub clauseOf : (ℕ → said.Literal) → (c variant flags len : ℕ) → said.Clause
 clauseOf literal c variant flags len = record {
@@ -83,8 +79,18 @@ pub record Full (b : Book) : Type 0 where
   pub literal-goal : length (b .«literal_goal») ≡ 2048
   pub literal-want : length (b .«literal_want») ≡ 2048
 
+-- its numbers are those that the bytes can say
+pub record Ranged (b : Book) : Type 0 where
+  pub goal-flags : (g : ℕ) → getD (b .«goal_flags») g 0 ≤ 3
+  pub clause-flags : (c : ℕ) → getD (b .«clause_flags») c 0 ≤ 3
+  pub variants : (c : ℕ) → getD (b .«clause_variant») c 0 < 65536
+  pub kinds : (i : ℕ) → getD (b .«literal_kind») i 0 ≤ 3
+  pub wants : (i : ℕ) → getD (b .«literal_want») i 0 < 65536
+
 pub record Sound (b : Book) : Type 0 where
   pub full : Full b
+  pub ranged : Ranged b
+  pub some-goal : 0 < b .goals
   pub few-goals : b .goals ≤ 64
   pub few-clauses : b .clauses ≤ 256
   pub few-literals : (c : ℕ) → getD (b .«clause_len») c 0 ≤ 8

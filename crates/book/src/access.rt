@@ -88,25 +88,28 @@ pub fn literal_at(
     if clause >= 256 {
         return Literal {
             goal: 0,
+            kind: 0,
             want: 0,
-            negative: false,
-            outsized: false,
         };
     }
     if at >= 8 {
         return Literal {
             goal: 0,
+            kind: 0,
             want: 0,
-            negative: false,
-            outsized: false,
         };
     }
     let place = 8 * clause + at;
-    let k = kind[place];
     Literal {
-        goal: goal[place],
+        goal: (goal[place] % 256) as u8,
+        kind: kind[place],
         want: want[place],
-        negative: k / 2 % 2 == 1,
-        outsized: k % 2 == 1,
     }
+}
+
+// The literal is a "not".
+pub fn is_negative(l: Literal) -> bool
+    ensures { λ r. ⌜ r ≡ bit1 (l .kind) ⌝ }
+{
+    l.kind / 2 % 2 == 1
 }

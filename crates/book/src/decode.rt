@@ -12,7 +12,8 @@ ghost use Rattle.book.specs.Operands.{kind-by, want-by, OperandsAt};
 
 // What a command says, whichever of these it has: a literal's kind is as a book keeps it, `number` a clause's variant or a literal's
 // goal, and `next` the place of the next command.
-pub struct Operands {
+pub(crate) struct Operands {
+    pub command: u8,
     pub flags: u8,
     pub kind: u8,
     pub number: u16,
@@ -21,7 +22,7 @@ pub struct Operands {
 }
 
 // The byte at a place, and 0 past the end.
-pub fn byte(bytes: &[u8], i: usize) -> u8
+pub(crate) fn byte(bytes: &[u8], i: usize) -> u8
     ensures { λ r. ⌜ r ≡ byteAt (now (bytes .entry)) i ⌝ }
 {
     if i < bytes.len() { bytes[i] } else { 0 }
@@ -71,13 +72,15 @@ fn want_at(bytes: &[u8], at: usize, b: u8) -> u16
     0
 }
 
-pub fn operands_at(bytes: &[u8], at: usize, b: u8) -> Operands
-    requires { ⌜ at + marked (command b) < length (now bytes) ⌝ }
-    ensures { λ r. ⌜ OperandsAt (now (bytes .entry)) at b r ⌝ }
+pub(crate) fn operands_at(bytes: &[u8], at: usize) -> Operands
+    requires { ⌜ at + marked (command (byteAt (now bytes) at)) < length (now bytes) ⌝ }
+    ensures { λ r. ⌜ OperandsAt (now (bytes .entry)) at r ⌝ }
 {
+    let b = byte(bytes, at);
     let last = at + wide(width(b));
     let flags = byte(bytes, last);
     Operands {
+        command: b,
         flags,
         kind: kind_of(b, flags),
         number: u16_at(bytes, at + 1),

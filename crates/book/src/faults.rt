@@ -68,7 +68,7 @@ fn end_fault(left: usize, goals: usize, named: usize) -> u8
 }
 
 // The number of the first refusal that the command at a place meets, and 0 where it meets none.
-pub fn next_fault(
+pub(crate) fn next_fault(
     bytes: &[u8],
     at: usize,
     goals: usize,

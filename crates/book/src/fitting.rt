@@ -2,6 +2,7 @@
 // they are calls into chalk-ir and chalk-solve.
 use crate::Literal;
 use crate::Subst;
+use crate::access::is_negative;
 ghost use mathlib.Core.Path.{_≡_};
 ghost use Rattle.definitions.specs.Fitting.{gets-table, answer-fits, is-trivial, is-outsized};
 ghost use Rattle.book.specs.View.{meant};
@@ -11,14 +12,14 @@ ghost use Rattle.book.specs.Fitting.{subst-of};
 pub fn gets_table(l: Literal) -> bool
     ensures { λ r. ⌜ r ≡ gets-table (meant l) ⌝ }
 {
-    !l.outsized
+    l.kind % 2 != 1
 }
 
 // Does an answer of this variant fit the literal? (resolvent.rs `apply_answer_subst`)
 pub fn answer_fits(l: Literal, variant: u16) -> bool
     ensures { λ r. ⌜ r ≡ answer-fits (meant l) variant ⌝ }
 {
-    if l.negative {
+    if is_negative(l) {
         return true;
     }
     if l.want == 0 {

@@ -25,11 +25,11 @@ pub struct Book {
     pub literal_want: [u16; 2048],
 }
 
+// A literal by value, in four bytes, so that a strand with its literals stays small. A book's goals are below 64.
 pub struct Literal {
-    pub goal: u16,
+    pub goal: u8,
+    pub kind: u8,
     pub want: u16,
-    pub negative: bool,
-    pub outsized: bool,
 }
 
 // What reading gives: number 0 and the book, or the number of a refusal and a blank book.

@@ -1,7 +1,6 @@
 // Reading a book: each command is tested against document 01's refusals, in its order, and then done.
 use crate::Book;
 use crate::Reading;
-use crate::decode::byte;
 use crate::decode::operands_at;
 use crate::faults::next_fault;
 use crate::widths::CLAUSE;
@@ -35,8 +34,17 @@ fn larger(a: usize, b: usize) -> usize
     if a < b { b } else { a }
 }
 
-// The book that the bytes say, or the number by which they are refused. `literals` are those of the last clause, and `named` is the
-// least count of goals that holds every goal named so far, so that the end command need not look at the literals again.
+fn refused(number: u8) -> Reading
+    ensures { λ r. ⌜ (r .number ≡ number) × (r .book ≡ blankBook) ⌝ }
+{
+    let book = blank();
+    Reading { number, book }
+}
+
+// The book that the bytes say, or the number by which they are refused. `Read` says that the result means what the definitions'
+// `read` gives, that an accepted book is sound, and that with a refusal the book is blank. `literals` are those of the last clause,
+// and `named` is the least count of goals that holds every goal named so far, so that the end command need not look at the literals
+// again.
 pub fn read(bytes: &[u8]) -> Reading
     ensures { λ r. ⌜ Read (now (bytes .entry)) r ⌝ }
 {
@@ -49,39 +57,32 @@ pub fn read(bytes: &[u8]) -> Reading
         let clauses = book.clauses;
         let fault = next_fault(bytes, at, goals, clauses, literals, named);
         if fault != 0 {
-            let none = blank();
-            return Reading {
-                number: fault,
-                book: none,
-            };
+            return refused(fault);
         }
-        let b = byte(bytes, at);
-        if b == END {
+        let o = operands_at(bytes, at);
+        if o.command == END {
             return Reading { number: 0, book };
         }
-        let o = operands_at(bytes, at, b);
         at = o.next;
-        if b == GOAL {
+        if o.command == GOAL {
             book.goal_flags[goals] = o.flags;
             book.goal_first[goals] = clauses as u16;
             book.goal_len[goals] = 0;
             book.goals = goals + 1;
-        } else if b == CLAUSE {
-            let g = goals - 1;
-            book.goal_len[g] = book.goal_len[g] + 1;
+        } else if o.command == CLAUSE {
+            book.goal_len[goals - 1] = book.goal_len[goals - 1] + 1;
             book.clause_variant[clauses] = o.number;
             book.clause_flags[clauses] = o.flags;
             book.clause_len[clauses] = 0;
             book.clauses = clauses + 1;
             literals = 0;
         } else {
-            let c = clauses - 1;
-            let place = 8 * c + literals;
+            let place = 8 * (clauses - 1) + literals;
             book.literal_kind[place] = o.kind;
             book.literal_goal[place] = o.number;
             book.literal_want[place] = o.want;
             literals = literals + 1;
-            book.clause_len[c] = literals as u8;
+            book.clause_len[clauses - 1] = literals as u8;
             named = larger(named, o.number as usize + 1);
         }
     }

@@ -1,1 +1,4 @@
 pub mod Plain
+pub mod Link
+pub mod Demand
+pub mod Consequences

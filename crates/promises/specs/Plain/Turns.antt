@@ -339,7 +339,7 @@ none-taken c pre (x ∷ xs) p t m o = go (decLt (x .time) c) p (none-taken c (pr
     go (no l) e k (inl i) = l (subst (λ z. z .time < c) i o)
     go (no l) e k (inr i) = k e t i o
 
-put-length : (q : Queues) (g u : ℕ) (r : List Strand) → suc (length r) ≡ length (q g) → length (put q g r u) + pick (ℕ-discrete g u) 1 0 ≤ length (q u)
+pub put-length : (q : Queues) (g u : ℕ) (r : List Strand) → suc (length r) ≡ length (q g) → length (put q g r u) + pick (ℕ-discrete g u) 1 0 ≤ length (q u)
 put-length q g u r n = go (ℕ-discrete g u)
   where
     go : (d : Dec (g ≡ u)) → length (pick d r (q u)) + pick d 1 0 ≤ length (q u)

@@ -119,16 +119,16 @@ begin-ok S f g i n (yes o) rest a =
 begin-ok S f g i n (no o) rest a = record { rest = rest; says = tt; falls = omega arith }
 
 -- a search at index 1, where the answer is stored: nothing is left to do
-no-member : (q : List Strand) → ((s : Strand) → List·Memᴰ s q → ⊥) → q ≡ []
+pub no-member : (q : List Strand) → ((s : Strand) → List·Memᴰ s q → ⊥) → q ≡ []
 no-member [] h = refl
 no-member (x ∷ xs) h = absurd (h x (List·Memᴰ·head refl))
 
-turn-stored : (S : Setting) (f : Forest) (g c : ℕ) → f .queue g ≡ [] → turn (S .limits) f (newEntry (S .limits) g c) [] ≡ stop noMore f
+pub turn-stored : (S : Setting) (f : Forest) (g c : ℕ) → f .queue g ≡ [] → turn (S .limits) f (newEntry (S .limits) g c) [] ≡ stop noMore f
 turn-stored S f g c p =
     let e = newEntry (S .limits) g c in
     ap (λ z. taking (S .limits) (takeFrom c [] z) f e []) p ∙ ap (λ z. idle (S .limits) z f e []) p
 
-run-stored : (S : Setting) (f : Forest) (g c n : ℕ) → f .queue g ≡ [] → (run (S .limits) n f (newEntry (S .limits) g c) [] ≡ (cut, f)) ⊎ (run (S .limits) n f (newEntry (S .limits) g c) [] ≡ (noMore, f))
+pub run-stored : (S : Setting) (f : Forest) (g c n : ℕ) → f .queue g ≡ [] → (run (S .limits) n f (newEntry (S .limits) g c) [] ≡ (cut, f)) ⊎ (run (S .limits) n f (newEntry (S .limits) g c) [] ≡ (noMore, f))
 run-stored S f g c zero p = inl refl
 run-stored S f g c (suc n) p = inr (ap (λ z. follow (S .limits) z (run (S .limits) n)) (turn-stored S f g c p))
 

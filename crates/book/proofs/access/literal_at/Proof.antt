@@ -3,34 +3,50 @@ use borrow.Author.Tests.{lt-ltb, le-ltb}
 use borrow.Author.Needs.{needs}
 use Rattle.book.proofs.access.literal_at.Statement.{statement}
 use Rattle.book.proofs.access.literal_at.Tie as tie
+use Rattle.book.proofs.access.literal_at.Reads as reads
+use Rattle.book.proofs.access.literal_at.Lts as lts
 
+-- src/access.rt:89:9
 returns : tie.Need-returns
 returns c = simp (le-ltb _ _ (c .if1 .taken))
 
+-- src/access.rt:96:9
 returns-2 : tie.Need-returns-2
 returns-2 c = simp (lt-ltb _ _ (c .before .if1 .left), le-ltb _ _ (c .if2 .taken))
 
+-- src/access.rt:102:17
 mul-place : tie.Need-mul-place
 mul-place c = search needs
 
+-- src/access.rt:102:17
 add-place : tie.Need-add-place
 add-place c = search needs
 
-element-copy-out-k : tie.Need-element-copy-out-k
-element-copy-out-k c = search needs
+-- src/access.rt:104:16
+mul-t8 : tie.Need-mul-t8
+mul-t8 c = search needs
 
-mul-t9 : tie.Need-mul-t9
-mul-t9 c = search needs
+-- src/access.rt:104:16
+element-copy-out-t11 : tie.Need-element-copy-out-t11
+element-copy-out-t11 c = search needs
 
-element-copy-out-t15 : tie.Need-element-copy-out-t15
-element-copy-out-t15 c = search needs
+-- src/access.rt:104:15
+cast-t13 : tie.Need-cast-t13
+cast-t13 c = search needs
 
-mul-t16 : tie.Need-mul-t16
-mul-t16 c = search needs
+-- src/access.rt:105:15
+element-copy-out-t16 : tie.Need-element-copy-out-t16
+element-copy-out-t16 c = search needs
 
-element-copy-out-t19 : tie.Need-element-copy-out-t19
-element-copy-out-t19 c = search needs
+-- src/access.rt:106:15
+mul-t17 : tie.Need-mul-t17
+mul-t17 c = search needs
 
+-- src/access.rt:106:15
+element-copy-out-t20 : tie.Need-element-copy-out-t20
+element-copy-out-t20 c = search needs
+
+-- src/access.rt:79:1
 returns-3 : tie.Need-returns-3
 returns-3 c =
     let e = c .before .before .before in
@@ -44,9 +60,10 @@ literal-at-spec =
     returns-2
     mul-place
     add-place
-    element-copy-out-k
-    mul-t9
-    element-copy-out-t15
-    mul-t16
-    element-copy-out-t19
+    mul-t8
+    element-copy-out-t11
+    cast-t13
+    element-copy-out-t16
+    mul-t17
+    element-copy-out-t20
     returns-3)

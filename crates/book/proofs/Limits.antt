@@ -1,0 +1,71 @@
+-- A sound book is within the limits of the definitions, so that it can be written, and what is written is read back.
+use Prim.Native.Nat.{ℕ, zero, suc, _*_, _≤_, _<_}
+use native.Mathlib.Omega.{arith}
+use mathlib.Core.Path.{_≡_, sym, subst}
+use mathlib.Core.Bool.{Bool, true, false}
+use lib.ListN.{getD}
+use lib.Dec.{ltb}
+use borrow.Author.Tests.{ltb-true}
+use Rattle.definitions.specs.Book as said
+use Rattle.definitions.specs.Book.{
+  bit0,
+  bit1,
+  goal-of,
+  literals-name,
+  clauses-name,
+  goals-name,
+  LiteralWithin,
+  LiteralsWithin,
+  ClausesWithin,
+  GoalsWithin,
+  Within,
+}
+use Rattle.book.specs.declared.Book.{Book}
+use Rattle.book.specs.View.{span, signed, literalAt, clauseAt, goalAt, view, Sound}
+use Rattle.book.proofs.Spans.{span-length}
+use Rattle.book.proofs.Names.{and-left, and-right}
+use Rattle.book.proofs.Looks.{goals-are, clauses-are}
+
+signed-within : (n : ℕ) (t : Bool) (goal want : ℕ) (o : Bool) → want < 65536 → goal-of (signed t goal want o) < n → LiteralWithin n (signed t goal want o)
+signed-within n true goal want o w h = h
+signed-within n false goal want o w h = (h, w)
+
+module _ (b : Book) (s : Sound b) (n : ℕ) where
+  literals-within : (i k : ℕ) → literals-name n (span (literalAt b) i k) ≡ true → LiteralsWithin n (span (literalAt b) i k)
+  literals-within i zero e = tt
+  literals-within i (suc k) e =
+      let first = ltb (goal-of (literalAt b i)) n in
+      let rest = literals-name n (span (literalAt b) (suc i) k) in (
+        signed-within n (bit1 (getD (b .«literal_kind») i 0)) (getD (b .«literal_goal») i 0) (getD (b .«literal_want») i 0) (bit0 (getD (b .«literal_kind») i 0)) (s .ranged .wants i) (ltb-true (goal-of (literalAt b i)) n (and-left first rest e)),
+        literals-within (suc i) k (and-right first rest e),
+      )
+
+  clauses-within : (c k : ℕ) → clauses-name n (span (clauseAt b) c k) ≡ true → ClausesWithin n (span (clauseAt b) c k)
+  clauses-within c zero e = tt
+  clauses-within c (suc k) e =
+      let first = literals-name n (clauseAt b c .literals) in
+      let rest = clauses-name n (span (clauseAt b) (suc c) k) in (
+        record {
+          variant-fits = s .ranged .variants c;
+          few-literals = subst (λ (m : ℕ). m ≤ 8) (sym (span-length (literalAt b) (8 * c) (getD (b .«clause_len») c 0))) (s .few-literals c);
+          literals-fit = literals-within (8 * c) (getD (b .«clause_len») c 0) (and-left first rest e);
+        },
+        clauses-within (suc c) k (and-right first rest e),
+      )
+
+  goals-within : (g k : ℕ) → goals-name n (span (goalAt b) g k) ≡ true → GoalsWithin n (span (goalAt b) g k)
+  goals-within g zero e = tt
+  goals-within g (suc k) e =
+      let first = clauses-name n (goalAt b g .clauses) in
+      let rest = goals-name n (span (goalAt b) (suc g) k) in (
+        clauses-within (getD (b .«goal_first») g 0) (getD (b .«goal_len») g 0) (and-left first rest e),
+        goals-within (suc g) k (and-right first rest e),
+      )
+
+pub sound-within : (b : Book) → Sound b → Within (view b)
+sound-within b s = record {
+  some-goal = omega (arith, s .some-goal, goals-are b s);
+  few-goals = omega (arith, s .few-goals, goals-are b s);
+  few-clauses = omega (arith, s .few-clauses, clauses-are b s);
+  clauses-fit = subst (λ (n : ℕ). GoalsWithin n (view b)) (sym (goals-are b s)) (goals-within b s (b .goals) 0 (b .goals) (s .named));
+}

@@ -1,0 +1,208 @@
+-- What the proofs of the loops over literals, clauses and goals cite: what is left to say, put down from where the pen is, is the same at
+-- each turn. Assumes nothing.
+use Prim.Native.Nat.{ℕ, zero, suc, _+_, _-_, _*_, _<_, _≤_}
+use native.Mathlib.Omega.{arith}
+use mathlib.Core.Bool.{Bool}
+use mathlib.Core.Path.{_≡_, sym, ap, _∙_}
+use mathlib.Core.List.{List, [], _∷_, _++_}
+use lib.ListN.{getD}
+use borrow.Author.Tests.{eq-eqb, ne-eqb}
+use Rattle.definitions.specs.Ascii.{ascii}
+use Rattle.definitions.specs.Refusal.{Refusable}
+use Rattle.definitions.specs.Book as Said
+use Rattle.definitions.specs.Book.{Literal, Clause, Goal, bit0, bit1}
+use Rattle.pen.specs.Pen.{Pen, put, put-all}
+use Rattle.pen.proofs.Putting.{put-two, put-one, put-nothing, put-all-append}
+use Rattle.book.specs.declared.Book.{Book}
+use Rattle.book.specs.declared.Reading.{Reading}
+use Rattle.book.specs.View.{Sound, Tiles, span, clauseOf, view, seen, seen-by}
+use Rattle.inspect.specs.Words.{before, literal-words, body-words, head-words, clause-words, clauses-words, goal-line, goal-words, goals-words, refusal-words, reading-words}
+
+-- one place less
+one-less : (n k : ℕ) → k < n → n - k ≡ suc (n - (k + 1))
+one-less n k h = omega arith
+
+none-left : (n k : ℕ) → n ≤ k → n - k ≡ 0
+none-left n k h = omega arith
+
+module _ {A : Type 0} (f : ℕ → A) where
+  -- f from a place on, k places in, of n
+  abbrev pub from : (s n k : ℕ) → List A
+  from s n k = span f (s + k) (n - k)
+
+  from-next : (s n k : ℕ) → k < n → from s n k ≡ f (s + k) ∷ from s n (k + 1)
+  from-next s n k h =
+      ap (span f (s + k)) (one-less n k h) ∙ ap (λ (t : ℕ). f (s + k) ∷ span f t (n - (k + 1))) (next-place s k)
+    where
+      next-place : (s k : ℕ) → suc (s + k) ≡ s + (k + 1)
+      next-place s k = omega arith
+
+  from-end : (s n k : ℕ) → n ≤ k → from s n k ≡ []
+  from-end s n k h = ap (span f (s + k)) (none-left n k h)
+
+  from-start : (s n : ℕ) → from s n 0 ≡ span f s n
+  from-start s n = ap (λ (t : ℕ). span f t (n - 0)) (start s) ∙ ap (span f s) (whole n)
+    where
+      start : (s : ℕ) → s + 0 ≡ s
+      start s = omega arith
+
+      whole : (n : ℕ) → n - 0 ≡ n
+      whole n = omega arith
+
+-- a text, then another, and what is left
+put-three : (a b d : List ℕ) (p q r : Pen) → q ≡ put-all a p → r ≡ put-all b q → put-all d r ≡ put-all (a ++ (b ++ d)) p
+put-three a b d p q r e f =
+    ap (put-all d) (f ∙ ap (put-all b) e) ∙ sym (put-all-append b d (put-all a p)) ∙ sym (put-all-append a (b ++ d) p)
+
+-- a text, and what is left; and nothing left
+left-over : (a d : List ℕ) (p q : Pen) → q ≡ put-all a p → put-all d q ≡ put-all (a ++ d) p
+left-over a d p q e = ap (put-all d) e ∙ sym (put-all-append a d p)
+
+all-said : (a d : List ℕ) (p q : Pen) → a ≡ [] → put-all a q ≡ put-all d p → q ≡ put-all d p
+all-said a d p q e f = sym (put-nothing q) ∙ ap (λ (w : List ℕ). put-all w q) (sym e) ∙ f
+
+-- Literals.
+
+abbrev pub literals-left : (ℕ → Literal) → (s n j : ℕ) → List ℕ
+literals-left f s n j = body-words j (from f s n j)
+
+body-next : (f : ℕ → Literal) (s n j : ℕ) → j < n
+    → literals-left f s n j ≡ before j ++ (literal-words (f (s + j)) ++ literals-left f s n (j + 1))
+unfolding body-words
+body-next f s n j h =
+    ap (body-words j) (from-next f s n j h)
+    ∙ ap (λ (t : ℕ). before j ++ (literal-words (f (s + j)) ++ body-words t (from f s n (j + 1)))) (suc-one j)
+  where
+    suc-one : (j : ℕ) → suc j ≡ j + 1
+    suc-one j = omega arith
+
+pub literals-step : (f : ℕ → Literal) (s n j : ℕ) (p q r start : Pen) → j < n
+    → put-all (literals-left f s n j) p ≡ put-all (literals-left f s n 0) start
+    → q ≡ put-all (before j) p → r ≡ put-all (literal-words (f (s + j))) q
+    → put-all (literals-left f s n (j + 1)) r ≡ put-all (literals-left f s n 0) start
+literals-step f s n j p q r start h i e g =
+    put-three (before j) (literal-words (f (s + j))) (literals-left f s n (j + 1)) p q r e g
+    ∙ ap (λ (w : List ℕ). put-all w p) (sym (body-next f s n j h)) ∙ i
+
+body-end : (f : ℕ → Literal) (s n j : ℕ) → n ≤ j → literals-left f s n j ≡ []
+unfolding body-words
+body-end f s n j h = ap (body-words j) (from-end f s n j h)
+
+pub clause-said : (f : ℕ → Literal) (goal c variant flags len n j : ℕ) (p q r s : Pen) → n ≡ len → n ≤ j
+    → q ≡ put-all (head-words goal variant (bit0 flags) (bit1 flags)) p
+    → put-all (literals-left f (8 * c) n j) r ≡ put-all (literals-left f (8 * c) n 0) q
+    → s ≡ put 10 r → s ≡ put-all (clause-words goal (clauseOf f c variant flags len)) p
+unfolding clause-words
+clause-said f goal c variant flags len n j p q r s e h g i k =
+    let said : r ≡ put-all (body-words 0 (span f (8 * c) len)) q =
+    sym (put-nothing r) ∙ ap (λ (w : List ℕ). put-all w r) (sym (body-end f (8 * c) n j h)) ∙ i
+    ∙ ap (λ (l : List Literal). put-all (body-words 0 l) q) (from-start f (8 * c) n)
+    ∙ ap (λ (m : ℕ). put-all (body-words 0 (span f (8 * c) m)) q) e in
+    put-two (head-words goal variant (bit0 flags) (bit1 flags)) (body-words 0 (span f (8 * c) len) ++ ascii "\n") p q s g
+    (put-two (body-words 0 (span f (8 * c) len)) (ascii "\n") q r s said (put-one 10 r s k))
+
+-- Clauses.
+
+abbrev pub clauses-left : (goal : ℕ) → (ℕ → Clause) → (s n k : ℕ) → List ℕ
+clauses-left goal f s n k = clauses-words goal (from f s n k)
+
+clauses-next : (goal : ℕ) (f : ℕ → Clause) (s n k : ℕ) → k < n
+    → clauses-left goal f s n k ≡ clause-words goal (f (s + k)) ++ clauses-left goal f s n (k + 1)
+unfolding clauses-words
+clauses-next goal f s n k h = ap (clauses-words goal) (from-next f s n k h)
+
+clauses-end : (goal : ℕ) (f : ℕ → Clause) (s n k : ℕ) → n ≤ k → clauses-left goal f s n k ≡ []
+unfolding clauses-words
+clauses-end goal f s n k h = ap (clauses-words goal) (from-end f s n k h)
+
+pub clauses-step : (goal : ℕ) (f : ℕ → Clause) (s n k : ℕ) (p q start : Pen) → k < n
+    → put-all (clauses-left goal f s n k) p ≡ put-all (clauses-left goal f s n 0) start
+    → q ≡ put-all (clause-words goal (f (s + k))) p
+    → put-all (clauses-left goal f s n (k + 1)) q ≡ put-all (clauses-left goal f s n 0) start
+clauses-step goal f s n k p q start h i e =
+    left-over (clause-words goal (f (s + k))) (clauses-left goal f s n (k + 1)) p q e
+    ∙ ap (λ (w : List ℕ). put-all w p) (sym (clauses-next goal f s n k h)) ∙ i
+
+pub clauses-said : (goal : ℕ) (f : ℕ → Clause) (s t n m k : ℕ) (p q : Pen) → n ≤ k → s ≡ t → n ≡ m
+    → put-all (clauses-left goal f s n k) q ≡ put-all (clauses-left goal f s n 0) p
+    → q ≡ put-all (clauses-words goal (span f t m)) p
+clauses-said goal f s t n m k p q h e g i =
+    all-said (clauses-left goal f s n k) (clauses-left goal f s n 0) p q (clauses-end goal f s n k h) i
+    ∙ ap (λ (l : List Clause). put-all (clauses-words goal l) p) (from-start f s n)
+    ∙ ap (λ (x : ℕ). put-all (clauses-words goal (span f x n)) p) e
+    ∙ ap (λ (x : ℕ). put-all (clauses-words goal (span f t x)) p) g
+
+-- Goals.
+
+abbrev pub goals-left : (ℕ → Goal) → (n g : ℕ) → List ℕ
+goals-left f n g = goals-words g (from f 0 n g)
+
+goals-next : (f : ℕ → Goal) (n g : ℕ) → g < n → goals-left f n g ≡ goal-words g (f g) ++ goals-left f n (g + 1)
+unfolding goals-words
+goals-next f n g h =
+    ap (goals-words g) (from-next f 0 n g h)
+    ∙ ap (λ (t : ℕ). goal-words g (f t) ++ goals-words (suc g) (from f 0 n (g + 1))) (plain g)
+    ∙ ap (λ (t : ℕ). goal-words g (f g) ++ goals-words t (from f 0 n (g + 1))) (suc-one g)
+  where
+    plain : (g : ℕ) → 0 + g ≡ g
+    plain g = omega arith
+
+    suc-one : (g : ℕ) → suc g ≡ g + 1
+    suc-one g = omega arith
+
+goals-end : (f : ℕ → Goal) (n g : ℕ) → n ≤ g → goals-left f n g ≡ []
+unfolding goals-words
+goals-end f n g h = ap (goals-words g) (from-end f 0 n g h)
+
+pub goals-step : (f : ℕ → Goal) (n g : ℕ) (p q start : Pen) → g < n
+    → put-all (goals-left f n g) p ≡ put-all (goals-left f n 0) start → q ≡ put-all (goal-words g (f g)) p
+    → put-all (goals-left f n (g + 1)) q ≡ put-all (goals-left f n 0) start
+goals-step f n g p q start h i e =
+    left-over (goal-words g (f g)) (goals-left f n (g + 1)) p q e ∙ ap (λ (w : List ℕ). put-all w p) (sym (goals-next f n g h)) ∙ i
+
+pub goals-said : (f : ℕ → Goal) (n g : ℕ) (p q : Pen) → n ≤ g
+    → put-all (goals-left f n g) q ≡ put-all (goals-left f n 0) p → q ≡ put-all (goals-words 0 (span f 0 n)) p
+goals-said f n g p q h i =
+    all-said (goals-left f n g) (goals-left f n 0) p q (goals-end f n g h) i
+    ∙ ap (λ (l : List Goal). put-all (goals-words 0 l) p) (from-start f 0 n)
+
+pub goal-all : (g : ℕ) (h : Goal) (p q r : Pen) → q ≡ put-all (goal-line g (h .coinductive) (h .floundered)) p
+    → r ≡ put-all (clauses-words g (h .clauses)) q → r ≡ put-all (goal-words g h) p
+unfolding goal-words
+goal-all g h p q r e f = put-two (goal-line g (h .coinductive) (h .floundered)) (clauses-words g (h .clauses)) p q r e f
+
+-- The clauses of a goal are clauses of the book.
+
+tiles-up : (first len : List ℕ) (g n at end : ℕ) → Tiles first len g n at end → at ≤ end
+tiles-up first len g zero at end t = omega arith
+tiles-up first len g (suc n) at end t = omega (arith, tiles-up first len (suc g) n (at + getD len g 0) end (t .1))
+
+tile-in : (first len : List ℕ) (g n at end i : ℕ) → Tiles first len g n at end → i < n → getD first (g + i) 0 + getD len (g + i) 0 ≤ end
+tile-in first len g zero at end i t h = absurd (omega arith)
+tile-in first len g (suc n) at end zero t h =
+    let here : g + 0 ≡ g = omega arith in
+    rw here (omega (arith, tiles-up first len (suc g) n (at + getD len g 0) end (t .1)))
+tile-in first len g (suc n) at end (suc i) t h =
+    let later : g + suc i ≡ suc g + i = omega arith in
+    rw later (tile-in first len (suc g) n (at + getD len g 0) end i (t .1) (omega arith))
+
+pub clauses-in : (b : Book) (g : ℕ) → Sound b → g < b .goals → getD (b .«goal_first») g 0 + getD (b .«goal_len») g 0 ≤ 256
+clauses-in b g s h =
+    let plain : 0 + g ≡ g = omega arith in
+    let inside : getD (b .«goal_first») (0 + g) 0 + getD (b .«goal_len») (0 + g) 0 ≤ b .clauses =
+    tile-in (b .«goal_first») (b .«goal_len») 0 (b .goals) 0 (b .clauses) g (s .tiles) h in
+    let named : getD (b .«goal_first») g 0 + getD (b .«goal_len») g 0 ≤ b .clauses = rw plain at inside in
+    omega (arith, s .few-clauses)
+
+-- What reading gave.
+
+pub accepted-said : (r : Reading) (p q : Pen) → r .number ≡ 0 → q ≡ put-all (goals-words 0 (view (r .book))) p
+    → q ≡ put-all (reading-words (seen r)) p
+accepted-said r p q e f = f ∙ ap (λ (b : Bool). put-all (reading-words (seen-by b r)) p) (sym (eq-eqb (r .number) 0 e))
+
+pub refused-said : (r : Reading) (p q : Pen) → (r .number ≡ 0 → ⊥) → q ≡ put-all (refusal-words (r .number)) p
+    → q ≡ put-all (reading-words (seen r)) p
+refused-said r p q e f = f ∙ ap (λ (b : Bool). put-all (reading-words (seen-by b r)) p) (sym (ne-eqb (r .number) 0 e))
+
+pub read-said : (r : Reading) (b : Refusable Said.Book) (p q : Pen) → seen r ≡ b → q ≡ put-all (reading-words (seen r)) p → q ≡ put-all (reading-words b) p
+read-said r b p q e f = f ∙ ap (λ (x : Refusable Said.Book). put-all (reading-words x) p) e

@@ -1,0 +1,104 @@
+-- What the proofs of the words cite: texts put down one after the other with a pen are put down as one, a lemma for each way out of
+-- each function. Assumes nothing.
+use Prim.Native.Nat.{ℕ, zero, suc}
+use mathlib.Core.Bool.{Bool, true, false}
+use mathlib.Core.Path.{_≡_, refl, sym, ap, _∙_}
+use mathlib.Core.List.{List, _++_, append-nil}
+use borrow.Author.Tests.{eq-eqb, ne-eqb}
+use Rattle.definitions.specs.Ascii.{ascii}
+use Rattle.definitions.specs.Listing.{decimal}
+use Rattle.definitions.specs.Book.{bit0, bit1}
+use Rattle.book.specs.View.{signed}
+use Rattle.pen.specs.Pen.{Pen, put-all}
+use Rattle.pen.proofs.Putting.{put-two, put-nothing}
+use Rattle.inspect.specs.Words.{mark, slashed, name-words, literal-words, before, head-words, goal-line, sentence, refusal-words}
+
+pub mark-on : (on : Bool) (w : List ℕ) (p q : Pen) → on ≡ true → q ≡ put-all w p → q ≡ put-all (mark on w) p
+mark-on on w p q e f = rw e f
+
+pub mark-off : (on : Bool) (w : List ℕ) (p : Pen) → on ≡ false → p ≡ put-all (mark on w) p
+mark-off on w p e = rw e (sym (put-nothing p))
+
+pub slashed-whole : (n v : ℕ) (p q : Pen) → v ≡ 0 → q ≡ put-all (decimal n) p → q ≡ put-all (slashed n v) p
+unfolding slashed
+slashed-whole n v p q e f = rw (eq-eqb v 0 e, append-nil (decimal n)) f
+
+pub slashed-part : (n v : ℕ) (p q r s : Pen) → (v ≡ 0 → ⊥) → q ≡ put-all (decimal n) p → r ≡ put-all (ascii "/") q
+    → s ≡ put-all (decimal v) r → s ≡ put-all (slashed n v) p
+unfolding slashed
+slashed-part n v p q r s e f g h = rw (ne-eqb v 0 e) (put-two (decimal n) (ascii "/" ++ decimal v) p q s f (put-two (ascii "/") (decimal v) q r s g h))
+
+pub name-not : (negative : Bool) (goal want : ℕ) (p q r : Pen) → negative ≡ true → q ≡ put-all (ascii "not ") p → r ≡ put-all (decimal goal) q
+    → r ≡ put-all (name-words negative goal want) p
+name-not negative goal want p q r e f g = rw e (put-two (ascii "not ") (decimal goal) p q r f g)
+
+pub name-plain : (negative : Bool) (goal n want : ℕ) (p q : Pen) → negative ≡ false → n ≡ goal → q ≡ put-all (slashed n want) p
+    → q ≡ put-all (name-words negative goal want) p
+name-plain negative goal n want p q e i f = rw e (f ∙ ap (λ (m : ℕ). put-all (slashed m want) p) i)
+
+signed-words : (negative outsized : Bool) (goal want : ℕ)
+    → name-words negative goal want ++ mark outsized (ascii " [outsized]") ≡ literal-words (signed negative goal want outsized)
+unfolding literal-words
+signed-words true outsized goal want = refl
+signed-words false outsized goal want = refl
+
+pub literal-said : (kind goal want : ℕ) (n o : Bool) (p q r : Pen) → n ≡ bit1 kind → o ≡ bit0 kind → q ≡ put-all (name-words n goal want) p
+    → r ≡ put-all (mark o (ascii " [outsized]")) q → r ≡ put-all (literal-words (signed (bit1 kind) goal want (bit0 kind))) p
+literal-said kind goal want n o p q r e f g h =
+    put-two (name-words n goal want) (mark o (ascii " [outsized]")) p q r g h
+    ∙ ap (λ (w : List ℕ). put-all w p) (signed-words n o goal want)
+    ∙ ap (λ (b : Bool). put-all (literal-words (signed b goal want o)) p) e
+    ∙ ap (λ (b : Bool). put-all (literal-words (signed (bit1 kind) goal want b)) p) f
+
+pub before-first : (j : ℕ) (p q : Pen) → j ≡ 0 → q ≡ put-all (ascii " :- ") p → q ≡ put-all (before j) p
+unfolding before
+before-first j p q e f = rw e f
+
+pub before-next : (j : ℕ) (p q : Pen) → (j ≡ 0 → ⊥) → q ≡ put-all (ascii ", ") p → q ≡ put-all (before j) p
+unfolding before
+before-next zero p q e f = absurd (e refl)
+before-next (suc j) p q e f = f
+
+pub head-said : (goal variant flags : ℕ) (a b : Bool) (p q r s : Pen) → a ≡ bit0 flags → b ≡ bit1 flags → q ≡ put-all (slashed goal variant) p
+    → r ≡ put-all (mark a (ascii " [cannot prove]")) q → s ≡ put-all (mark b (ascii " [outsized]")) r
+    → s ≡ put-all (head-words goal variant (bit0 flags) (bit1 flags)) p
+unfolding head-words
+head-said goal variant flags a b p q r s e f g h i =
+    rw (← e, ← f) (put-two (slashed goal variant) _ p q s g (put-two (mark a (ascii " [cannot prove]")) (mark b (ascii " [outsized]")) q r s h i))
+
+pub goal-said : (goal flags : ℕ) (a b : Bool) (p q r s t u : Pen) → a ≡ bit0 flags → b ≡ bit1 flags → q ≡ put-all (ascii "goal ") p
+    → r ≡ put-all (decimal goal) q → s ≡ put-all (mark a (ascii " [coinductive]")) r → t ≡ put-all (mark b (ascii " [floundered]")) s
+    → u ≡ put-all (ascii "\n") t → u ≡ put-all (goal-line goal (bit0 flags) (bit1 flags)) p
+unfolding goal-line
+goal-said goal flags a b p q r s t u e f g h i j k =
+    rw (← e, ← f)
+    (put-two (ascii "goal ") _ p q u g
+    (put-two (decimal goal) _ q r u h
+    (put-two (mark a (ascii " [coinductive]")) _ r s u i (put-two (mark b (ascii " [floundered]")) (ascii "\n") s t u j k))))
+
+pub refusal-said : (n : ℕ) (p q r s t : Pen) → q ≡ put-all (ascii "refused ") p → r ≡ put-all (decimal n) q → s ≡ put-all (ascii "\n") r
+    → t ≡ put-all (sentence n) s → t ≡ put-all (refusal-words n) p
+unfolding refusal-words
+refusal-said n p q r s t e f g h =
+    put-two (ascii "refused ") _ p q t e (put-two (decimal n) _ q r t f (put-two (ascii "\n") (sentence n) r s t g h))
+
+pub sentence-is : (n k : ℕ) (p q : Pen) → n ≡ k → q ≡ put-all (sentence k) p → q ≡ put-all (sentence n) p
+sentence-is n k p q e f = rw e f
+
+-- past the numbers that the program tells apart the sentence is that of 8
+other-sentence : (n : ℕ) → (n ≡ 1 → ⊥) → (n ≡ 2 → ⊥) → (n ≡ 3 → ⊥) → (n ≡ 4 → ⊥) → (n ≡ 5 → ⊥) → (n ≡ 6 → ⊥) → (n ≡ 7 → ⊥)
+    → sentence n ≡ ascii "no goal\n"
+unfolding sentence
+other-sentence zero a b c d e f g = refl
+other-sentence (suc zero) a b c d e f g = absurd (a refl)
+other-sentence (suc (suc zero)) a b c d e f g = absurd (b refl)
+other-sentence (suc (suc (suc zero))) a b c d e f g = absurd (c refl)
+other-sentence (suc (suc (suc (suc zero)))) a b c d e f g = absurd (d refl)
+other-sentence (suc (suc (suc (suc (suc zero))))) a b c d e f g = absurd (e refl)
+other-sentence (suc (suc (suc (suc (suc (suc zero)))))) a b c d e f g = absurd (f refl)
+other-sentence (suc (suc (suc (suc (suc (suc (suc zero))))))) a b c d e f g = absurd (g refl)
+other-sentence (suc (suc (suc (suc (suc (suc (suc (suc n)))))))) a b c d e f g = refl
+
+pub sentence-other : (n : ℕ) (p q : Pen) → (n ≡ 1 → ⊥) → (n ≡ 2 → ⊥) → (n ≡ 3 → ⊥) → (n ≡ 4 → ⊥) → (n ≡ 5 → ⊥) → (n ≡ 6 → ⊥) → (n ≡ 7 → ⊥)
+    → q ≡ put-all (ascii "no goal\n") p → q ≡ put-all (sentence n) p
+sentence-other n p q a b c d e f g h = h ∙ ap (λ (w : List ℕ). put-all w p) (sym (other-sentence n a b c d e f g))

@@ -1,0 +1,147 @@
+-- `sentence`: each number by its arm; any other has the sentence of 8.
+use Rattle.inspect.specs.Words.{sentence}
+use Rattle.inspect.proofs.Saying.{sentence-is, sentence-other}
+use borrow.Author.Needs.{needs}
+use Rattle.inspect.proofs.words.sentence.Statement.{statement}
+use Rattle.inspect.proofs.words.sentence.Tie as tie
+
+slice-aggregate-text : tie.Need-slice-aggregate-text
+slice-aggregate-text c = search needs
+
+text-requires : tie.Need-text-requires
+text-requires c κs = search needs
+
+slice-aggregate-text-2 : tie.Need-slice-aggregate-text-2
+slice-aggregate-text-2 c = search needs
+
+text-requires-2 : tie.Need-text-requires-2
+text-requires-2 c κs = search needs
+
+slice-aggregate-text-3 : tie.Need-slice-aggregate-text-3
+slice-aggregate-text-3 c = search needs
+
+text-requires-3 : tie.Need-text-requires-3
+text-requires-3 c κs = search needs
+
+slice-aggregate-text-4 : tie.Need-slice-aggregate-text-4
+slice-aggregate-text-4 c = search needs
+
+text-requires-4 : tie.Need-text-requires-4
+text-requires-4 c κs = search needs
+
+slice-aggregate-text-5 : tie.Need-slice-aggregate-text-5
+slice-aggregate-text-5 c = search needs
+
+text-requires-5 : tie.Need-text-requires-5
+text-requires-5 c κs = search needs
+
+slice-aggregate-text-6 : tie.Need-slice-aggregate-text-6
+slice-aggregate-text-6 c = search needs
+
+text-requires-6 : tie.Need-text-requires-6
+text-requires-6 c κs = search needs
+
+slice-aggregate-text-7 : tie.Need-slice-aggregate-text-7
+slice-aggregate-text-7 c = search needs
+
+text-requires-7 : tie.Need-text-requires-7
+text-requires-7 c κs = search needs
+
+slice-aggregate-text-8 : tie.Need-slice-aggregate-text-8
+slice-aggregate-text-8 c = search needs
+
+text-requires-8 : tie.Need-text-requires-8
+text-requires-8 c κs = search needs
+
+same-length : tie.Need-same-length
+same-length c = search needs
+
+returns : tie.Need-returns
+unfolding sentence
+returns c = search sentence-is
+
+same-length-2 : tie.Need-same-length-2
+same-length-2 c = search needs
+
+returns-2 : tie.Need-returns-2
+unfolding sentence
+returns-2 c = search sentence-is
+
+same-length-3 : tie.Need-same-length-3
+same-length-3 c = search needs
+
+returns-3 : tie.Need-returns-3
+unfolding sentence
+returns-3 c = search sentence-is
+
+same-length-4 : tie.Need-same-length-4
+same-length-4 c = search needs
+
+returns-4 : tie.Need-returns-4
+unfolding sentence
+returns-4 c = search sentence-is
+
+same-length-5 : tie.Need-same-length-5
+same-length-5 c = search needs
+
+returns-5 : tie.Need-returns-5
+unfolding sentence
+returns-5 c = search sentence-is
+
+same-length-6 : tie.Need-same-length-6
+same-length-6 c = search needs
+
+returns-6 : tie.Need-returns-6
+unfolding sentence
+returns-6 c = search sentence-is
+
+same-length-7 : tie.Need-same-length-7
+same-length-7 c = search needs
+
+returns-7 : tie.Need-returns-7
+unfolding sentence
+returns-7 c = search sentence-is
+
+same-length-8 : tie.Need-same-length-8
+same-length-8 c = search needs
+
+returns-8 : tie.Need-returns-8
+unfolding sentence
+returns-8 c = search sentence-other
+
+pub sentence-spec : {M : Type 1} → statement M
+sentence-spec =
+    tie.close
+    (tie.spec
+    slice-aggregate-text
+    text-requires
+    slice-aggregate-text-2
+    text-requires-2
+    slice-aggregate-text-3
+    text-requires-3
+    slice-aggregate-text-4
+    text-requires-4
+    slice-aggregate-text-5
+    text-requires-5
+    slice-aggregate-text-6
+    text-requires-6
+    slice-aggregate-text-7
+    text-requires-7
+    slice-aggregate-text-8
+    text-requires-8
+    same-length
+    returns
+    same-length-2
+    returns-2
+    same-length-3
+    returns-3
+    same-length-4
+    returns-4
+    same-length-5
+    returns-5
+    same-length-6
+    returns-6
+    same-length-7
+    returns-7
+    same-length-8
+    returns-8)

@@ -1,0 +1,90 @@
+-- What `inspect` prints: a book in words, in the notation of document 01, or a refusal with its sentence.
+use Prim.Native.Nat.{ℕ, zero, suc}
+use mathlib.Core.Bool.{Bool, true, false}
+use mathlib.Core.List.{List, [], _∷_, _++_}
+use lib.ListN.{getD}
+use lib.Dec.{eqb}
+use Rattle.definitions.specs.Ascii.{ascii}
+use Rattle.definitions.specs.Listing.{decimal}
+use Rattle.definitions.specs.Refusal.{Refusable, refused, accepted}
+use Rattle.definitions.specs.Book.{Literal, Positive, Negative, Clause, Goal, Book}
+
+-- words that stand there only where a flag is set
+abbrev pub mark : Bool → List ℕ → List ℕ
+mark true words = words
+mark false words = []
+
+-- a number, and another one behind a slash if it is not 0
+abbrev pub behind-slash : Bool → ℕ → List ℕ
+behind-slash true v = []
+behind-slash false v = ascii "/" ++ decimal v
+
+unfoldable pub slashed : (n v : ℕ) → List ℕ
+slashed n v = decimal n ++ behind-slash (eqb v 0) v
+
+-- a literal: its goal, and the variant that it wants behind a slash; its mark
+abbrev pub name-words : (negative : Bool) → (goal want : ℕ) → List ℕ
+name-words true goal want = ascii "not " ++ decimal goal
+name-words false goal want = slashed goal want
+
+unfoldable pub literal-words : Literal → List ℕ
+literal-words (Positive goal want outsized) = name-words false goal want ++ mark outsized (ascii " [outsized]")
+literal-words (Negative goal outsized) = name-words true goal 0 ++ mark outsized (ascii " [outsized]")
+
+-- what stands before the literal j of a clause
+unfoldable pub before : ℕ → List ℕ
+before zero = ascii " :- "
+before (suc j) = ascii ", "
+
+-- literals from the literal j of a clause on
+unfoldable pub body-words : ℕ → List Literal → List ℕ
+body-words j [] = []
+body-words j (l ∷ ls) = before j ++ (literal-words l ++ body-words (suc j) ls)
+
+unfoldable pub head-words : (goal variant : ℕ) → (cannot-prove outsized : Bool) → List ℕ
+head-words goal variant cannot-prove outsized =
+    slashed goal variant ++ (mark cannot-prove (ascii " [cannot prove]") ++ mark outsized (ascii " [outsized]"))
+
+-- a clause of a goal
+unfoldable pub clause-words : ℕ → Clause → List ℕ
+clause-words goal c = head-words goal (c .variant) (c .cannot-prove) (c .outsized) ++ (body-words 0 (c .literals) ++ ascii "\n")
+
+unfoldable pub clauses-words : ℕ → List Clause → List ℕ
+clauses-words goal [] = []
+clauses-words goal (c ∷ cs) = clause-words goal c ++ clauses-words goal cs
+
+unfoldable pub goal-line : ℕ → (coinductive floundered : Bool) → List ℕ
+goal-line g coinductive floundered =
+    ascii "goal " ++ (decimal g ++ (mark coinductive (ascii " [coinductive]") ++ (mark floundered (ascii " [floundered]") ++ ascii "\n")))
+
+unfoldable pub goal-words : ℕ → Goal → List ℕ
+goal-words g h = goal-line g (h .coinductive) (h .floundered) ++ clauses-words g (h .clauses)
+
+-- goals from the goal g on
+unfoldable pub goals-words : ℕ → List Goal → List ℕ
+goals-words g [] = []
+goals-words g (h ∷ hs) = goal-words g h ++ goals-words (suc g) hs
+
+-- the sentences of document 01's refusals, from 1 on; no other number but 8 comes
+abbrev pub sentences : List (List ℕ)
+sentences =
+    ascii "no goal\n"
+    ∷ ascii "a command, an operand or the end is missing\n"
+    ∷ ascii "unknown command\n"
+    ∷ ascii "a clause before a goal, or a literal before a clause\n"
+    ∷ ascii "unknown flag bit\n"
+    ∷ ascii "a 65th goal, a 257th clause or a 9th literal of a clause\n"
+    ∷ ascii "a literal names no goal\n"
+    ∷ ascii "bytes after the end\n"
+    ∷ []
+
+unfoldable pub sentence : ℕ → List ℕ
+sentence n = getD sentences n (ascii "no goal\n")
+
+unfoldable pub refusal-words : ℕ → List ℕ
+refusal-words n = ascii "refused " ++ (decimal n ++ (ascii "\n" ++ sentence n))
+
+-- THE WORDS of what reading gave
+abbrev pub reading-words : Refusable Book → List ℕ
+reading-words (refused n) = refusal-words n
+reading-words (accepted book) = goals-words 0 book

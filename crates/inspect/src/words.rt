@@ -1,0 +1,224 @@
+// A book in words, in the notation of document 01. A goal has a line `goal 0`, and below it a line for each of its clauses in order:
+//
+//     goal 0 [coinductive] [floundered]
+//     0/2 [cannot prove] [outsized] :- 1, 1/3 [outsized], not 2
+//     goal 1
+//     1/1
+//
+// A clause is the goal's number, its variant behind a slash (none is variant 0, the goal as a whole), its marks, and its literals behind
+// `:-`; a fact has none. A literal is a goal's number, behind a slash the variant that it wants (none: any), and its mark.
+use book::Book;
+use book::Reading;
+ghost use mathlib.Core.Path.{_≡_};
+ghost use Prim.Native.Nat.{_<_};
+ghost use Rattle.definitions.specs.Book.{bit0 as bit0Of, bit1 as bit1Of, read as readBook};
+ghost use Rattle.pen.specs.Pen.{pen, put-all};
+ghost use Rattle.book.specs.View.{Sound, signed, clauseAt, goalAt, view, seen};
+ghost use Rattle.inspect.specs.Words.{mark as markOf, slashed as slashedOf, name-words, literal-words, before, head-words, clause-words, clauses-words, goal-line as goalLine, goal-words, goals-words, sentence as sentenceOf, refusal-words, reading-words};
+
+fn wide(n: u16) -> usize
+    ensures { λ r. ⌜ (r ≡ n) × (r < 65536) ⌝ }
+{
+    n as usize
+}
+
+fn wide8(n: u8) -> usize
+    ensures { λ r. ⌜ r ≡ n ⌝ }
+{
+    n as usize
+}
+
+fn bit0(flags: u8) -> bool
+    ensures { λ r. ⌜ r ≡ bit0Of flags ⌝ }
+{
+    flags % 2 == 1
+}
+
+fn bit1(flags: u8) -> bool
+    ensures { λ r. ⌜ r ≡ bit1Of flags ⌝ }
+{
+    flags / 2 % 2 == 1
+}
+
+fn mark(out: &mut [u8], at: usize, on: bool, words: &[u8]) -> usize
+    ensures { λ r. ⌜ pen (now (out .exit)) r ≡ put-all (markOf on (now (words .entry))) (pen (now (out .entry)) at) ⌝ }
+{
+    if on {
+        return pen::text(out, at, words);
+    }
+    at
+}
+
+// A number, and another one behind a slash if it isn't 0.
+fn slashed(out: &mut [u8], at: usize, n: usize, v: u16) -> usize
+    ensures { λ r. ⌜ pen (now (out .exit)) r ≡ put-all (slashedOf n v) (pen (now (out .entry)) at) ⌝ }
+{
+    let one = pen::number(out, at, n as u64);
+    if v == 0 {
+        return one;
+    }
+    let slash = pen::text(out, one, b"/");
+    pen::number(out, slash, v as u64)
+}
+
+fn name(out: &mut [u8], at: usize, negative: bool, goal: u16, want: u16) -> usize
+    ensures { λ r. ⌜ pen (now (out .exit)) r ≡ put-all (name-words negative goal want) (pen (now (out .entry)) at) ⌝ }
+{
+    if negative {
+        let word = pen::text(out, at, b"not ");
+        return pen::number(out, word, goal as u64);
+    }
+    slashed(out, at, wide(goal), want)
+}
+
+// The literal's kind has the mark in bit 0 and "not" in bit 1.
+fn literal(out: &mut [u8], at: usize, kind: u8, goal: u16, want: u16) -> usize
+    ensures { λ r. ⌜ pen (now (out .exit)) r ≡ put-all (literal-words (signed (bit1Of kind) goal want (bit0Of kind))) (pen (now (out .entry)) at) ⌝ }
+{
+    let named = name(out, at, bit1(kind), goal, want);
+    mark(out, named, bit0(kind), b" [outsized]")
+}
+
+// What stands before the literal j of a clause.
+fn between(out: &mut [u8], at: usize, j: usize) -> usize
+    ensures { λ r. ⌜ pen (now (out .exit)) r ≡ put-all (before j) (pen (now (out .entry)) at) ⌝ }
+{
+    if j == 0 {
+        return pen::text(out, at, b" :- ");
+    }
+    pen::text(out, at, b", ")
+}
+
+fn head(out: &mut [u8], at: usize, goal: usize, variant: u16, flags: u8) -> usize
+    ensures { λ r. ⌜ pen (now (out .exit)) r ≡ put-all (head-words goal variant (bit0Of flags) (bit1Of flags)) (pen (now (out .entry)) at) ⌝ }
+{
+    let named = slashed(out, at, goal, variant);
+    let weak = mark(out, named, bit0(flags), b" [cannot prove]");
+    mark(out, weak, bit1(flags), b" [outsized]")
+}
+
+fn goal_line(out: &mut [u8], at: usize, goal: usize, flags: u8) -> usize
+    ensures { λ r. ⌜ pen (now (out .exit)) r ≡ put-all (goalLine goal (bit0Of flags) (bit1Of flags)) (pen (now (out .entry)) at) ⌝ }
+{
+    let word = pen::text(out, at, b"goal ");
+    let named = pen::number(out, word, goal as u64);
+    let co = mark(out, named, bit0(flags), b" [coinductive]");
+    let all = mark(out, co, bit1(flags), b" [floundered]");
+    pen::text(out, all, b"\n")
+}
+
+// The line of clause c, of the goal that is given.
+fn clause_line(out: &mut [u8], at: usize, book: Book, goal: usize, c: usize) -> usize
+    requires { ⌜ Sound book ⌝ }
+    requires { ⌜ c < 256 ⌝ }
+    ensures { λ r. ⌜ pen (now (out .exit)) r ≡ put-all (clause-words goal (clauseAt book c)) (pen (now (out .entry)) at) ⌝ }
+{
+    let count = wide8(book.clause_len[c]);
+    let mut used = head(out, at, goal, book.clause_variant[c], book.clause_flags[c]);
+    let mut j: usize = 0;
+    while j < count {
+        let i = 8 * c + j;
+        let apart = between(out, used, j);
+        used = literal(
+            out,
+            apart,
+            book.literal_kind[i],
+            book.literal_goal[i],
+            book.literal_want[i],
+        );
+        j += 1;
+    }
+    pen::byte(out, used, b'\n')
+}
+
+// The lines of the clauses of goal g.
+fn clauses(out: &mut [u8], at: usize, book: Book, g: usize) -> usize
+    requires { ⌜ Sound book ⌝ }
+    requires { ⌜ g < book .goals ⌝ }
+    ensures { λ r. ⌜ pen (now (out .exit)) r ≡ put-all (clauses-words g (goalAt book g .clauses)) (pen (now (out .entry)) at) ⌝ }
+{
+    let first = wide(book.goal_first[g]);
+    let count = wide(book.goal_len[g]);
+    let mut used = at;
+    let mut k: usize = 0;
+    while k < count {
+        used = clause_line(out, used, book, g, first + k);
+        k += 1;
+    }
+    used
+}
+
+// Goal g's line and those of its clauses.
+fn goal(out: &mut [u8], at: usize, book: Book, g: usize) -> usize
+    requires { ⌜ Sound book ⌝ }
+    requires { ⌜ g < book .goals ⌝ }
+    ensures { λ r. ⌜ pen (now (out .exit)) r ≡ put-all (goal-words g (goalAt book g)) (pen (now (out .entry)) at) ⌝ }
+{
+    let line = goal_line(out, at, g, book.goal_flags[g]);
+    clauses(out, line, book, g)
+}
+
+fn goals(out: &mut [u8], at: usize, book: Book) -> usize
+    requires { ⌜ Sound book ⌝ }
+    ensures { λ r. ⌜ pen (now (out .exit)) r ≡ put-all (goals-words 0 (view book)) (pen (now (out .entry)) at) ⌝ }
+{
+    let mut used = at;
+    let mut g: usize = 0;
+    while g < book.goals {
+        used = goal(out, used, book, g);
+        g += 1;
+    }
+    used
+}
+
+// The sentences of document 01's refusals.
+fn sentence(out: &mut [u8], at: usize, number: u8) -> usize
+    ensures { λ r. ⌜ pen (now (out .exit)) r ≡ put-all (sentenceOf number) (pen (now (out .entry)) at) ⌝ }
+{
+    match number {
+        1 => pen::text(out, at, b"a command, an operand or the end is missing\n"),
+        2 => pen::text(out, at, b"unknown command\n"),
+        3 => pen::text(
+            out,
+            at,
+            b"a clause before a goal, or a literal before a clause\n",
+        ),
+        4 => pen::text(out, at, b"unknown flag bit\n"),
+        5 => pen::text(
+            out,
+            at,
+            b"a 65th goal, a 257th clause or a 9th literal of a clause\n",
+        ),
+        6 => pen::text(out, at, b"a literal names no goal\n"),
+        7 => pen::text(out, at, b"bytes after the end\n"),
+        _ => pen::text(out, at, b"no goal\n"),
+    }
+}
+
+fn refusal(out: &mut [u8], at: usize, number: u8) -> usize
+    ensures { λ r. ⌜ pen (now (out .exit)) r ≡ put-all (refusal-words number) (pen (now (out .entry)) at) ⌝ }
+{
+    let word = pen::text(out, at, b"refused ");
+    let named = pen::number(out, word, number as u64);
+    let line = pen::text(out, named, b"\n");
+    sentence(out, line, number)
+}
+
+// What reading gave, in words, from the start of the buffer on.
+fn reading(out: &mut [u8], r: Reading) -> usize
+    requires { ⌜ (r .number ≡ 0 → Sound (r .book)) ⌝ }
+    ensures { λ n. ⌜ pen (now (out .exit)) n ≡ put-all (reading-words (seen r)) (pen (now (out .entry)) 0) ⌝ }
+{
+    if r.number == 0 {
+        let book = r.book;
+        return goals(out, 0, book);
+    }
+    refusal(out, 0, r.number)
+}
+
+// What a byte string says as a book, in words, put down from the start of the buffer on.
+pub(crate) fn say(out: &mut [u8], bytes: &[u8]) -> usize
+    ensures { λ r. ⌜ pen (now (out .exit)) r ≡ put-all (reading-words (readBook (now (bytes .entry)))) (pen (now (out .entry)) 0) ⌝ }
+{
+    reading(out, book::read(bytes))
+}

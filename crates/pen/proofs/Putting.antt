@@ -1,0 +1,51 @@
+-- What the proofs of the pen's functions cite: where a byte goes, and that bytes put down one after the other are put down as one list.
+-- Assumes nothing.
+use Prim.Native.Nat.{ℕ, _+_, _<_, _≤_}
+use mathlib.Core.Path.{_≡_, refl, sym, ap, _∙_}
+use mathlib.Core.List.{List, [], _∷_, _++_}
+use native.Mathlib.Numerals.{add-one}
+use lib.ListN.{length, set, take, getD}
+use lib.Seq.{take-suc, take-all}
+use borrow.Author.Tests.{lt-ltb, le-ltb}
+use Rattle.pen.specs.Pen.{Pen, pen, anew, put, put-all}
+
+pub put-room : (l : List ℕ) (at b : ℕ) → at < length l → pen (set l at b) (at + 1) ≡ put b (pen l at)
+unfolding put
+put-room l at b h = rw (lt-ltb at (length l) h, put)
+
+pub put-full : (l : List ℕ) (at b : ℕ) → length l ≤ at → 0 < length l → pen (set l 0 b) 1 ≡ put b (pen l at)
+unfolding put anew
+put-full l at b h k = rw (le-ltb at (length l) h, put, lt-ltb 0 (length l) k, anew)
+
+pub put-none : (l : List ℕ) (at b : ℕ) → length l ≤ at → length l ≤ 0 → pen l 0 ≡ put b (pen l at)
+unfolding put anew
+put-none l at b h k = rw (le-ltb at (length l) h, put, le-ltb 0 (length l) k, anew)
+
+pub put-all-append : (a b : List ℕ) (p : Pen) → put-all (a ++ b) p ≡ put-all b (put-all a p)
+unfolding put-all
+put-all-append [] b p = refl
+put-all-append (x ∷ a) b p = put-all-append a b (put x p)
+
+pub put-next : (l : List ℕ) (i : ℕ) (p : Pen) → i < length l → put-all (take (i + 1) l) p ≡ put (getD l i 0) (put-all (take i l) p)
+unfolding put-all
+put-next l i p h = rw (add-one i, take-suc l i 0 h) (put-all-append (take i l) (getD l i 0 ∷ []) p)
+
+-- one more byte of a list, and the whole list
+pub put-step : (l : List ℕ) (i : ℕ) (p q start : Pen) → i < length l → p ≡ put-all (take i l) start → q ≡ put (getD l i 0) p
+    → q ≡ put-all (take (i + 1) l) start
+put-step l i p q start h e f = f ∙ ap (λ (x : Pen). put (getD l i 0) x) e ∙ sym (put-next l i start h)
+
+pub put-done : (l : List ℕ) (i : ℕ) (p start : Pen) → length l ≤ i → p ≡ put-all (take i l) start → p ≡ put-all l start
+put-done l i p start h e = e ∙ ap (λ (x : List ℕ). put-all x start) (take-all i l h)
+
+-- texts put down one after the other
+pub put-two : (a b : List ℕ) (p q r : Pen) → q ≡ put-all a p → r ≡ put-all b q → r ≡ put-all (a ++ b) p
+put-two a b p q r e f = f ∙ ap (put-all b) e ∙ sym (put-all-append a b p)
+
+pub put-nothing : (p : Pen) → put-all [] p ≡ p
+unfolding put-all
+put-nothing p = refl
+
+pub put-one : (b : ℕ) (p q : Pen) → q ≡ put b p → q ≡ put-all (b ∷ []) p
+unfolding put-all
+put-one b p q e = e

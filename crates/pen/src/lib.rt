@@ -1,0 +1,56 @@
+// Writing to standard output through a buffer that the caller lends. What is put down stays in the buffer until it is full; then it is
+// written out, and the buffer is used again from its start, so that nothing is lost however much is put down. `at` is how much of the
+// buffer is in use: each function takes it and returns the new one. At the end, `flush` writes out what is left. Where standard output takes
+// no more, what is left in the buffer can't be kept.
+ghost use mathlib.Core.Path.{_≡_};
+ghost use mathlib.Core.Bool.{false};
+ghost use Prim.Native.Nat.{_<_};
+ghost use lib.ListN.{length};
+ghost use Rattle.definitions.specs.Listing.{decimal as decimalOf};
+ghost use Rattle.pen.specs.Pen.{pen, put, put-all};
+
+// Answers whether all that is in use was written.
+pub fn flush(out: &[u8], at: usize) -> bool
+    ensures { λ r. ⌜ (length (now (out .entry)) < at → r ≡ false) ⌝ }
+{
+    if at <= out.len() {
+        return io::write_all(1, &out[..at]);
+    }
+    false
+}
+
+pub fn byte(out: &mut [u8], at: usize, b: u8) -> usize
+    ensures { λ r. ⌜ pen (now (out .exit)) r ≡ put b (pen (now (out .entry)) at) ⌝ }
+{
+    if at < out.len() {
+        out[at] = b;
+        return at + 1;
+    }
+    flush(out, at);
+    if 0 < out.len() {
+        out[0] = b;
+        return 1;
+    }
+    0
+}
+
+pub fn text(out: &mut [u8], at: usize, bytes: &[u8]) -> usize
+    ensures { λ r. ⌜ pen (now (out .exit)) r ≡ put-all (now (bytes .entry)) (pen (now (out .entry)) at) ⌝ }
+{
+    let mut used = at;
+    let mut i = 0;
+    while i < bytes.len() {
+        used = byte(out, used, bytes[i]);
+        i += 1;
+    }
+    used
+}
+
+// A number in decimal.
+pub fn number(out: &mut [u8], at: usize, n: u64) -> usize
+    ensures { λ r. ⌜ pen (now (out .exit)) r ≡ put-all (decimalOf n) (pen (now (out .entry)) at) ⌝ }
+{
+    let mut digits = [0u8; 20];
+    let k = io::decimal(n, &mut digits);
+    text(out, at, &digits[..k])
+}

@@ -1,0 +1,90 @@
+-- The blank stores are sound with no table and nothing held, and mean no table and no entry. From `ring-start-sound` of crate `rings`.
+use Prim.Native.Nat.{ℕ, zero, suc, _+_, _≤_, _<_}
+use native.Mathlib.Omega.{arith}
+use mathlib.Core.Path.{_≡_, refl, sym, ap, subst, _∙_}
+use mathlib.Core.List.{List, [], _∷_}
+use lib.ListN.{length, getD, replicate, length-replicate}
+use Rattle.definitions.specs.Tables as said-tables
+use Rattle.definitions.specs.Stack as said-stack
+use Rattle.rings.specs.Lists.{times}
+use Rattle.rings.specs.Rings.{RingSound}
+use Rattle.rings.proofs.RingViews.{ring-start, ring-start-sound}
+use Rattle.strands.specs.declared.Strand.{Strand}
+use Rattle.strands.specs.declared.Answer.{Answer}
+use Rattle.stores.specs.declared.Places.{Places}
+use Rattle.stores.specs.declared.Strands.{Strands}
+use Rattle.stores.specs.declared.Answers.{Answers}
+use Rattle.stores.specs.View.{free, ring, tables, entered}
+use Rattle.stores.specs.Sound.{SoundPlaces, SoundStrands, SoundAnswers, SoundTables, SoundStack}
+use Rattle.stores.specs.Blank.{blankPlaces, blankTables, blankStack, BlankStrands, BlankAnswers}
+
+pub blank-places-sound : SoundPlaces blankPlaces 0 []
+blank-places-sound = record {
+  rings = ring-start-sound;
+  few = omega arith;
+  empty = λ t h k. ring-start t (replicate 256 0) (replicate 256 0);
+  apart = λ q t h. absurd (omega arith);
+  once = λ q. omega arith;
+  used = λ q h. absurd (omega arith);
+  all = omega (arith, ap length (ring-start free (replicate 256 0) (replicate 256 0)));
+}
+
+blank-strands-of : (l : List Strand) → length l ≡ 256 → BlankStrands (record { strands = l; time = replicate 256 0; ambiguous = replicate 256 0; places = blankPlaces })
+blank-strands-of l long = record {
+  places = refl;
+  time = refl;
+  ambiguous = refl;
+  sound = record {
+    places = blank-places-sound;
+    long = long;
+    long-time = length-replicate {A = ℕ} 256 0;
+    long-ambiguous = length-replicate {A = ℕ} 256 0;
+    queued = λ t q h k. absurd (omega arith);
+    in-hand = λ q k. absurd (omega arith);
+  };
+}
+
+blank-answers-of : (l : List Answer) → length l ≡ 256 → BlankAnswers (record { answers = l; places = blankPlaces })
+blank-answers-of l long = record {
+  places = refl;
+  sound = record {
+    places = blank-places-sound;
+    long = long;
+    stored = λ t q h k. absurd (omega arith);
+  };
+}
+
+pub blank-strands : (x : Strand) (p : Places) → p ≡ blankPlaces → BlankStrands (record { strands = replicate 256 x; time = replicate 256 0; ambiguous = replicate 256 0; places = p })
+blank-strands x p e =
+    subst (λ (r : Places). BlankStrands (record { strands = replicate 256 x; time = replicate 256 0; ambiguous = replicate 256 0; places = r })) (sym e)
+    (blank-strands-of (replicate 256 x) (length-replicate 256 x))
+
+pub blank-answers : (x : Answer) (p : Places) → p ≡ blankPlaces → BlankAnswers (record { answers = replicate 256 x; places = p })
+blank-answers x p e =
+    subst (λ (r : Places). BlankAnswers (record { answers = replicate 256 x; places = r })) (sym e) (blank-answers-of (replicate 256 x) (length-replicate 256 x))
+
+pub blank-tables-sound : SoundTables blankTables
+blank-tables-sound = record {
+  few = omega arith;
+  long-goal = length-replicate {A = ℕ} 64 0;
+  long-coinductive = length-replicate {A = ℕ} 64 0;
+  long-floundered = length-replicate {A = ℕ} 64 0;
+  long-complete = length-replicate {A = ℕ} 64 0;
+}
+
+pub blank-tables-view : (s : Strands) (a : Answers) → tables blankTables s a ≡ []
+blank-tables-view s a = refl
+
+pub blank-stack-sound : SoundStack blankStack
+blank-stack-sound = record {
+  few = omega arith;
+  long-table = length-replicate {A = ℕ} 64 0;
+  long-clock = length-replicate {A = ℕ} 64 0;
+  long-positive = length-replicate {A = ℕ} 64 0;
+  long-negative = length-replicate {A = ℕ} 64 0;
+  long-active = length-replicate {A = ℕ} 64 256;
+  places = λ i h. absurd (omega arith);
+}
+
+pub blank-stack-view : (s : Strands) → entered blankStack s ≡ []
+blank-stack-view s = refl

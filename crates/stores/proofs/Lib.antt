@@ -1,0 +1,10 @@
+pub mod Held
+pub mod Waiting
+pub mod PlaceViews
+pub mod PlaceCases
+pub mod PlaceMoves
+pub mod Spans
+pub mod StrandSound
+pub mod StrandViews
+pub mod StrandStores
+pub mod BlankStores

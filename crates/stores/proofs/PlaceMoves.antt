@@ -1,0 +1,96 @@
+-- A whole ring goes to the free places, and `SoundPlaces` is kept; and what the ring functions leave is what the models say. From the
+-- theorems of crate `rings`.
+use Prim.Native.Nat.{ℕ, zero, suc, _+_, _-_, _≤_, _<_}
+use native.Mathlib.Omega.{arith}
+use mathlib.Core.Path.{_≡_, refl, sym, ap, ap₂, subst, _∙_}
+use mathlib.Core.Bool.{Bool, true, false}
+use mathlib.Core.List.{List, [], _∷_, _++_}
+use lib.ListN.{length, getD, set, length-append}
+use lib.Dec.{eqb, ltb}
+use borrow.Author.Tests.{ltb-true, ltb-false}
+use Rattle.rings.specs.Lists.{firstIndex, times}
+use Rattle.rings.specs.Rings.{RingSound, RingTook, RingMoved}
+use Rattle.rings.proofs.Counts.{times-append, pigeons}
+use Rattle.rings.proofs.RingViews.{ring-move-to, ring-move-from, ring-move-other, ring-move-sound}
+use Rattle.stores.specs.declared.Places.{Places}
+use Rattle.stores.specs.View.{free, ring}
+use Rattle.stores.specs.Sound.{waiting, SoundPlaces}
+use Rattle.stores.specs.Placing.{places, before, takenAt, takenIf, placeIf, taken, takenPlace, hasOne, firstOf, movedTo, freed, TookPlace}
+use Rattle.stores.proofs.Waiting.{is-or-not, waiting-one}
+use Rattle.stores.proofs.PlaceViews.{length-ring}
+
+module _ (p : Places) (n : ℕ) (held : List ℕ) (t : ℕ) (h : t < n) (sound : SoundPlaces p n held) where
+  abbrev p′ : Places
+  p′ = movedTo t free p
+
+  apart : free ≡ t → ⊥
+  apart e = omega (arith, sound .few)
+
+  did : RingMoved (p .next) (p .tail) (p .len) t free (p′ .next) (p′ .tail) (p′ .len)
+  did = record { links = refl; ends = refl; size = λ a b. refl }
+
+  small : t < 256
+  small = omega (arith, sound .few)
+
+  pub moved-free : ring (movedTo t free p) free ≡ ring p free ++ ring p t
+  moved-free = ring-move-to (p .next) (p .tail) (p .len) (p .top) (sound .rings) t free apart small (omega arith) (p′ .next) (p′ .tail) (p′ .len) did
+
+  pub moved-own : ring (movedTo t free p) t ≡ []
+  moved-own = ring-move-from (p .next) (p .tail) (p .len) (p .top) (sound .rings) t free apart small (omega arith) (p′ .next) (p′ .tail) (p′ .len) did
+
+  pub moved-other : (u : ℕ) → (u ≡ free → ⊥) → (u ≡ t → ⊥) → ring (movedTo t free p) u ≡ ring p u
+  moved-other u a b = ring-move-other (p .next) (p .tail) (p .len) (p .top) (sound .rings) t free apart small (omega arith) (p′ .next) (p′ .tail) (p′ .len) did u a b
+
+  not-held : (x u : ℕ) → 1 ≤ times x held → times x (ring p′ u) ≡ 0
+  not-held x u k = is-or-not free (λ v. times x (ring p′ v) ≡ 0)
+      (rw moved-free (omega (arith, times-append x (ring p free) (ring p t), sound .apart x free k, sound .apart x t k)))
+      (λ v a. is-or-not t (λ w. (w ≡ free → ⊥) → times x (ring p′ w) ≡ 0) (λ b. rw moved-own refl) (λ w c b. rw (moved-other w b c) (sound .apart x w k)) v a) u
+
+  -- the whole ring of a table goes to the free places
+  pub moved-sound : SoundPlaces (movedTo t free p) n held
+  moved-sound =
+      let w : waiting p′ n + length (ring p t) ≡ waiting p n + length (ring p′ t) =
+      waiting-one p p′ n t h (λ u k d. moved-other u (λ e. omega (arith, sound .few)) d) in
+      record {
+        rings = ring-move-sound (p .next) (p .tail) (p .len) (p .top) (sound .rings) t free apart small (omega arith) (p′ .next) (p′ .tail) (p′ .len) did;
+        few = sound .few;
+        empty = λ u a b. moved-other u b (λ e. omega arith) ∙ sound .empty u a b;
+        apart = not-held;
+        once = sound .once;
+        used = sound .used;
+        all = omega (arith, sound .all, w, ap length moved-own, ap length moved-free, length-append (ring p free) (ring p t));
+      }
+
+-- WHAT THE CODE LEAVES is what the models say
+places-is : (n n′ t t′ l l′ : List ℕ) (m m′ : ℕ) → n ≡ n′ → t ≡ t′ → l ≡ l′ → m ≡ m′ → places n t l m ≡ places n′ t′ l′ m′
+places-is n n′ t t′ l l′ m m′ a b c d = cc
+
+pub taken-is : (p : Places) (test : ℕ → Bool) (t : ℕ) (n′ t′ l′ : List ℕ) (r : ℕ) → RingTook (p .next) (p .tail) (p .len) t test n′ t′ l′ r
+    → (places n′ t′ l′ (p .top) ≡ taken test t p) × (r ≡ takenPlace test t p)
+taken-is p test t n′ t′ l′ r did = go (hasOne test t p) refl
+  where
+    go : (b : Bool) → hasOne test t p ≡ b → (places n′ t′ l′ (p .top) ≡ takenIf b t (firstOf test t p) p) × (r ≡ placeIf b (getD (ring p t) (firstOf test t p) 0))
+    go true e =
+        let k : firstOf test t p < length (ring p t) = ltb-true (firstOf test t p) (length (ring p t)) e in (
+          places-is n′ (takenAt t (firstOf test t p) p .next) t′ (takenAt t (firstOf test t p) p .tail) l′ (takenAt t (firstOf test t p) p .len) (p .top) (p .top)
+              (did .links k) (did .ends k) (did .size k) refl,
+          did .place k,
+        )
+    go false e =
+        let k = did .none (ltb-false (firstOf test t p) (length (ring p t)) e) in
+        (places-is n′ (p .next) t′ (p .tail) l′ (p .len) (p .top) (p .top) (k .1) (k .2) (k .3) refl, k .0)
+
+pub freed-is : (p : Places) (n′ l′ : List ℕ) (m′ r : ℕ) → TookPlace (p .next) (p .tail) (p .len) (p .top) n′ l′ m′ r
+    → places n′ (p .tail) l′ m′ ≡ freed p
+freed-is p n′ l′ m′ r did =
+    places-is n′ (freed p .next) (p .tail) (freed p .tail) l′ (freed p .len) m′ (freed p .top) (did .links) (did .ends) (did .size) (did .mark)
+
+ring-few : (p : Places) (n : ℕ) (held : List ℕ) → SoundPlaces p n held → (t : ℕ) → getD (p .len) t 0 ≤ 256
+ring-few p n held sound t =
+    omega (arith, length-ring p t, pigeons (p .top) (ring p t) (λ x. sound .rings .once t x) (λ x h. sound .rings .small t x h), sound .rings .room)
+
+pub moved-is : (p : Places) (n : ℕ) (held : List ℕ) (t g : ℕ) → SoundPlaces p n held → (n′ t′ l′ : List ℕ)
+    → RingMoved (p .next) (p .tail) (p .len) t g n′ t′ l′ → places n′ t′ l′ (p .top) ≡ movedTo t g p
+moved-is p n held t g sound n′ t′ l′ did =
+    places-is n′ (movedTo t g p .next) t′ (movedTo t g p .tail) l′ (movedTo t g p .len) (p .top) (p .top)
+    (did .links) (did .ends) (did .size (ring-few p n held sound g) (ring-few p n held sound t)) refl

@@ -1,0 +1,5 @@
+pub mod View
+pub mod Sound
+pub mod Placing
+pub mod Storing
+pub mod Blank

@@ -1,0 +1,75 @@
+-- What the operations on the strand store do, as functions on the record, and when a place waits for a strand.
+use Prim.Native.Nat.{ℕ, zero, suc, _+_, _<_, _≤_}
+use mathlib.Core.Path.{_≡_}
+use mathlib.Core.Bool.{Bool, true, false}
+use mathlib.Core.List.{List, [], _∷_, map}
+use lib.ListN.{length, getD, set}
+use Rattle.definitions.specs.Strand as held
+use Rattle.rings.specs.Lists.{times}
+use Rattle.rings.specs.Rings.{eligible}
+use Rattle.strands.specs.declared.Strand.{Strand}
+use Rattle.stores.specs.declared.Places.{Places}
+use Rattle.stores.specs.declared.Strands.{Strands}
+use Rattle.stores.specs.View.{free, ring, strandAt}
+use Rattle.stores.specs.Sound.{SoundPlaces, InUse, flagOf}
+use Rattle.stores.specs.Placing.{enqueued, taken, takenPlace, hasOne, freed, freePlace, movedTo}
+
+abbrev pub with-places : Strands → Places → Strands
+with-places s p = record { strands = s .strands; time = s .time; ambiguous = s .ambiguous; places = p }
+
+-- the strands of table t's queue
+abbrev pub strandsOf : Strands → (t : ℕ) → List held.Strand
+strandsOf s t = map (strandAt s) (ring (s .places) t)
+
+-- a strand is written at a place, with its numbers beside it
+abbrev pub written : (q : ℕ) → Strand → Strands → Strands
+written q x s = record { strands = set (s .strands) q x; time = set (s .time) q (x .«last_pursued_time»); ambiguous = set (s .ambiguous) q (flagOf (x .ambiguous)); places = s .places }
+
+-- `enqueue_strand`: the strand at a held place goes to the end of table t's queue
+abbrev pub enqueuedStrand : (t q : ℕ) → Strands → Strands
+enqueuedStrand t q s = with-places s (enqueued t q (s .places))
+
+-- a held place is free again
+abbrev pub given : (q : ℕ) → Strands → Strands
+given q s = enqueuedStrand free q s
+
+-- the test of `ring_take`
+abbrev pub testAt : (clock : ℕ) → (complete : Bool) → Strands → ℕ → Bool
+testAt clock complete s q = eligible (s .time) (s .ambiguous) clock complete q
+
+-- `dequeue_next_strand_that`: the first eligible strand of table t is held
+abbrev pub takenStrand : (clock : ℕ) → (complete : Bool) → (t : ℕ) → Strands → Strands
+takenStrand clock complete t s = with-places s (taken (testAt clock complete s) t (s .places))
+
+-- its place, or 256
+abbrev pub strandPlace : (clock : ℕ) → (complete : Bool) → (t : ℕ) → Strands → ℕ
+strandPlace clock complete t s = takenPlace (testAt clock complete s) t (s .places)
+
+abbrev pub anyStrand : (clock : ℕ) → (complete : Bool) → (t : ℕ) → Strands → Bool
+anyStrand clock complete t s = hasOne (testAt clock complete s) t (s .places)
+
+-- `take_strands`: the queue's places are free
+abbrev pub cleared : (t : ℕ) → Strands → Strands
+cleared t s = with-places s (movedTo t free (s .places))
+
+-- a place is taken for a new strand
+abbrev pub freedStrands : Strands → Strands
+freedStrands s = with-places s (freed (s .places))
+
+-- A NEW STRAND in table t's queue: a place is taken, written and enqueued
+abbrev pub stored : (t : ℕ) → Strand → Strands → Strands
+stored t x s = enqueuedStrand t (freePlace (s .places)) (written (freePlace (s .places)) x (freedStrands s))
+
+-- new strands one after the other: the initial strands of a table
+abbrev pub storedAll : (t : ℕ) → List Strand → Strands → Strands
+storedAll t [] s = s
+storedAll t (x ∷ xs) s = storedAll t xs (stored t x s)
+
+-- Place q is held, besides those in `held`, and what stands there is nobody's yet.
+pub record Ready (s : Strands) (n : ℕ) (held : List ℕ) (q : ℕ) : Type 0 where
+  pub places : SoundPlaces (s .places) n (q ∷ held)
+  pub long : length (s .strands) ≡ 256
+  pub long-time : length (s .time) ≡ 256
+  pub long-ambiguous : length (s .ambiguous) ≡ 256
+  pub queued : (t u : ℕ) → t < n → 1 ≤ times u (ring (s .places) t) → InUse s u
+  pub in-hand : (u : ℕ) → 1 ≤ times u held → InUse s u

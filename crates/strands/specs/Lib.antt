@@ -1,0 +1,9 @@
+pub mod View
+pub mod Times
+pub mod NextAnswer
+pub mod Literals
+pub mod Floundering
+pub mod Delaying
+pub mod Merging
+pub mod Making
+pub mod Answers

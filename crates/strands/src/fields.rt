@@ -1,0 +1,78 @@
+// strand.rs: a strand with one field written, and the copy of a strand for the next answer.
+use crate::Selected;
+use crate::Strand;
+ghost use mathlib.Core.Path.{_≡_};
+ghost use mathlib.Core.Option.{none};
+ghost use mathlib.Core.Bool.{true};
+ghost use Rattle.definitions.specs.Strand.{with-pursued, with-selected, with-ex-clause, with-ambiguous};
+ghost use Rattle.strands.specs.View.{Sound, view, clause, selected};
+ghost use Rattle.strands.specs.NextAnswer.{after, next-of, NextAnswer};
+
+// The strand is pursued at this time.
+pub fn pursued(s: Strand, time: u64) -> Strand
+    ensures { λ r. ⌜ (view r ≡ with-pursued (view s) time) × (Sound s → Sound r) ⌝ }
+{
+    let mut t = s;
+    t.last_pursued_time = time;
+    t
+}
+
+pub fn deselected(s: Strand) -> Strand
+    ensures { λ r. ⌜ (view r ≡ with-selected (view s) none) × (Sound s → Sound r) ⌝ }
+{
+    let k = Selected::Nothing;
+    Strand { selected: k, ..s }
+}
+
+pub fn select(s: Strand, k: Selected) -> Strand
+    ensures { λ r. ⌜ (view r ≡ with-selected (view s) (selected k)) × (Sound s → Sound r) ⌝ }
+{
+    Strand { selected: k, ..s }
+}
+
+pub fn made_ambiguous(s: Strand) -> Strand
+    ensures { λ r. ⌜ (view r ≡ with-ex-clause (view s) (with-ambiguous (clause s) true)) × (Sound s → Sound r) ⌝ }
+{
+    let mut t = s;
+    t.ambiguous = true;
+    t
+}
+
+// The index after an answer's. A u16 stays at its end, which no table's answers reach.
+fn following(answer: u16) -> u16
+    ensures { λ r. ⌜ r ≡ after answer ⌝ }
+{
+    if answer < 65535 { answer + 1 } else { 65535 }
+}
+
+fn next_selected(k: Selected) -> Selected
+    ensures { λ r. ⌜ r ≡ next-of k ⌝ }
+{
+    match k {
+        Selected::Nothing => Selected::Nothing,
+        Selected::Subgoal {
+            index,
+            table,
+            answer,
+        } => {
+            let next = following(answer);
+            Selected::Subgoal {
+                index,
+                table,
+                answer: next,
+            }
+        }
+    }
+}
+
+// The copy of the strand for the next answer. It keeps the last pursued time, so that this stack entry won't take it again.
+pub fn next_answer_strand(s: Strand) -> Strand
+    ensures { λ r. ⌜ NextAnswer s r ⌝ }
+{
+    let k = s.selected;
+    let next = next_selected(k);
+    Strand {
+        selected: next,
+        ..s
+    }
+}
