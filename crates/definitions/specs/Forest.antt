@@ -16,12 +16,12 @@ use Rattle.definitions.specs.Tables.{Forest, with-mark}
 use Rattle.definitions.specs.Logic.{RootSearchFail, NoMoreSolutions, Floundered, QuantumExceeded, NegativeCycle, InvalidAnswer, get-or-create-table-for-ucanonical-goal}
 use Rattle.definitions.specs.Turn.{Ending, found, fail, cut, stopped, Searched, root-answer}
 
--- Making. `Forest::new` over a book; the clock's limit is a number below 2 ^ 64.
+-- Making. `Forest::new` over a book. The clock's limit is a number below 2 ^ 64, so that the second test of 13 is met by 2 ^ 64 - 1 alone.
 abbrev pub make : (bytes : List ℕ) → (clock-limit : ℕ) → Refusable Forest
 make bytes limit = elim (read bytes) [
   | refused n ↦ refused n
   | accepted book ↦ unless
-      ((eqb limit 0 || eqb limit MAX) refuses 13
+      ((eqb limit 0 || leb MAX limit) refuses 13
       ∷ [])
       (record { book = book; clock-limit = limit; mark = 0; tables = []; clock = 0 })
 ]

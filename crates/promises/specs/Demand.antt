@@ -1,5 +1,5 @@
 -- Demand 3, proved of the definitions: what `Claim` says of the whole list of calls holds for every byte string that makes a forest
--- from a plain levelled book, every clock limit that a u64 can hold and 13 lets through, and every list of calls.
+-- from a plain levelled book, every clock limit that 13 lets through, and every list of calls.
 use Prim.Native.Nat.{ℕ, _+_, _-_, _≤_}
 use native.Mathlib.Omega.{arith}
 use mathlib.Core.Path.{_≡_, refl, sym, ap, subst}
@@ -15,13 +15,14 @@ use Rattle.definitions.specs.Turn.{root-answer}
 use Rattle.definitions.specs.Forest.{make, is-marked, opened, not-made, index-above, peek-rounds, any-future-answer}
 use Rattle.definitions.specs.Calls.{Call, opens, searches, peeks, asks-future, Reply, refusal, table, searched, peeked, future, call, calls}
 use Rattle.definitions.specs.Model.{Plain, Levelled, In}
-use Rattle.definitions.specs.Claim.{MarkedSays, reply-stopped, AllSay, exceeded-in, exceeded}
+use Rattle.definitions.specs.Claim.{MarkedSays, reply-stopped, AllSay, exceeded-in, exceeded, Demand3}
 use Rattle.promises.specs.Plain.Model as P
 use Rattle.promises.specs.Plain.Claim.{Inside}
 use Rattle.promises.specs.Plain.Machine as M
 use Rattle.promises.specs.Plain.Whole.{potential, initial-ok, initial-total}
 use Rattle.promises.specs.Link.View.{t-end}
 use Rattle.promises.specs.Link.Tables.{book-of, no-such, forest-of, Agree}
+use Rattle.promises.specs.Link.Tests.{leb-false}
 use Rattle.promises.specs.Link.Making.{Sound}
 use Rattle.promises.specs.Link.Models.{levelled-is, inside-is, clauses-total}
 use Rattle.promises.specs.Link.Reading.{not-accepted, all-pass, Good, read-good, good-sound}
@@ -113,27 +114,25 @@ pub record MadeFrom (bytes : List ℕ) (limit : ℕ) (f : Forest) : Type 0 where
   pub book : Book
   pub good : Good book
   pub is : forest-of book limit 0 [] 0 ≡ f
+  pub room : limit ≤ MAX
+
+or-right : (a b : Bool) → (a || b) ≡ false → b ≡ false
+or-right true b e = let z : _≡_ {A = ℕ} 0 1 = cc in absurd (omega arith)
+or-right false b e = e
 
 made-from : (bytes : List ℕ) (limit : ℕ) (f : Forest) → make bytes limit ≡ accepted f → MadeFrom bytes limit f
 made-from bytes limit f e = go (read bytes) refl e
   where
-    go : (o : Refusable Book) → read bytes ≡ o → elim o [ refused n ↦ refused n | accepted book ↦ unless ((eqb limit 0 || eqb limit MAX) refuses 13 ∷ []) (forest-of book limit 0 [] 0) ] ≡ accepted f → MadeFrom bytes limit f
+    go : (o : Refusable Book) → read bytes ≡ o → elim o [ refused n ↦ refused n | accepted book ↦ unless ((eqb limit 0 || leb MAX limit) refuses 13 ∷ []) (forest-of book limit 0 [] 0) ] ≡ accepted f → MadeFrom bytes limit f
     go (refused n) k x = absurd (not-accepted x)
     go (accepted book) k x = record {
       book = book;
       good = read-good bytes 0 [] book (record { few-goals = omega arith; few-clauses = omega arith }) k;
-      is = all-pass ((eqb limit 0 || eqb limit MAX) refuses 13 ∷ []) (forest-of book limit 0 [] 0) f x .1;
+      is = all-pass ((eqb limit 0 || leb MAX limit) refuses 13 ∷ []) (forest-of book limit 0 [] 0) f x .1;
+      room = let y = leb-false MAX limit (or-right (eqb limit 0) (leb MAX limit) (all-pass ((eqb limit 0 || leb MAX limit) refuses 13 ∷ []) (forest-of book limit 0 [] 0) f x .0 .0)) in omega arith;
     }
 
--- Demand 3, for a clock limit that is a u64.
-abbrev pub Demand3Within : Type 0
-Demand3Within =
-    (bytes : List ℕ) (clock-limit : ℕ) (f : Forest) → make bytes clock-limit ≡ accepted f → clock-limit ≤ MAX →
-    (level : ℕ → ℕ) → Plain (f .book) → Levelled (f .book) level →
-    (cs : List Call) →
-    AllSay (In (f .book) level) false (calls f cs) × (exceeded (calls f cs) ≤ length (f .book) + clause-count (f .book))
-
-pub demand-3 : Demand3Within
-demand-3 bytes limit f e room level = let m = made-from bytes limit f e in
+pub demand-3 : Demand3
+demand-3 bytes limit f e level = let m = made-from bytes limit f e in
     subst (λ (z : Forest). Plain (z .book) → Levelled (z .book) level → (cs : List Call) → AllSay (In (z .book) level) false (calls z cs) × (exceeded (calls z cs) ≤ length (z .book) + clause-count (z .book)))
-    (m .is) (from-start (m .book) limit level room (m .good))
+    (m .is) (from-start (m .book) limit level (m .room) (m .good))

@@ -8,3 +8,7 @@ pub mod StrandSound
 pub mod StrandViews
 pub mod StrandStores
 pub mod BlankStores
+pub mod EntryCases
+pub mod EntryViews
+pub mod EntryCallers
+pub mod EntrySearch

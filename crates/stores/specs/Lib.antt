@@ -3,3 +3,4 @@ pub mod Sound
 pub mod Placing
 pub mod Storing
 pub mod Blank
+pub mod Entries

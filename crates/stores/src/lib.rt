@@ -1,6 +1,7 @@
 // table.rs, tables.rs and stack.rs: where the Rust has Vec, VecDeque and FxHashMap, arrays of a fixed size. Strands and answers stand at
 // places of a store; a table's queue, its answers and the free places are rings of places (crate `rings`).
 pub mod blank; // blank.rt: the stores as they are made
+pub mod entries; // entries.rt: the stack's entries
 pub mod placing; // placing.rt: a free place of a store
 
 use strands::Answer;

@@ -2,12 +2,15 @@
 use Prim.Native.Nat.{ℕ, suc, _+_, _≤_, _<_}
 use mathlib.Core.Bool.{Bool, true, false, _&&_}
 use mathlib.Core.List.{List, [], _∷_, _++_}
+use mathlib.Core.Option.{Option, some}
 use mathlib.Core.Path.{_≡_, refl, sym, ap, ap₂, _∙_}
 use lib.Dec.{eqb}
 use lib.ListN.{length, take, drop, set, getD}
 use lib.Seq.{append-snoc}
 use borrow.Author.Tests.{eq-eqb, ne-eqb}
+use Rattle.definitions.specs as said
 use Rattle.definitions.specs.Lists.{same}
+use Rattle.definitions.specs.Table.{equal-answer}
 use Rattle.definitions.specs.Turn.{other-than}
 use Rattle.strands.specs.declared.Answer.{Answer}
 use Rattle.strands.specs.Answers.{same-answer}
@@ -74,3 +77,8 @@ other-variants a b h = ap (by-variants a b) (ne-eqb (b .variant) (a .variant) h)
 
 pub same-variants : (a b : Answer) → b .variant ≡ a .variant → same-answer a b ≡ same (answer b .delayed-subgoals) (answer a .delayed-subgoals)
 same-variants a b e = ap (by-variants a b) (eq-eqb (b .variant) (a .variant) e)
+
+-- `same-answer` is the test of `equal-answer`: the search goes by it.
+pub equal-answer-by : (a b : Answer) (stored : List said.Answer)
+    → equal-answer (answer a) (answer b ∷ stored) ≡ elim (same-answer a b) as (λ _. Option said.Answer) [ true ↦ some (answer b) | false ↦ equal-answer (answer a) stored ]
+equal-answer-by a b stored = refl

@@ -4,7 +4,7 @@ use Prim.Native.Nat.{ℕ, zero, suc, _+_, _-_, _≤_, _<_, min}
 use native.Mathlib.Nat.{le-of-suc-le-suc, not-suc-le-zero, zero-min, min-zero, suc-min-suc, min-eq-left}
 use native.Mathlib.Numerals.{add-one}
 use native.Mathlib.Omega.{arith}
-use mathlib.Core.List.{List, [], _∷_, _++_, map, append-assoc}
+use mathlib.Core.List.{List, [], _∷_, _++_, map, append-nil, append-assoc, map-append}
 use mathlib.Core.Option.{Option, none, some}
 use mathlib.Core.Path.{_≡_, refl, sym, ap, ap₂, _∙_}
 use lib.Dec.{eqb, eqb·suc-zero}
@@ -21,10 +21,6 @@ module _ {A : Type 0} where
   past-end [] i h = refl
   past-end (a ∷ l) zero h = absurd (not-suc-le-zero h)
   past-end (a ∷ l) (suc i) h = past-end l i (le-of-suc-le-suc h)
-
-  pub append-nil : (l : List A) → l ++ [] ≡ l
-  append-nil [] = refl
-  append-nil (a ∷ l) = ap (λ (r : List A). a ∷ r) (append-nil l)
 
   -- without its last one, a list is its first ones
   remove-last : (l : List A) → remove l (length l - 1) ≡ take (length l - 1) l
@@ -96,10 +92,6 @@ module _ {A B : Type 0} (f : A → B) where
   map-set (b ∷ l) zero a = refl
   map-set (b ∷ l) (suc i) a = ap (λ (r : List B). f b ∷ r) (map-set l i a)
 
-  map-append : (l r : List A) → map f (l ++ r) ≡ map f l ++ map f r
-  map-append [] r = refl
-  map-append (a ∷ l) r = ap (λ (k : List B). f a ∷ k) (map-append l r)
-
   pub length-view : (n : ℕ) (l : List A) → length (map f (take n l)) ≡ min n (length l)
   length-view n l = length-map (take n l) f ∙ length-take n l
 
@@ -135,10 +127,10 @@ module _ {A B : Type 0} (f : A → B) where
       ∙ view-front (min n (length l) - 1) n l (omega arith)
 
   pub view-push : (n : ℕ) (l : List A) (a : A) → n < length l → push (map f (take n l)) (f a) ≡ map f (take (n + 1) (set l n a))
-  view-push n l a h = sym (map-append (take n l) (a ∷ [])) ∙ ap (λ (r : List A). map f r) (sym (take-one-more n l a h))
+  view-push n l a h = sym (map-append f (take n l) (a ∷ [])) ∙ ap (λ (r : List A). map f r) (sym (take-one-more n l a h))
 
   pub view-next : (n : ℕ) (l : List A) (d : A) → n < length l → map f (take (n + 1) l) ≡ push (map f (take n l)) (f (getD l n d))
-  view-next n l d h = ap (λ (r : List A). map f r) (take-next n l d h) ∙ map-append (take n l) (getD l n d ∷ [])
+  view-next n l d h = ap (λ (r : List A). map f r) (take-next n l d h) ∙ map-append f (take n l) (getD l n d ∷ [])
 
   -- `swap_remove`: the last one takes the place i
   pub view-swap-remove : (n i : ℕ) (l : List A) (d : A) → i < n → n ≤ length l
@@ -146,9 +138,7 @@ module _ {A B : Type 0} (f : A → B) where
   view-swap-remove n i l d p h =
       let e : length (map f (take n l)) ≡ n = length-view n l ∙ min-eq-left h in
       let last : A = getD l (n - 1) d in
-      let q : getElem? (map f (take n l)) (length (map f (take n l)) - 1) ≡ some (f last) =
-      ap (λ (k : ℕ). getElem? (map f (take n l)) (k - 1)) e ∙ view-at n (n - 1) l d (omega arith) in
-      swap-found (map f (take n l)) i (f last) q
+      swap-found (map f (take n l)) i (f last) (ap (λ (k : ℕ). getElem? (map f (take n l)) (k - 1)) e ∙ view-at n (n - 1) l d (omega arith))
       ∙ ap (λ (k : ℕ). take (k - 1) (set (map f (take n l)) i (f last))) e
       ∙ ap (λ (r : List B). take (n - 1) r) (sym (map-set (take n l) i last) ∙ ap (λ (r : List A). map f r) (sym (take-set-lt n l i last p)))
       ∙ view-front (n - 1) n (set l i last) (omega arith)

@@ -2,12 +2,16 @@
 use Prim.Native.Nat.{ℕ, suc, _+_}
 use mathlib.Core.Bool.{Bool, true, false, _||_}
 use mathlib.Core.List.{List, _++_}
+use mathlib.Core.Option.{Option, none, some}
 use mathlib.Core.Path.{_≡_, refl, sym, ap, _∙_}
 use lib.Dec.{ltb}
 use lib.ListN.{length}
 use Rattle.definitions.specs as said
+use Rattle.definitions.specs.Book as books
+use Rattle.definitions.specs.Fitting.{answer-fits}
+use Rattle.definitions.specs.Logic.{SolveState, Merge, merged, no-solution, merge-into}
 use Rattle.definitions.specs.Slg.{delay}
-use Rattle.definitions.specs.Stop.{Stops, go, _>>=_, _>>_, stop-if}
+use Rattle.definitions.specs.Stop.{Stops, stop, go, _>>=_, _>>_, stop-if}
 use Rattle.definitions.specs.Strand as held
 use Rattle.strands.specs.declared.Answer.{Answer}
 use Rattle.strands.specs.declared.Strand.{Strand}
@@ -68,3 +72,24 @@ is-ambiguous b u e = ap (λ (c : Bool). held.with-ambiguous u c) (or-true (u .am
 
 pub as-ambiguous : (b : Bool) (u : said.ExClause) → b ≡ false → u ≡ ambiguous-too b u
 as-ambiguous b u e = ap (λ (c : Bool). held.with-ambiguous u c) (or-false (u .ambiguous) ∙ ap (λ (c : Bool). u .ambiguous || c) (sym e))
+
+-- The definitions' `merge-into` for a positive literal whose answer fits, by what `take_answer` says: it takes the answer, or stops.
+abbrev applied-by : List ℕ → said.ExClause → (fits : Bool) → Stops (Option said.ExClause)
+applied-by goals x fits = elim fits [ false ↦ go none | true ↦ elim (delay goals x) [ stop n ↦ stop n | go y ↦ go (some y) ] ]
+
+abbrev merged-by : SolveState → held.Strand → (ambiguous : Bool) → Option said.ExClause → Stops Merge
+merged-by st s b o = elim o [ none ↦ no-solution st | some y ↦ go (merged (held.with-ex-clause s (taking b y)) st) ]
+
+merge-delayed : (st : SolveState) (s : held.Strand) (b : Bool) (d : Stops said.ExClause)
+    → ((elim d as (λ _. Stops (Option said.ExClause)) [ stop n ↦ stop n | go y ↦ go (some y) ]) >>= merged-by st s b)
+    ≡ (then (taking b) d >>= λ x. go (merged (held.with-ex-clause s x) st))
+merge-delayed st s b (stop n) = refl
+merge-delayed st s b (go y) = refl
+
+pub merge-into-takes : (st : SolveState) (s : held.Strand) (goal want : ℕ) (outsized : Bool) (a : said.Answer)
+    → answer-fits (books.Positive goal want outsized) (a .variant) ≡ true
+    → merge-into st s (books.Positive goal want outsized) a
+    ≡ ((delay (a .delayed-subgoals) (s .ex-clause) >>= λ x. go (taking (a .ambiguous) x)) >>= λ x. go (merged (held.with-ex-clause s x) st))
+merge-into-takes st s goal want outsized a fits =
+    ap (λ (f : Bool). applied-by (a .delayed-subgoals) (s .ex-clause) f >>= merged-by st s (a .ambiguous)) fits
+    ∙ merge-delayed st s (a .ambiguous) (delay (a .delayed-subgoals) (s .ex-clause))

@@ -1,14 +1,14 @@
 -- Choosing a literal of a plain strand.
 use Prim.Native.Nat.{ℕ, suc, _-_}
-use mathlib.Core.Path.{_≡_, refl, ap, _∙_}
+use mathlib.Core.Path.{_≡_, ap, _∙_}
 use mathlib.Core.Bool.{false}
 use mathlib.Core.Option.{none, some}
-use mathlib.Core.List.{[], _∷_}
+use mathlib.Core.List.{_∷_}
 use lib.ListN.{length, getElem?}
 use Rattle.definitions.specs.Stop.{go}
 use Rattle.definitions.specs.Table.{Table}
 use Rattle.definitions.specs.Tables.{Forest}
-use Rattle.definitions.specs.Logic.{Selected, NotSelected, selecting, select-from, get-or-create-table-for-ucanonical-goal, get-or-create-table-for-subgoal}
+use Rattle.definitions.specs.Logic.{Selected, selecting, select-from, get-or-create-table-for-ucanonical-goal, get-or-create-table-for-subgoal}
 use Rattle.promises.specs.Plain.Model.{Lit, pos, neg, Body, goalOf}
 use Rattle.promises.specs.Link.View.{literal, literals, strand-of, selection}
 use Rattle.promises.specs.Link.Lists.{last-place, last-one, last-some}
@@ -32,6 +32,3 @@ select-free passes others f a l b t j f' tb e e' n =
     rw (last-some (literals b) (literal l), select-from) (rw (last-place (literals b) (literal l)) (rw (last-one (literals b) (literal l)) (rw (goal-same l f others j f' e)
     (select-at others f' a l b t j tb e' n (length (literals (l ∷ b)) - 1) passes
     ∙ ap (λ k. go (selecting Selected (strand-of a (l ∷ b) (some (record { subgoal-index = k; subgoal-table = j; answer-index = 0 })) t) f')) (last-place (literals b) (literal l))))))
-
-pub select-done : (passes others : ℕ) (f : Forest) (a t : ℕ) → select-from (suc passes) others f (strand-of a [] none t) ≡ go (selecting NotSelected (strand-of a [] none t) f)
-select-done passes others f a t = refl

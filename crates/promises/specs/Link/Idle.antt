@@ -15,23 +15,20 @@ use Rattle.definitions.specs.Stack.{Stack}
 use Rattle.definitions.specs.Stop.{go}
 use Rattle.definitions.specs.Logic.{return-err, QuantumExceeded}
 use Rattle.definitions.specs.Turn.{on-no-strands, on-own-cycle, on-part-of-cycle, on-no-strands-left}
-use Rattle.promises.specs.Plain.Model.{Lit, pos, neg, Body}
+use Rattle.promises.specs.Plain.Model.{pos, neg, Body}
 use Rattle.promises.specs.Plain.Machine as M
 use Rattle.promises.specs.Plain.Steps.{put-here, put-there}
-use Rattle.promises.specs.Link.View.{literals, Names, names, strand-of, selection, machine-strand, free, bound, QueueIs, q-end, q-more, table-of, table-is, no-active, an-active, entry-of, machine-entry, StackIs, s-end, s-more}
+use Rattle.promises.specs.Link.View.{literals, strand-of, selection, machine-strand, free, bound, QueueIs, q-end, q-more, table-of, table-is, no-active, an-active, entry-of, machine-entry, StackIs, s-end, s-more}
 use Rattle.promises.specs.Link.Lists.{last-one, last-gone}
 use Rattle.promises.specs.Link.Tests.{leb-yes, leb-no, ltb-no}
 use Rattle.promises.specs.Link.Tables.{no-such, same-some, Agree, agree-set}
 use Rattle.promises.specs.Link.Back.{table-here, queue-set, enqueued, unwound-is}
 use Rattle.promises.specs.Link.Turn.{state-of, TurnIs, going, gave-up, no-more, lost, Lined, lined-busy}
-use Rattle.promises.specs.Link.Selected.{limits-of}
+use Rattle.promises.specs.Link.Selected.{limits-of, names-tail}
 use Rattle.promises.specs.Link.Clearing.{strands-in, clears}
 
 false-true : {b : Bool} → b ≡ false → b ≡ true → ⊥
 false-true {b} e o = let z : _≡_ {A = ℕ} 0 1 = cc in omega arith
-
-names-rest : {n : ℕ} {l : Lit} {b : Body} → Names n (l ∷ b) → Names n b
-names-rest (names x y) = y
 
 -- the caller's strand is selected
 not-free : {b : Body} {t : ℕ} {s : M.Strand} → _≡_ {A = Option M.Strand} (some (machine-strand b false t)) (some s) → s .chosen ≡ true → ⊥
@@ -52,7 +49,7 @@ module _ (book : Book) (limit : ℕ) {gs : List ℕ} {ts : Tables} {p : M.Forest
       let d = unwound-is book limit 0 (p .clock) xs (lined-busy (limits-of book limit) (machine-entry g' c' pm' nm' _) es (lined .3)) agree in
       rw (last-one (literals b) (Positive h 0 false)) (rw (d .is) (gave-up (λ i h o. o) refl (d .agree)))
   emptied-is (s-more i' g' c' pm' nm' e' (an-active (bound a (neg h) b t j w k)) xs) lined =
-      rw (last-one (literals b) (Negative h false)) (rw (last-gone (literals b) (Negative h false)) (going (λ i h o. o) agree (s-more i' g' c' pm' nm' e' (an-active (free a b t (names-rest w))) xs)))
+      rw (last-one (literals b) (Negative h false)) (rw (last-gone (literals b) (Negative h false)) (going (λ i h o. o) agree (s-more i' g' c' pm' nm' e' (an-active (free a b t (names-tail w))) xs)))
 
   -- part of a cycle that ends further down
   part-is : {ds : Stack} {es : List M.Entry} → StackIs (length book) gs ds es → Lined (limits-of book limit) (machine-entry g c pm nm none) es

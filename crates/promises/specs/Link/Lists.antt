@@ -1,5 +1,5 @@
 -- Facts about lists: the last one of a list, places, and what setting a place does.
-use Prim.Native.Nat.{ℕ, zero, suc, _+_, _-_, _<_}
+use Prim.Native.Nat.{ℕ, zero, suc, _+_, _-_}
 use native.Mathlib.Omega.{arith}
 use mathlib.Core.Path.{_≡_, refl, ap}
 use mathlib.Core.Bool.{false}
@@ -29,15 +29,6 @@ module _ {A : Type 0} where
   at-append (y ∷ xs) ys zero x e = e
   at-append (y ∷ xs) ys (suc i) x e = at-append xs ys i x e
 
-  pub at-last : (xs : List A) (x : A) → getElem? (xs ++ (x ∷ [])) (length xs) ≡ some x
-  at-last [] x = refl
-  at-last (y ∷ xs) x = at-last xs x
-
-  pub at-within : (xs : List A) (i : ℕ) (x : A) → getElem? xs i ≡ some x → i < length xs
-  at-within [] i x e = let z : _≡_ {A = ℕ} 0 1 = cc in absurd (omega arith)
-  at-within (y ∷ xs) zero x e = omega arith
-  at-within (y ∷ xs) (suc i) x e = let h = at-within xs i x e in omega arith
-
   pub set-here : (xs : List A) (i : ℕ) (x y : A) → getElem? xs i ≡ some x → getElem? (set xs i y) i ≡ some y
   set-here [] i x y e = let z : _≡_ {A = ℕ} 0 1 = cc in absurd (omega arith)
   set-here (a ∷ xs) zero x y e = refl
@@ -47,7 +38,3 @@ module _ {A : Type 0} where
   total-set f [] i x y e = let z : _≡_ {A = ℕ} 0 1 = cc in absurd (omega arith)
   total-set f (a ∷ xs) zero x y e = let k : f a ≡ f x = ap f (let k : a ≡ x = cc in k) in omega arith
   total-set f (a ∷ xs) (suc i) x y e = let k = total-set f xs i x y e in omega arith
-
-  pub total-append : (f : A → ℕ) (xs ys : List A) → total f (xs ++ ys) ≡ total f xs + total f ys
-  total-append f [] ys = omega arith
-  total-append f (a ∷ xs) ys = let k = total-append f xs ys in omega arith

@@ -17,7 +17,7 @@ use Rattle.definitions.specs.Logic.{initial-strand, build-table, get-or-create-
 use Rattle.promises.specs.Plain.Model.{Lit, Body}
 use Rattle.promises.specs.Plain.Machine as M
 use Rattle.promises.specs.Link.View.{literal, literals, Names, strand-of, StrandIs, free, QueueIs, q-end, q-more, table-of, table-is, TableAt, TablesAre, t-end, t-more}
-use Rattle.promises.specs.Link.Lists.{at-append, at-last}
+use Rattle.promises.specs.Link.Lists.{at-append, last-one}
 use Rattle.promises.specs.Link.Tests.{ltb-no}
 use Rattle.promises.specs.Link.Tables.{lit, body-of, bodies, book-of, Extends, Absent, table-more, no-such, same-some, tables-map, FoundIs, found-at, found-none, goal-found, forest-of, Agree}
 use Rattle.promises.specs.Link.Sums.{queued-under}
@@ -160,7 +160,7 @@ module _ {book : Book} (sound : Sound book) (limit mark : ℕ) {gs : List ℕ} {
         after = ts ++ (t ∷ []);
         is = rw (e, get-or-create-table-for-ucanonical-goal) (rw (build-is book h G k (sound .plain h G k)) (rw (ltb-no 256 (others + total (λ t. length (t .strands)) (ts ++ (t ∷ []))) (omega arith))));
         more = λ i g o. at-append gs (h ∷ []) i g o;
-        at = ap (λ z. getElem? (gs ++ (h ∷ [])) z) (tables-length (a .tables)) ∙ at-last gs h;
+        at = ap (λ z. getElem? (gs ++ (h ∷ [])) z) (tables-length (a .tables)) ∙ last-one gs h;
         agree = agree;
       }
 

@@ -53,7 +53,7 @@ stretch book limit mark c a (s-more i g d q r e act xs) (suc k) =
 pub ticked : {book : Book} {gs : List ℕ} {ts : Tables} {p : M.Forest} → Agree book gs ts p → {c : ℕ} → Agree book gs ts (record { made = p .made; answered = p .answered; first = p .first; queue = p .queue; clock = c })
 ticked a = record { tables = tables-map (a .tables) (λ i g e t x. x); distinct = a .distinct; within = a .within; made = a .made; unmade = a .unmade }
 
-names-tail : {n : ℕ} {l : Lit} {b : Body} → Names n (l ∷ b) → Names n b
+pub names-tail : {n : ℕ} {l : Lit} {b : Body} → Names n (l ∷ b) → Names n b
 names-tail (names x y) = y
 
 module _ (book : Book) (limit : ℕ) {gs : List ℕ} {ts : Tables} {p : M.Forest} (agree : Agree book gs ts p) (i g c pm nm : ℕ) (at : getElem? gs i ≡ some g) {ds : Stack} {es : List M.Entry} (xs : StackIs (length book) gs ds es)

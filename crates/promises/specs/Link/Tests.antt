@@ -39,9 +39,6 @@ leb-false a b e = go (decLe a b)
     go (yes o) = absurd (let x = leb-yes a b o in let z : _≡_ {A = ℕ} 0 1 = cc in omega arith)
     go (no n) = omega arith
 
-pub eqb-true : (a b : ℕ) → eqb a b ≡ true → a ≡ b
-eqb-true a b e = eqb→eq a b (true-T e)
-
 pub ltb-yes : (a b : ℕ) → a < b → ltb a b ≡ true
 ltb-yes a b o = leb-yes (suc a) b o
 

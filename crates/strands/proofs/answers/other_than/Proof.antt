@@ -1,13 +1,13 @@
 -- The loop of `other_than`: what is kept so far, with what the definition keeps of the goals left, is what it keeps of all.
 use Prim.Native.Nat.{ℕ, _-_, _≤_}
 use native.Mathlib.Omega.{arith}
-use mathlib.Core.List.{List, _++_}
+use mathlib.Core.List.{List, _++_, append-nil}
 use mathlib.Core.Path.{_≡_, sym, ap, _∙_}
 use lib.ListN.{length, take, drop, getD, length-set}
 use borrow.Author.Needs.{needs}
 use Rattle.definitions.specs.Turn.{other-than}
 use Rattle.strands.proofs.AnswerCases.{turn-kept, turn-dropped}
-use Rattle.strands.proofs.Lists.{append-nil, left-none}
+use Rattle.strands.proofs.Lists.{left-none}
 use Rattle.strands.proofs.answers.other_than.Statement.{statement}
 use Rattle.strands.proofs.answers.other_than.Tie as tie
 

@@ -1,11 +1,11 @@
 -- The loop of `appended`: the first n + i of the array are the first n of one and the first i of the other.
 use Prim.Native.Nat.{ℕ, _+_, _-_, _≤_}
 use native.Mathlib.Omega.{arith}
-use mathlib.Core.List.{_++_}
+use mathlib.Core.List.{_++_, append-nil}
 use mathlib.Core.Path.{_≡_, sym, ap, _∙_}
 use lib.ListN.{length, take, getD, length-set}
 use borrow.Author.Needs.{needs}
-use Rattle.strands.proofs.Lists.{append-nil, appended-next}
+use Rattle.strands.proofs.Lists.{appended-next}
 use Rattle.strands.proofs.delaying.appended.Statement.{statement}
 use Rattle.strands.proofs.delaying.appended.Tie as tie
 

@@ -1,0 +1,146 @@
+// stack.rs: the stack's arrays are lent, and its depth goes by value. The topmost entry stands at depth - 1. At most 64 entries: a table
+// is on the stack at most once. On a depth that no stack has nothing is written.
+ghost use mathlib.Core.Path.{_≡_};
+ghost use Prim.Native.Nat.{_-_};
+ghost use lib.ListN.{getD, set};
+ghost use lib.Dec.{eqb};
+ghost use Rattle.stores.specs.Entries.{depthAfter, writtenAt, below, callerPlace, callerWritten, topWritten, firstAt, within, allFrom, coinductiveAt};
+
+// `push`: the depth that it leaves; the same depth where the stack is full.
+pub fn push_entry(
+    table: &mut [u8; 64],
+    clock: &mut [u64; 64],
+    positive: &mut [u64; 64],
+    negative: &mut [u64; 64],
+    active: &mut [u16; 64],
+    depth: usize,
+    t: u8,
+    time: u64,
+    most: u64,
+) -> usize
+    ensures { λ r. ⌜ (r ≡ depthAfter depth)
+        × (now (table .exit) ≡ writtenAt depth t (now (table .entry)))
+        × (now (clock .exit) ≡ writtenAt depth time (now (clock .entry)))
+        × (now (positive .exit) ≡ writtenAt depth most (now (positive .entry)))
+        × (now (negative .exit) ≡ writtenAt depth most (now (negative .entry)))
+        × (now (active .exit) ≡ writtenAt depth 256 (now (active .entry))) ⌝ }
+{
+    if depth >= 64 {
+        return depth;
+    }
+    table[depth] = t;
+    clock[depth] = time;
+    positive[depth] = most;
+    negative[depth] = most;
+    active[depth] = 256;
+    depth + 1
+}
+
+// `pop`: the depth that it leaves.
+pub fn pop(depth: usize) -> usize
+    ensures { λ r. ⌜ r ≡ depth - 1 ⌝ }
+{
+    if depth > 0 { depth - 1 } else { 0 }
+}
+
+// The place of the strand of the caller, the entry below the top: 256 where there is no caller or no strand.
+pub fn caller_place(active: &[u16; 64], depth: usize) -> u16
+    ensures { λ r. ⌜ r ≡ callerPlace depth (now (active .entry)) ⌝ }
+{
+    if depth < 2 {
+        return 256;
+    }
+    if depth > 64 {
+        return 256;
+    }
+    active[depth - 2]
+}
+
+// `pop_and_take_caller_strand`, but for the depth: the caller's entry has no strand from now on.
+pub fn take_caller(active: &mut [u16; 64], depth: usize) -> u16
+    ensures { λ r. ⌜ (r ≡ callerPlace depth (now (active .entry))) × (now (active .exit) ≡ callerWritten depth (now (active .entry))) ⌝ }
+{
+    if depth < 2 {
+        return 256;
+    }
+    if depth > 64 {
+        return 256;
+    }
+    let p = active[depth - 2];
+    active[depth - 2] = 256;
+    p
+}
+
+// The top's active strand is set: a place, or 256 for none.
+pub fn set_active(active: &mut [u16; 64], depth: usize, place: u16)
+    ensures { λ _. ⌜ now (active .exit) ≡ topWritten depth place (now (active .entry)) ⌝ }
+{
+    if depth == 0 {
+        return;
+    }
+    if depth > 64 {
+        return;
+    }
+    active[depth - 1] = place;
+}
+
+// One of the top's minimums is set.
+pub fn set_minimum(minimum: &mut [u64; 64], depth: usize, time: u64)
+    ensures { λ _. ⌜ now (minimum .exit) ≡ topWritten depth time (now (minimum .entry)) ⌝ }
+{
+    if depth == 0 {
+        return;
+    }
+    if depth > 64 {
+        return;
+    }
+    minimum[depth - 1] = time;
+}
+
+fn upto(n: usize) -> usize
+    ensures { λ r. ⌜ r ≡ within n ⌝ }
+{
+    if n > 64 { 64 } else { n }
+}
+
+// Where x stands first among the first n, or n (64 at most) where it doesn't. `is_active` for the tables of the entries, `index_of` for
+// the goals of the tables.
+pub fn first_of(xs: &[u8; 64], n: usize, x: u8) -> usize
+    ensures { λ r. ⌜ r ≡ firstAt (λ i. eqb (getD (now (xs .entry)) i 0) x) 0 (within n) ⌝ }
+{
+    let m = upto(n);
+    let mut i: usize = 0;
+    while i < m {
+        if xs[i] == x {
+            return i;
+        }
+        i = i + 1;
+    }
+    i
+}
+
+// `top_of_stack_is_coinductive_from`: all entries from one up to the top are of coinductive tables.
+pub fn coinductive_from(table: &[u8; 64], coinductive: &[u8; 64], from: usize, depth: usize) -> bool
+    ensures { λ r. ⌜ r ≡ allFrom (coinductiveAt (now (table .entry)) (now (coinductive .entry))) from (within depth - from) ⌝ }
+{
+    let m = upto(depth);
+    let mut i = from;
+    while i < m {
+        if is_coinductive(coinductive, table[i]) {
+            i = i + 1;
+        } else {
+            return false;
+        }
+    }
+    true
+}
+
+// Whether a table is coinductive; one that can't be isn't.
+pub fn is_coinductive(coinductive: &[u8; 64], t: u8) -> bool
+    ensures { λ r. ⌜ r ≡ below t (now (coinductive .entry)) ⌝ }
+{
+    if t >= 64 {
+        return false;
+    }
+    coinductive[t as usize] != 0
+}
