@@ -1,6 +1,6 @@
 -- Text as bytes.
 use Prim.Native.Nat.{ℕ}
-use Prim.Native.Char.{Char, code}
+use Prim.Native.Char.{code}
 use Prim.Native.String.{String}
 use Prim.Native.String as S
 use mathlib.Core.List.{List, [], _∷_}

@@ -3,7 +3,7 @@ use Prim.Native.Nat.{ℕ}
 use mathlib.Core.Bool.{Bool}
 use mathlib.Core.List.{List, [], _∷_}
 use Rattle.definitions.specs.{TableIndex}
-use Rattle.definitions.specs.Refusal.{Refusable, refused, accepted}
+use Rattle.definitions.specs.Refusal.{refused, accepted}
 use Rattle.definitions.specs.Stop.{Stops}
 use Rattle.definitions.specs.Tables.{Forest}
 use Rattle.definitions.specs.Turn.{Ending}

@@ -2,17 +2,17 @@
 -- definitions give it, by computation. (The sizes of document 01 run in a program.)
 use Prim.Native.Nat.{ℕ}
 use mathlib.Core.Path.{_≡_, refl}
-use mathlib.Core.Bool.{Bool, true, false}
+use mathlib.Core.Bool.{true, false}
 use mathlib.Core.List.{List, [], _∷_, map}
 use Rattle.definitions.specs.{CompleteAnswer}
 use Rattle.definitions.specs.Ascii.{ascii}
-use Rattle.definitions.specs.Refusal.{Refusable, refused, accepted}
+use Rattle.definitions.specs.Refusal.{refused, accepted}
 use Rattle.definitions.specs.Stop.{go}
 use Rattle.definitions.specs.Book.{Literal, Positive, Negative, Clause, Goal, write}
 use Rattle.definitions.specs.Logic.{NoMoreSolutions}
 use Rattle.definitions.specs.Turn.{found, fail, cut, stopped}
 use Rattle.definitions.specs.Forest.{make}
-use Rattle.definitions.specs.Calls.{Call, opens, searches, peeks, Reply, refusal, table, searched, peeked, Called, calls}
+use Rattle.definitions.specs.Calls.{Call, opens, searches, peeks, Reply, refusal, table, searched, peeked, calls}
 use Rattle.definitions.specs.Listing.{listing}
 
 -- What is run: the listing program, or calls on a forest made with that clock limit.

@@ -1,5 +1,5 @@
 -- Demand 3, as document 01 words it under (e): one claim about a whole list of calls on a forest just made from a plain levelled book.
-use Prim.Native.Nat.{ℕ, zero, suc, _+_, _≤_}
+use Prim.Native.Nat.{ℕ, _+_, _≤_}
 use mathlib.Core.Path.{_≡_}
 use mathlib.Core.Bool.{Bool, true, false, _||_}
 use mathlib.Core.List.{List, [], _∷_}
@@ -9,7 +9,7 @@ use Rattle.definitions.specs.Refusal.{accepted}
 use Rattle.definitions.specs.Stop.{Stops, stop, go}
 use Rattle.definitions.specs.Book.{clause-count}
 use Rattle.definitions.specs.Tables.{Forest}
-use Rattle.definitions.specs.Logic.{RootSearchFail, NoMoreSolutions, Floundered, QuantumExceeded, NegativeCycle, InvalidAnswer}
+use Rattle.definitions.specs.Logic.{NoMoreSolutions, Floundered, QuantumExceeded, NegativeCycle, InvalidAnswer}
 use Rattle.definitions.specs.Turn.{Ending, found, fail, cut, stopped}
 use Rattle.definitions.specs.Forest.{make, Opened, open-goal, is-exceeded}
 use Rattle.definitions.specs.Calls.{Call, opens, searches, peeks, asks-future, Reply, refusal, table, searched, peeked, future, Called, calls}

@@ -1,7 +1,7 @@
 -- The four questions that control asks about terms, each in one place: how a literal, a want and an answer fit together.
 -- In the Rust they are calls into chalk-ir and chalk-solve.
 use Prim.Native.Nat.{ℕ}
-use mathlib.Core.Bool.{Bool, true, false, not, _||_}
+use mathlib.Core.Bool.{Bool, true, not, _||_}
 use lib.Dec.{eqb}
 use Rattle.definitions.specs.Book.{Literal, Positive, Negative}
 

@@ -1,19 +1,18 @@
 -- forest.rs: what can be called. A forest is made from a book's bytes; goals are opened, tables searched and peeked at. Each call
 -- is refused by the first test that fails and then changes nothing, or gives its result and the forest that it leaves.
-use Prim.Native.Nat.{ℕ, zero, suc, _+_, _-_}
+use Prim.Native.Nat.{ℕ, zero, suc, _-_}
 use mathlib.Core.Bool.{Bool, true, false, not, _&&_, _||_}
-use mathlib.Core.Option.{Option, none, some}
+use mathlib.Core.Option.{none, some}
 use mathlib.Core.List.{List, [], _∷_}
 use lib.ListN.{length, getElem?, drop}
 use lib.Dec.{eqb, leb, ltb}
-use Rattle.definitions.specs.{TableIndex, TimeStamp, MAX, CompleteAnswer}
-use Rattle.definitions.specs.Book.{Book, read}
+use Rattle.definitions.specs.{TableIndex, MAX}
+use Rattle.definitions.specs.Book.{read}
 use Rattle.definitions.specs.Refusal.{Refusable, refused, accepted, _refuses_, unless}
 use Rattle.definitions.specs.Stop.{Stops, stop, go}
 use Rattle.definitions.specs.Lists.{any}
-use Rattle.definitions.specs.Table.{Table}
 use Rattle.definitions.specs.Tables.{Forest, with-mark}
-use Rattle.definitions.specs.Logic.{RootSearchFail, NoMoreSolutions, Floundered, QuantumExceeded, NegativeCycle, InvalidAnswer, get-or-create-table-for-ucanonical-goal}
+use Rattle.definitions.specs.Logic.{NoMoreSolutions, Floundered, QuantumExceeded, NegativeCycle, InvalidAnswer, get-or-create-table-for-ucanonical-goal}
 use Rattle.definitions.specs.Turn.{Ending, found, fail, cut, stopped, Searched, root-answer}
 
 -- Making. `Forest::new` over a book. The clock's limit is a number below 2 ^ 64, so that the second test of 13 is met by 2 ^ 64 - 1 alone.

@@ -1,14 +1,14 @@
 -- Demand 3 at work on two small books, to show that it says something: the calls compute, the book is plain and levelled, and with
 -- another set in place of the model the claim is false.
-use Prim.Native.Nat.{ℕ, zero, suc, _≤_, _<_}
+use Prim.Native.Nat.{ℕ, zero, suc}
 use native.Mathlib.Omega.{arith}
 use mathlib.Core.Path.{_≡_, refl, sym, subst}
-use mathlib.Core.Bool.{Bool, true, false}
+use mathlib.Core.Bool.{true, false}
 use mathlib.Core.List.{List, [], _∷_, map, List·Memᴰ, List·Memᴰ·not-nil, List·Memᴰ·eq-of-singleton}
 use lib.ListN.{getD}
 use Rattle.definitions.specs.Refusal.{accepted}
 use Rattle.definitions.specs.Stop.{go}
-use Rattle.definitions.specs.Book.{Literal, Clause, Book, write, clause-count}
+use Rattle.definitions.specs.Book.{Clause, Book, write}
 use Rattle.definitions.specs.Tables.{Forest}
 use Rattle.definitions.specs.Logic.{NoMoreSolutions, QuantumExceeded}
 use Rattle.definitions.specs.Turn.{found, fail, cut, stopped}

@@ -1,17 +1,16 @@
 -- The listing program (document 01): from a book's bytes to the bytes that it prints.
-use Prim.Native.Nat.{ℕ, zero, suc, _+_, _-_, _*_, _/_, _%_}
+use Prim.Native.Nat.{ℕ, zero, suc, _+_, _-_, _/_, _%_}
 use mathlib.Core.Bool.{Bool, true, false}
 use mathlib.Core.List.{List, [], _∷_, _++_}
 use lib.ListN.{length}
-use lib.Dec.{eqb}
 use Rattle.definitions.specs.{CompleteAnswer}
 use Rattle.definitions.specs.Ascii.{ascii}
-use Rattle.definitions.specs.Refusal.{Refusable, refused, accepted}
-use Rattle.definitions.specs.Stop.{Stops, stop, go}
+use Rattle.definitions.specs.Refusal.{refused, accepted}
+use Rattle.definitions.specs.Stop.{stop, go}
 use Rattle.definitions.specs.Tables.{Forest}
 use Rattle.definitions.specs.Logic.{RootSearchFail, NoMoreSolutions, Floundered, QuantumExceeded, NegativeCycle, InvalidAnswer}
 use Rattle.definitions.specs.Turn.{Ending, found, fail, cut, stopped}
-use Rattle.definitions.specs.Forest.{make, Opened, opened, Peeked, peek-rounds}
+use Rattle.definitions.specs.Forest.{make, opened, peek-rounds}
 
 -- the decimal digits of n, before those of `after`. The first number bounds them: a tenth of a number is below it.
 abbrev pub digits : ℕ → ℕ → List ℕ → List ℕ

@@ -3,19 +3,19 @@
 use Prim.Native.Nat.{ℕ, zero, suc, _+_, _*_}
 use mathlib.Core.Bool.{Bool, true, false, not, _&&_, _||_}
 use mathlib.Core.Option.{Option, none, some}
-use mathlib.Core.List.{List, [], _∷_, map}
+use mathlib.Core.List.{[], _∷_, map}
 use lib.ListN.{length, getElem?}
-use lib.Dec.{eqb, leb, ltb}
-use Rattle.definitions.specs.{TableIndex, TimeStamp, MAX, FlounderedSubgoal, ExClause, Answer, Minimums, minimums-MAX, take-minimums, minimum-of-pos-and-neg, AnswerMode, Complete, Ambiguous, is-complete}
-use Rattle.definitions.specs.Book.{Literal, Positive, Negative, Clause, Goal, Book, goal-of}
-use Rattle.definitions.specs.Fitting.{gets-table, is-trivial, is-outsized}
+use lib.Dec.{ltb}
+use Rattle.definitions.specs.{TableIndex, ExClause, Answer, is-complete}
+use Rattle.definitions.specs.Book.{Literal, Positive, Negative, Clause, Book, goal-of}
+use Rattle.definitions.specs.Fitting.{gets-table, is-trivial}
 use Rattle.definitions.specs.Stop.{Stops, stop, go, _>>=_, _>>_, stop-if, unwrap}
-use Rattle.definitions.specs.Lists.{push, is-empty, remove, swap-remove, all}
-use Rattle.definitions.specs.Strand.{SelectedSubgoal, Strand, with-ex-clause, with-selected, with-pursued, with-subgoals, with-ambiguous, with-answer-time, with-floundered}
-use Rattle.definitions.specs.Table.{Table, new, with-strands, with-mode, enqueue-strand, take-strands, dequeue-next-strand-that, mark-floundered, push-answer, answer, next-answer-index}
-use Rattle.definitions.specs.Tables.{Tables, insert, index-of, Forest, with-tables, table-at, change-table, increment-clock, queued, held}
-use Rattle.definitions.specs.Stack.{StackEntry, Stack, with-active, with-minimums, is-active, top-of-stack-from, top, change-top, push-entry, Popped, no-caller, caller, pop-and-take-caller-strand, pop-and-borrow-caller-strand, active}
-use Rattle.definitions.specs.Slg.{next-subgoal-index, resolvent-clause, delay, apply-answer-subst}
+use Rattle.definitions.specs.Lists.{push, is-empty, remove, swap-remove}
+use Rattle.definitions.specs.Strand.{SelectedSubgoal, Strand, with-ex-clause, with-selected, with-subgoals, with-ambiguous, with-answer-time, with-floundered}
+use Rattle.definitions.specs.Table.{Table, new, with-strands, enqueue-strand, mark-floundered}
+use Rattle.definitions.specs.Tables.{insert, index-of, Forest, with-tables, table-at, change-table, queued}
+use Rattle.definitions.specs.Stack.{Stack, with-active, top, change-top, active}
+use Rattle.definitions.specs.Slg.{next-subgoal-index, resolvent-clause, apply-answer-subst}
 
 -- `RootSearchFail`
 pub data RootSearchFail : Type 0 where

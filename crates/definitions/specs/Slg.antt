@@ -1,15 +1,15 @@
 -- slg.rs and slg/resolvent.rs, in book terms: which literal is next, the strand of a clause, and an answer taken into a strand.
-use Prim.Native.Nat.{ℕ, zero, suc, _+_, _-_}
-use mathlib.Core.Bool.{Bool, true, false, not, _||_}
+use Prim.Native.Nat.{ℕ, _+_, _-_}
+use mathlib.Core.Bool.{true, false}
 use mathlib.Core.Option.{Option, none, some}
 use mathlib.Core.List.{List, [], _++_}
 use lib.ListN.{length}
 use lib.Dec.{ltb}
 use Rattle.definitions.specs.{ExClause, Answer}
 use Rattle.definitions.specs.Book.{Literal, Clause}
-use Rattle.definitions.specs.Fitting.{Subst, answer-fits}
+use Rattle.definitions.specs.Fitting.{answer-fits}
 use Rattle.definitions.specs.Stop.{Stops, stop, go, _>>_, stop-if}
-use Rattle.definitions.specs.Strand.{Strand, with-delayed}
+use Rattle.definitions.specs.Strand.{with-delayed}
 
 -- `next_subgoal_index`: the last literal is chosen
 abbrev pub next-subgoal-index : ExClause → ℕ

@@ -1,11 +1,10 @@
 -- strand.rs
 use Prim.Native.Nat.{ℕ}
 use mathlib.Core.Bool.{Bool}
-use mathlib.Core.Option.{Option, none, some}
+use mathlib.Core.Option.{Option}
 use mathlib.Core.List.{List}
 use Rattle.definitions.specs.{TableIndex, TimeStamp, FlounderedSubgoal, ExClause}
 use Rattle.definitions.specs.Book.{Literal}
-use Rattle.definitions.specs.Fitting.{Subst}
 
 -- `SelectedSubgoal`
 pub record SelectedSubgoal : Type 0 where

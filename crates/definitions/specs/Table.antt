@@ -1,12 +1,12 @@
 -- table.rs. A table's answers stand in the order found; `answers_hash` is a search among them, by variant and delayed goals.
-use Prim.Native.Nat.{ℕ, zero, suc, _+_}
+use Prim.Native.Nat.{ℕ}
 use mathlib.Core.Bool.{Bool, true, false, not, _&&_}
 use mathlib.Core.Option.{Option, none, some}
 use mathlib.Core.List.{List, [], _∷_}
 use lib.ListN.{length, getElem?}
 use lib.Dec.{eqb, leb}
 use Rattle.definitions.specs.{Answer, AnswerMode, Complete}
-use Rattle.definitions.specs.Stop.{Stops, stop, go, _>>_, stop-if}
+use Rattle.definitions.specs.Stop.{Stops, go, _>>_, stop-if}
 use Rattle.definitions.specs.Lists.{push, position, rotate-left, same}
 use Rattle.definitions.specs.Strand.{Strand}
 

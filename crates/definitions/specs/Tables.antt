@@ -1,16 +1,14 @@
 -- tables.rs, and the forest of forest.rs, which the turn works on: the tables, the clock, and what is added here: the book that
 -- the forest was made from, the clock's limit, and the mark of a stop.
-use Prim.Native.Nat.{ℕ, zero, suc, _+_}
-use mathlib.Core.Bool.{Bool, true, false}
-use mathlib.Core.Option.{Option, none, some}
-use mathlib.Core.List.{List, []}
+use Prim.Native.Nat.{ℕ, suc}
+use mathlib.Core.Option.{Option}
+use mathlib.Core.List.{List}
 use lib.ListN.{length, set, getElem?}
 use lib.Dec.{eqb, leb}
-use Rattle.definitions.specs.{TableIndex, TimeStamp, Answer}
+use Rattle.definitions.specs.{TableIndex, TimeStamp}
 use Rattle.definitions.specs.Book.{Book}
-use Rattle.definitions.specs.Stop.{Stops, stop, go, _>>=_, _>>_, stop-if, unwrap}
+use Rattle.definitions.specs.Stop.{Stops, go, _>>=_, _>>_, stop-if, unwrap}
 use Rattle.definitions.specs.Lists.{push, position, total}
-use Rattle.definitions.specs.Strand.{Strand}
 use Rattle.definitions.specs.Table.{Table}
 
 -- `Tables`: `table_indices` is a search by goal

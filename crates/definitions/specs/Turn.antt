@@ -1,21 +1,21 @@
 -- logic.rs, second half: cycles, answers, the turn and the search. A turn is one pass of the loop in `ensure_root_answer`.
-use Prim.Native.Nat.{ℕ, zero, suc, _+_}
-use mathlib.Core.Bool.{Bool, true, false, not, _&&_, _||_}
+use Prim.Native.Nat.{ℕ, zero, suc}
+use mathlib.Core.Bool.{Bool, true, false, not, _&&_}
 use mathlib.Core.Option.{Option, none, some}
 use mathlib.Core.List.{List, [], _∷_, map}
-use lib.ListN.{length, getElem?}
+use lib.ListN.{getElem?}
 use lib.Dec.{eqb, leb, ltb}
-use Rattle.definitions.specs.{TableIndex, TimeStamp, MAX, ExClause, Answer, CompleteAnswer, Minimums, minimums-MAX, take-minimums, minimum-of-pos-and-neg, AnswerMode, Ambiguous, is-complete}
+use Rattle.definitions.specs.{TableIndex, TimeStamp, MAX, Answer, CompleteAnswer, Minimums, minimums-MAX, take-minimums, minimum-of-pos-and-neg, AnswerMode, Ambiguous, is-complete}
 use Rattle.definitions.specs.Book.{Literal, Positive, Negative}
 use Rattle.definitions.specs.Fitting.{is-trivial, is-outsized}
 use Rattle.definitions.specs.Stop.{Stops, stop, go, _>>=_, _>>_, stop-if, unwrap}
-use Rattle.definitions.specs.Lists.{is-empty, remove, all}
+use Rattle.definitions.specs.Lists.{is-empty, remove}
 use Rattle.definitions.specs.Strand.{SelectedSubgoal, Strand, with-ex-clause, with-selected, with-pursued, with-subgoals}
 use Rattle.definitions.specs.Table.{Table, with-mode, enqueue-strand, take-strands, dequeue-next-strand-that, mark-floundered, push-answer, answer, next-answer-index}
 use Rattle.definitions.specs.Tables.{Forest, with-mark, table-at, change-table, increment-clock, queued, held}
-use Rattle.definitions.specs.Stack.{StackEntry, Stack, with-active, with-minimums, is-active, top-of-stack-from, top, change-top, push-entry, Popped, no-caller, caller, pop-and-take-caller-strand, pop-and-borrow-caller-strand}
+use Rattle.definitions.specs.Stack.{StackEntry, Stack, with-active, with-minimums, is-active, top-of-stack-from, top, change-top, push-entry, no-caller, caller, pop-and-take-caller-strand, pop-and-borrow-caller-strand}
 use Rattle.definitions.specs.Slg.{delay}
-use Rattle.definitions.specs.Logic.{RootSearchFail, NoMoreSolutions, Floundered, QuantumExceeded, NegativeCycle, InvalidAnswer, SubGoalSelection, Selected, NotSelected, SolveState, with-forest, Flow, continue, return-ok, return-err, Selection, select-subgoal, drop, unwound, enqueue-at-top, activate, Merge, merged, failed, merge-answer-into-strand}
+use Rattle.definitions.specs.Logic.{RootSearchFail, NoMoreSolutions, Floundered, QuantumExceeded, NegativeCycle, InvalidAnswer, Selected, NotSelected, SolveState, with-forest, Flow, continue, return-ok, return-err, select-subgoal, drop, unwound, enqueue-at-top, activate, merged, failed, merge-answer-into-strand}
 
 -- Cycles.
 

@@ -1,15 +1,15 @@
 -- Laws of "all of a list", of how often a number stands in a list, and of the two with `filter`, `++` and `set`: distinct is "at most once".
-use Prim.Native.Nat.{ℕ, zero, suc, _+_, _-_, _≤_, _<_}
+use Prim.Native.Nat.{ℕ, zero, suc, _+_, _≤_, _<_}
 use native.Mathlib.Omega.{arith}
-use mathlib.Core.Path.{_≡_, refl, sym, ap, ap₂, subst, _∙_}
+use mathlib.Core.Path.{_≡_, refl, sym, ap, ap₂, _∙_}
 use mathlib.Core.Bool.{Bool, true, false, not}
 use mathlib.Core.List.{List, [], _∷_, _++_, map}
-use lib.ListN.{length, take, drop, getD, set, length-set, take-append-drop}
+use lib.ListN.{length, take, drop, getD, set}
 use lib.Seq.{getD-set-other, split-at}
-use lib.Dec.{eqb, T, eqb-refl}
+use lib.Dec.{eqb}
 use borrow.Author.Tests.{eq-eqb, ne-eqb, eqb-true, eqb-false}
 use Rattle.rings.specs.Lists.{stop, firstIndex, one, times}
-use Rattle.rings.proofs.Laws.{keep, filter, filter-append, filter-count}
+use Rattle.rings.proofs.Laws.{keep, filter, filter-count}
 
 pub true-false : {X : Type 0} (b : Bool) → b ≡ true → b ≡ false → X
 true-false true p q = absurd (eqb-false 0 0 q refl)

@@ -1,13 +1,12 @@
 -- Laws of lists and tests, over any element and any test: those that pass it, and where the first one stands.
-use Prim.Native.Nat.{ℕ, zero, suc, _+_, _-_, _≤_, _<_}
-use native.Mathlib.Nat.{add-zero, zero-sub, sub-zero, suc-sub-suc}
-use native.Mathlib.Numerals.{add-one}
+use Prim.Native.Nat.{ℕ, suc, _+_}
+use native.Mathlib.Nat.{add-zero}
 use native.Mathlib.Omega.{arith}
 use mathlib.Core.Path.{_≡_, refl, sym, ap, _∙_}
 use mathlib.Core.Bool.{Bool, true, false, not}
-use mathlib.Core.List.{List, [], _∷_, _++_, map, append-assoc, append-nil}
-use lib.ListN.{length, take, drop, getD, set, length-map}
-use lib.Seq.{take-suc, take-suc-set, take-nil, drop-cons, drop-drop, getD-drop, getD-take, length-take-le}
+use mathlib.Core.List.{List, [], _∷_, _++_}
+use lib.ListN.{length, drop, getD}
+use lib.Seq.{getD-drop}
 use Rattle.rings.specs.Lists.{stop, firstIndex}
 
 module _ {A : Type 0} where

@@ -2,13 +2,13 @@
 use Prim.Native.Nat.{ℕ, zero, suc, _+_, _-_, _≤_, _<_}
 use native.Mathlib.Omega.{arith}
 use mathlib.Core.Path.{_≡_, refl, sym, ap, ap₂, subst, subst₃, _∙_}
-use mathlib.Core.Bool.{Bool, true, false, not}
+use mathlib.Core.Bool.{Bool, true, false}
 use mathlib.Core.List.{List, [], _∷_, _++_, map, append-nil}
 use lib.ListN.{length, take, drop, getD, set, length-set, length-append, length-drop, replicate, length-replicate}
 use lib.Seq.{getD-set-other, getD-set-same, length-take-le, split-at}
 use lib.Dec.{eqb, ltb}
 use borrow.Author.Tests.{eq-eqb, ne-eqb, eqb-true, eqb-false, lt-ltb, ltb-true, ltb-false}
-use Rattle.rings.specs.Lists.{firstIndex, one, times, grown, turned, Full}
+use Rattle.rings.specs.Lists.{one, times, grown, turned, Full}
 use Rattle.rings.specs.Rings.{walk, end, ringOf, heldAt, RingTookAt, RingMoved, movedNext, movedTail, Chain, RingSound, linkedAt, linked, lengthened}
 use Rattle.rings.proofs.Counts.{map-append, map-away, times-append, times-self, times-out, pigeons}
 use Rattle.rings.proofs.Walks.{length-walk, chain-walk, chain-join, chain-front, chain-back, chain-last, chain-in, ring-frame, ring-turn, ring-append, ring-splice}

@@ -4,17 +4,16 @@ use native.Mathlib.Nat.{sub-zero}
 use native.Mathlib.Numerals.{add-one}
 use native.Mathlib.Omega.{arith}
 use mathlib.Core.Path.{_≡_, refl, sym, ap, ap₂, subst, _∙_}
-use mathlib.Core.Bool.{Bool, true, false, not}
+use mathlib.Core.Bool.{Bool, true, false}
 use mathlib.Core.List.{List, [], _∷_, _++_}
 use lib.ListN.{length, take, drop, getD, set, length-set}
 use lib.Seq.{getD-set-same, getD-set-other, set-getD, take-suc, getD-drop, drop-drop}
-use lib.Dec.{eqb, ltb}
+use lib.Dec.{eqb}
 use borrow.Author.Tests.{eq-eqb, ne-eqb, lt-ltb, le-ltb, ltb-true, ltb-false}
 use Rattle.rings.specs.declared.Spot.{Spot}
 use Rattle.rings.specs.Lists.{firstIndex, one, times}
 use Rattle.rings.specs.Rings.{walk, end, Chain, Found, ringOf, RingTook, RingTookAt, RingMoved, movedNext, movedTail}
-use Rattle.rings.proofs.Laws.{firstIndex-here, firstIndex-past, getD-of-drop}
-use Rattle.rings.proofs.Counts.{All, times-append}
+use Rattle.rings.proofs.Laws.{firstIndex-here, firstIndex-past}
 
 pub length-walk : (m : ℕ) (next : List ℕ) (a : ℕ) → length (walk m next a) ≡ m
 length-walk zero next a = refl
