@@ -3,3 +3,4 @@ pub mod Plain
 pub mod Link
 pub mod Demand
 pub mod Consequences
+pub mod Asserts
