@@ -39,10 +39,6 @@ module _ {A : Type 0} where
   any test [] = false
   any test (a ∷ l) = test a || any test l
 
-  abbrev pub all : (A → Bool) → List A → Bool
-  all test [] = true
-  all test (a ∷ l) = test a && all test l
-
   abbrev pub total : (A → ℕ) → List A → ℕ
   total f [] = 0
   total f (a ∷ l) = f a + total f l

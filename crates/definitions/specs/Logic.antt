@@ -187,8 +187,8 @@ unwind-stack s = elim (s .stack) [
 ]
 
 -- `Drop` of SolveState: the top's active strand goes back, then the callers'
-abbrev pub drop : SolveState → Stops Forest
-drop s = elim (s .stack) [
+abbrev pub drop-state : SolveState → Stops Forest
+drop-state s = elim (s .stack) [
   | [] ↦ go (s .forest)
   | e ∷ es ↦ elim (e .active-strand) [
     | none ↦ unwind-callers (s .forest) es

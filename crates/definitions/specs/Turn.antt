@@ -15,7 +15,7 @@ use Rattle.definitions.specs.Table.{Table, with-mode, enqueue-strand, ta
 use Rattle.definitions.specs.Tables.{Forest, with-mark, table-at, change-table, increment-clock, queued, held}
 use Rattle.definitions.specs.Stack.{StackEntry, Stack, with-active, with-minimums, is-active, top-of-stack-from, top, change-top, push-entry, no-caller, caller, pop-and-take-caller-strand, pop-and-borrow-caller-strand}
 use Rattle.definitions.specs.Slg.{delay}
-use Rattle.definitions.specs.Logic.{RootSearchFail, NoMoreSolutions, Floundered, QuantumExceeded, NegativeCycle, InvalidAnswer, Selected, NotSelected, SolveState, with-forest, Flow, continue, return-ok, return-err, select-subgoal, drop, unwound, enqueue-at-top, activate, merged, failed, merge-answer-into-strand}
+use Rattle.definitions.specs.Logic.{RootSearchFail, NoMoreSolutions, Floundered, QuantumExceeded, NegativeCycle, InvalidAnswer, Selected, NotSelected, SolveState, with-forest, Flow, continue, return-ok, return-err, select-subgoal, drop-state, unwound, enqueue-at-top, activate, merged, failed, merge-answer-into-strand}
 
 -- Cycles.
 
@@ -294,7 +294,7 @@ pub record Searched : Type 0 where
 
 -- the search is over: what is on the stack is put back as `Drop` does
 abbrev pub put-back : Ending → (turns : ℕ) → SolveState → Searched
-put-back ending turns s = elim (drop s) [
+put-back ending turns s = elim (drop-state s) [
   | stop n ↦ record { ending = stopped n; turns = turns; forest = s .forest }
   | go f ↦ record { ending = ending; turns = turns; forest = f }
 ]

@@ -12,7 +12,7 @@ use Rattle.definitions.specs.Strand.{Strand}
 use Rattle.definitions.specs.Table.{Table, enqueue-strand}
 use Rattle.definitions.specs.Tables.{Tables, Forest, queued}
 use Rattle.definitions.specs.Stack.{StackEntry, Stack, with-active, active, active-count}
-use Rattle.definitions.specs.Logic.{SolveState, RootSearchFail, Flow, continue, return-ok, return-err, unwind-callers, unwind-stack, drop, unwound}
+use Rattle.definitions.specs.Logic.{SolveState, RootSearchFail, Flow, continue, return-ok, return-err, unwind-callers, unwind-stack, drop-state, unwound}
 use Rattle.definitions.specs.Turn.{fail}
 use Rattle.definitions.specs.Forest.{is-invalid}
 use Rattle.promises.specs.Asserts.Safe.{Safe, goes, after, weaker, known, unwraps}
@@ -66,13 +66,13 @@ ended-kept {root = root} {index = index} x k = let y = grows-above (k .grows) .g
 
 -- the search can be put back
 abbrev pub Left : (n root index : ℕ) → SolveState → Type 0
-Left n root index s = Ended n root index (s .forest) × Safe (Ended n root index) (drop s)
+Left n root index s = Ended n root index (s .forest) × Safe (Ended n root index) (drop-state s)
 
 -- it can, with these entries under the top
 pub left-top : {n root index : ℕ} {f : Forest} (e : StackEntry) {es : Stack} → Ended n root index f → (t : Table) → getElem? (f .tables) (e .table) ≡ some t → t .floundered ≡ false → queued f + active (e ∷ es) ≤ 256 → Active n (f .tables) (e .active-strand) → All (Waits n (f .tables)) es → Left n root index (record { forest = f; stack = e ∷ es })
 left-top {n} {root} {index} {f} e {es} x t k u free a w = (x, on (e .active-strand) free a)
   where
-    on : (o : Option Strand) → queued f + (active-count o + active es) ≤ 256 → Active n (f .tables) o → Safe (Ended n root index) (drop (record { forest = f; stack = with-active e o ∷ es }))
+    on : (o : Option Strand) → queued f + (active-count o + active es) ≤ 256 → Active n (f .tables) o → Safe (Ended n root index) (drop-state (record { forest = f; stack = with-active e o ∷ es }))
     on none free a = weaker (unwinds (x .sound) (omega arith) w) (λ h y. ended-kept x y)
     on (some s) free a =
         let more-queued = queued-enqueue f (e .table) t s k in

@@ -10,7 +10,7 @@ use Rattle.definitions.specs.Strand.{Strand}
 use Rattle.definitions.specs.Table.{Table, enqueue-strand}
 use Rattle.definitions.specs.Tables.{Tables, Forest, change-table}
 use Rattle.definitions.specs.Stack.{StackEntry, Stack}
-use Rattle.definitions.specs.Logic.{unwind-callers, drop}
+use Rattle.definitions.specs.Logic.{unwind-callers, drop-state}
 use Rattle.promises.specs.Plain.Machine as M
 use Rattle.promises.specs.Plain.Steps.{put-here, put-there}
 use Rattle.promises.specs.Link.View.{StrandIs, QueueIs, q-end, q-more, table-of, TableIs, table-is, TableAt, no-active, an-active, StackIs, s-end, s-more}
@@ -70,7 +70,7 @@ module _ (book : Book) (limit mark c : ℕ) {gs : List ℕ} where
       record { after = d .after; is = rw (b .is) (d .is); agree = d .agree }
 
   pub dropped-is : {d : StackEntry} {ds : Stack} {e : M.Entry} {es : List M.Entry} → StackIs (length book) gs (d ∷ ds) (e ∷ es) → Busy es → {ts : Tables} {p : M.Forest} → Agree book gs ts p
-      → Became book limit mark c gs (drop (record { forest = forest-of book limit mark ts c; stack = d ∷ ds })) (M.withQueue p (M.putBack (p .queue) (e ∷ es)))
+      → Became book limit mark c gs (drop-state (record { forest = forest-of book limit mark ts c; stack = d ∷ ds })) (M.withQueue p (M.putBack (p .queue) (e ∷ es)))
   dropped-is (s-more i g k m r e no-active xs) w a = unwound-is xs w a
   dropped-is (s-more i g k m r e (an-active {s = s} {m = o} x) xs) w a =
       let b = enqueued book limit mark c a i g e s o x in

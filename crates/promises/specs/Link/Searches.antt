@@ -12,7 +12,7 @@ use Rattle.definitions.specs.Book.{Book}
 use Rattle.definitions.specs.Stop.{Stops, stop, go}
 use Rattle.definitions.specs.Tables.{Tables, Forest, with-mark, increment-clock}
 use Rattle.definitions.specs.Stack.{StackEntry, Stack}
-use Rattle.definitions.specs.Logic.{SolveState, with-forest, Flow, continue, return-ok, return-err, NoMoreSolutions, QuantumExceeded, drop}
+use Rattle.definitions.specs.Logic.{SolveState, with-forest, Flow, continue, return-ok, return-err, NoMoreSolutions, QuantumExceeded, drop-state}
 use Rattle.definitions.specs.Turn.{turn, Ending, found, fail, cut, stopped, Searched, put-back, stored-answer, search-turns, begin}
 use Rattle.promises.specs.Plain.Model.{Levelled}
 use Rattle.promises.specs.Plain.Claim.{Inside}
@@ -94,7 +94,7 @@ module _ {book : Book} (sound : Sound book) (limit : ℕ) (level : ℕ → ℕ) 
   RunIs n = (gs : List ℕ) (ts : Tables) (p : M.Forest) (d : StackEntry) (ds : Stack) (e : M.Entry) (es : List M.Entry) (r : ℕ) (B : ℕ → ℕ) → Agree book gs ts p → StackIs (length book) gs (d ∷ ds) (e ∷ es) → Going S r B (clauses S) p e es
       → (done t : ℕ) → getElem? gs t ≡ some r → SearchIs book limit gs (search-turns n done t 0 (state-of book limit ts (p .clock) (d ∷ ds))) (M.run (limits-of book limit) n p e es .0) (M.run (limits-of book limit) n p e es .1)
 
-  turned-is : (n : ℕ) → RunIs n → (gs : List ℕ) (ts : Tables) (p before : M.Forest) (d : StackEntry) (ds : Stack) (r : ℕ) (B : ℕ → ℕ) {x : Stops Flow} {y : M.Turn} → Became book limit 21 (p .clock) gs (drop (record { forest = forest-of book limit 21 ts (p .clock); stack = d ∷ ds })) before → before .clock ≡ p .clock
+  turned-is : (n : ℕ) → RunIs n → (gs : List ℕ) (ts : Tables) (p before : M.Forest) (d : StackEntry) (ds : Stack) (r : ℕ) (B : ℕ → ℕ) {x : Stops Flow} {y : M.Turn} → Became book limit 21 (p .clock) gs (drop-state (record { forest = forest-of book limit 21 ts (p .clock); stack = d ∷ ds })) before → before .clock ≡ p .clock
       → TurnIs book limit gs before r x y → TurnOK S r B (clauses S) y → (done t : ℕ) → getElem? gs t ≡ some r
       → SearchIs book limit gs (turned x n done t 0 (state-of book limit ts (p .clock) (d ∷ ds))) (M.follow (limits-of book limit) y (M.run (limits-of book limit) n) .0) (M.follow (limits-of book limit) y (M.run (limits-of book limit) n) .1)
   turned-is n ih gs ts p before d ds r B back now (going {hs = hs} {ts = ts'} {p = p'} {d = d'} {ds = ds'} {e = e'} {es = es'} more a s) ok done t at = search-more more (ih hs ts' p' d' ds' e' es' r B a s ok (suc done) t (more t r at))

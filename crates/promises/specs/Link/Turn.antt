@@ -12,7 +12,7 @@ use Rattle.definitions.specs.Book.{Book}
 use Rattle.definitions.specs.Stop.{Stops, stop, go}
 use Rattle.definitions.specs.Tables.{Tables, Forest}
 use Rattle.definitions.specs.Stack.{StackEntry, Stack, is-active}
-use Rattle.definitions.specs.Logic.{SolveState, Flow, continue, return-ok, return-err, NoMoreSolutions, QuantumExceeded, drop}
+use Rattle.definitions.specs.Logic.{SolveState, Flow, continue, return-ok, return-err, NoMoreSolutions, QuantumExceeded, drop-state}
 use Rattle.promises.specs.Plain.Machine as M
 use Rattle.promises.specs.Plain.Steps.{Setting}
 use Rattle.promises.specs.Plain.Stack.{On, Calls, Piled}
@@ -43,8 +43,8 @@ Lost M.broken = Unit {0}
 pub data TurnIs (book : Book) (limit : ℕ) (gs : List ℕ) (before : M.Forest) (r : ℕ) : Stops Flow → M.Turn → Type 0 where
   going : {hs : List ℕ} {ts : Tables} {p : M.Forest} {d : StackEntry} {ds : Stack} {e : M.Entry} {es : List M.Entry} → Extends gs hs → Agree book hs ts p → StackIs (length book) hs (d ∷ ds) (e ∷ es)
       → TurnIs book limit gs before r (go (continue (state-of book limit ts (p .clock) (d ∷ ds)))) (M.goOn p e es)
-  gave-up : {hs : List ℕ} {ts : Tables} {p : M.Forest} {s : SolveState} → Extends gs hs → drop s ≡ go (forest-of book limit 0 ts (p .clock)) → Agree book hs ts p → TurnIs book limit gs before r (go (return-err QuantumExceeded s)) (M.stop M.again p)
-  no-more : {hs : List ℕ} {ts : Tables} {p : M.Forest} {s : SolveState} → Extends gs hs → drop s ≡ go (forest-of book limit 0 ts (p .clock)) → Agree book hs ts p → TurnIs book limit gs before r (go (return-err NoMoreSolutions s)) (M.stop M.noMore p)
+  gave-up : {hs : List ℕ} {ts : Tables} {p : M.Forest} {s : SolveState} → Extends gs hs → drop-state s ≡ go (forest-of book limit 0 ts (p .clock)) → Agree book hs ts p → TurnIs book limit gs before r (go (return-err QuantumExceeded s)) (M.stop M.again p)
+  no-more : {hs : List ℕ} {ts : Tables} {p : M.Forest} {s : SolveState} → Extends gs hs → drop-state s ≡ go (forest-of book limit 0 ts (p .clock)) → Agree book hs ts p → TurnIs book limit gs before r (go (return-err NoMoreSolutions s)) (M.stop M.noMore p)
   answered : {hs : List ℕ} {ts : Tables} {p : M.Forest} → Extends gs hs → Agree book hs ts p → p .answered r ≡ true → TurnIs book limit gs before r (go (return-ok (state-of book limit ts (p .clock) []))) (M.stop M.found p)
   clock-out : limit ≤ before .clock → TurnIs book limit gs before r (stop 21) (M.stop M.clockOut before)
   lost : {d : Stops Flow} {o : M.Outcome} {p : M.Forest} → Lost o → TurnIs book limit gs before r d (M.stop o p)
