@@ -10,7 +10,7 @@ use Rattle.definitions.specs.{TableIndex, MAX}
 use Rattle.definitions.specs.Book.{read}
 use Rattle.definitions.specs.Refusal.{Refusable, refused, accepted, _refuses_, unless}
 use Rattle.definitions.specs.Stop.{Stops, stop, go}
-use Rattle.definitions.specs.Lists.{any}
+use Rattle.definitions.specs.Lists.{any-passes}
 use Rattle.definitions.specs.Tables.{Forest, with-mark}
 use Rattle.definitions.specs.Logic.{NoMoreSolutions, Floundered, QuantumExceeded, NegativeCycle, InvalidAnswer, get-or-create-table-for-ucanonical-goal}
 use Rattle.definitions.specs.Turn.{Ending, found, fail, cut, stopped, Searched, root-answer}
@@ -144,7 +144,7 @@ peek f t i rounds limit =
 abbrev pub future : Forest → (table index variant : ℕ) → Bool
 future f t i v = elim (getElem? (f .tables) t) [
   | none ↦ false
-  | some table ↦ any (λ a. eqb (a .variant) v) (drop i (table .answers)) || any (λ s. eqb (s .ex-clause .subst .variant) v) (table .strands)
+  | some table ↦ any-passes (λ a. eqb (a .variant) v) (drop i (table .answers)) || any-passes (λ s. eqb (s .ex-clause .subst .variant) v) (table .strands)
 ]
 
 abbrev pub any-future-answer : Forest → (table index variant : ℕ) → Refusable Bool

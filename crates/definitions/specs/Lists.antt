@@ -35,9 +35,9 @@ module _ {A : Type 0} where
     | false ↦ elim (position test l) [ none ↦ none | some i ↦ some (suc i) ]
   ]
 
-  abbrev pub any : (A → Bool) → List A → Bool
-  any test [] = false
-  any test (a ∷ l) = test a || any test l
+  abbrev pub any-passes : (A → Bool) → List A → Bool
+  any-passes test [] = false
+  any-passes test (a ∷ l) = test a || any-passes test l
 
   abbrev pub total : (A → ℕ) → List A → ℕ
   total f [] = 0

@@ -13,7 +13,7 @@ use Rattle.definitions.specs.Stop.{Stops, stop, go, _>>=_, _>>_, stop-if
 use Rattle.definitions.specs.Lists.{push, is-empty, remove, swap-remove}
 use Rattle.definitions.specs.Strand.{SelectedSubgoal, Strand, with-ex-clause, with-selected, with-subgoals, with-ambiguous, with-answer-time, with-floundered}
 use Rattle.definitions.specs.Table.{Table, new, with-strands, enqueue-strand, mark-floundered}
-use Rattle.definitions.specs.Tables.{insert, index-of, Forest, with-tables, table-at, change-table, queued}
+use Rattle.definitions.specs.Tables.{insert-table, index-of, Forest, with-tables, table-at, change-table, queued}
 use Rattle.definitions.specs.Stack.{Stack, with-active, top, change-top, active}
 use Rattle.definitions.specs.Slg.{next-subgoal-index, resolvent-clause, apply-answer-subst}
 
@@ -69,7 +69,7 @@ get-or-create-table-for-ucanonical-goal others f goal = elim (index-of goal (f .
   | some table ↦ go (table, f)
   | none ↦ do
     table ← build-table (f .book) goal
-    let grown = with-tables f (insert table (f .tables))
+    let grown = with-tables f (insert-table table (f .tables))
     stop-if (ltb most-strands (others + queued grown)) 22
     go (length (f .tables), grown)
 ]

@@ -16,8 +16,8 @@ abbrev pub Tables : Type 0
 Tables = List Table
 
 -- `insert`
-abbrev pub insert : Table → Tables → Tables
-insert t ts = push ts t
+abbrev pub insert-table : Table → Tables → Tables
+insert-table t ts = push ts t
 
 -- `index_of`
 abbrev pub index-of : ℕ → Tables → Option TableIndex

@@ -1,21 +1,17 @@
 -- The blank stores are sound with no table and nothing held, and mean no table and no entry. From `ring-start-sound` of crate `rings`.
-use Prim.Native.Nat.{ℕ, zero, suc, _+_, _≤_, _<_}
+use Prim.Native.Nat.{ℕ}
 use native.Mathlib.Omega.{arith}
-use mathlib.Core.Path.{_≡_, refl, sym, ap, subst, _∙_}
-use mathlib.Core.List.{List, [], _∷_}
-use lib.ListN.{length, getD, replicate, length-replicate}
-use Rattle.definitions.specs.Tables as said-tables
-use Rattle.definitions.specs.Stack as said-stack
-use Rattle.rings.specs.Lists.{times}
-use Rattle.rings.specs.Rings.{RingSound}
+use mathlib.Core.Path.{_≡_, refl, sym, ap, subst}
+use mathlib.Core.List.{List, []}
+use lib.ListN.{length, replicate, length-replicate}
 use Rattle.rings.proofs.RingViews.{ring-start, ring-start-sound}
 use Rattle.strands.specs.declared.Strand.{Strand}
 use Rattle.strands.specs.declared.Answer.{Answer}
 use Rattle.stores.specs.declared.Places.{Places}
 use Rattle.stores.specs.declared.Strands.{Strands}
 use Rattle.stores.specs.declared.Answers.{Answers}
-use Rattle.stores.specs.View.{free, ring, tables, entered}
-use Rattle.stores.specs.Sound.{SoundPlaces, SoundStrands, SoundAnswers, SoundTables, SoundStack}
+use Rattle.stores.specs.View.{free, tables, entered}
+use Rattle.stores.specs.Sound.{SoundPlaces, SoundTables, SoundStack}
 use Rattle.stores.specs.Blank.{blankPlaces, blankTables, blankStack, BlankStrands, BlankAnswers}
 
 pub blank-places-sound : SoundPlaces blankPlaces 0 []

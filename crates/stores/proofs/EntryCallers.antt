@@ -6,20 +6,19 @@ use native.Mathlib.Numerals.{add-one}
 use mathlib.Core.Path.{_≡_, refl, sym, ap, ap₂, subst, _∙_}
 use mathlib.Core.Bool.{Bool, true, false}
 use mathlib.Core.Option.{Option, none, some}
-use mathlib.Core.List.{List, [], _∷_}
+use mathlib.Core.List.{List, _∷_}
 use lib.ListN.{length, getD, set, length-set}
 use lib.Seq.{getD-set-same, getD-set-other}
-use lib.Dec.{eqb, ltb}
-use borrow.Author.Tests.{lt-ltb, le-ltb, eq-eqb, ne-eqb, eqb-true, eqb-false}
-use Rattle.definitions.specs.Lists.{total}
-use Rattle.definitions.specs.Stop.{Stops, stop, go, _>>=_, unwrap}
-use Rattle.definitions.specs.Stack.{StackEntry, with-active, Popped, no-caller, caller, pop-and-take-caller-strand, pop-and-borrow-caller-strand, active, active-count}
+use lib.Dec.{eqb}
+use borrow.Author.Tests.{lt-ltb, eq-eqb, ne-eqb, eqb-true, eqb-false}
+use Rattle.definitions.specs.Stop.{go, _>>=_, unwrap}
+use Rattle.definitions.specs.Stack.{StackEntry, with-active, no-caller, caller, pop-and-take-caller-strand, pop-and-borrow-caller-strand, active, active-count}
 use Rattle.definitions.specs.Strand as said-strand
 use Rattle.stores.specs.declared.Strands.{Strands}
 use Rattle.stores.specs.declared.Stack.{Stack}
 use Rattle.stores.specs.View.{strandAt, activeAt, entryAt, entries, entered, activePlaces}
 use Rattle.stores.specs.Sound.{SoundStack}
-use Rattle.stores.specs.Entries.{setIf, addIf, placeIf, writtenAt, hasCaller, callerPlace, callerWritten, topWritten, pushed, popped, callerTaken, activated}
+use Rattle.stores.specs.Entries.{setIf, addIf, placeIf, hasCaller, callerPlace, callerWritten, topWritten, pushed, popped, callerTaken, activated}
 use Rattle.stores.proofs.EntryCases.{some-caller, some-top}
 use Rattle.stores.proofs.EntryViews.{entries-same}
 

@@ -1,16 +1,17 @@
 -- The stack's functions at their tests' answers, and the laws of the two loops: the first index that passes a test, and whether a range
 -- passes it. From the definitions alone.
-use Prim.Native.Nat.{ℕ, zero, suc, _+_, _-_, _≤_, _<_, min}
+use Prim.Native.Nat.{ℕ, suc, _+_, _-_, _≤_, _<_}
 use native.Mathlib.Omega.{arith}
 use native.Mathlib.Numerals.{add-one}
-use mathlib.Core.Path.{_≡_, refl, sym, ap, ap₂, _∙_}
+use mathlib.Core.Path.{_≡_, sym, ap, ap₂, _∙_}
 use mathlib.Core.Bool.{Bool, true, false, not, _&&_}
 use mathlib.Core.List.{List}
 use lib.ListN.{getD, set}
-use lib.Dec.{eqb, ltb}
+use lib.Dec.{ltb}
 use borrow.Author.Tests.{lt-ltb, le-ltb, eq-eqb, ne-eqb}
 use Rattle.stores.specs.View.{flag}
-use Rattle.stores.specs.Entries.{setIf, addIf, placeIf, depthAfter, writtenAt, hasCaller, hasTop, callerPlace, callerWritten, topWritten, firstAt, allFrom, below}
+use Rattle.stores.specs.Tabling.{goalIf, goalAt}
+use Rattle.stores.specs.Entries.{setIf, addIf, placeIf, depthAfter, writtenAt, hasCaller, hasTop, callerPlace, callerWritten, topWritten, firstAt, allFrom, flagAt}
 
 -- `push_entry`
 pub depth-full : (d : ℕ) → 64 ≤ d → d ≡ depthAfter d
@@ -68,12 +69,12 @@ module _ (d : ℕ) (l : List ℕ) where
   pub top-some : (d ≡ 0 → ⊥) → d ≤ 64 → (x : ℕ) → set l (d - 1) x ≡ topWritten d x l
   top-some n k x = ap (λ (c : Bool). setIf c (d - 1) x l) (sym (some-top d n k))
 
--- `is_coinductive`
-pub below-far : (t : ℕ) (l : List ℕ) → 64 ≤ t → false ≡ below t l
-below-far t l h = ap (λ (b : Bool). b && flag (getD l t 0)) (sym (le-ltb t 64 h))
+-- `flag_at`
+pub flag-far : (t : ℕ) (l : List ℕ) → 64 ≤ t → false ≡ flagAt t l
+flag-far t l h = ap (λ (b : Bool). b && flag (getD l t 0)) (sym (le-ltb t 64 h))
 
-pub below-is : (t : ℕ) (l : List ℕ) → t < 64 → flag (getD l t 0) ≡ below t l
-below-is t l h = ap (λ (b : Bool). b && flag (getD l t 0)) (sym (lt-ltb t 64 h))
+pub flag-near : (t : ℕ) (l : List ℕ) → t < 64 → flag (getD l t 0) ≡ flagAt t l
+flag-near t l h = ap (λ (b : Bool). b && flag (getD l t 0)) (sym (lt-ltb t 64 h))
 
 -- THE LOOPS, at index i of m
 module _ (test : ℕ → Bool) (m i : ℕ) where
@@ -101,3 +102,10 @@ module _ (test : ℕ → Bool) (m i : ℕ) where
 
   pub all-over : m ≤ i → allFrom test i (m - i) ≡ true
   all-over h = let e : m - i ≡ 0 = omega arith in ap (allFrom test i) e
+
+-- `goal_at`
+pub goal-far : (t : ℕ) (l : List ℕ) → 64 ≤ t → 0 ≡ goalAt t l
+goal-far t l h = ap (λ (b : Bool). goalIf b (getD l t 0)) (sym (le-ltb t 64 h))
+
+pub goal-near : (t : ℕ) (l : List ℕ) → t < 64 → getD l t 0 ≡ goalAt t l
+goal-near t l h = ap (λ (b : Bool). goalIf b (getD l t 0)) (sym (lt-ltb t 64 h))

@@ -1,18 +1,17 @@
 -- The searches: `first_of` over the tables of the entries is `is_active`, over the goals of the tables `index_of`; `coinductive_from` is the
 -- definitions' test of the entries up to the top. From the definitions of `firstAt` and `allFrom`.
-use Prim.Native.Nat.{ℕ, zero, suc, _+_, _-_, _≤_, _<_, min}
+use Prim.Native.Nat.{ℕ, zero, suc, _+_, _-_, _≤_, _<_}
 use native.Mathlib.Omega.{arith}
-use native.Mathlib.Nat.{zero-add}
-use mathlib.Core.Path.{_≡_, refl, sym, ap, ap₂, subst, _∙_}
-use mathlib.Core.Bool.{Bool, true, false, not, _&&_}
+use mathlib.Core.Path.{_≡_, refl, sym, ap, ap₂, _∙_}
+use mathlib.Core.Bool.{Bool, true, false, _&&_}
 use mathlib.Core.Option.{Option, none, some}
-use mathlib.Core.List.{List, [], _∷_}
-use lib.ListN.{length, take, getD, getElem?}
+use mathlib.Core.List.{List}
+use lib.ListN.{take, getD, getElem?}
 use lib.Dec.{eqb, ltb}
 use borrow.Author.Tests.{lt-ltb, le-ltb, ltb-true, ltb-false}
 use Rattle.definitions.specs.Lists.{position}
-use Rattle.definitions.specs.Stop.{Stops, stop, go, _>>=_, unwrap}
-use Rattle.definitions.specs.Stack.{StackEntry, is-active, top-of-stack-from}
+use Rattle.definitions.specs.Stop.{Stops, go, _>>=_, unwrap}
+use Rattle.definitions.specs.Stack.{is-active, top-of-stack-from}
 use Rattle.definitions.specs.Table.{Table}
 use Rattle.definitions.specs.Tables.{Forest, index-of, table-at}
 use Rattle.definitions.specs.Turn.{coinductive-entries}
@@ -20,8 +19,9 @@ use Rattle.stores.specs.declared.Strands.{Strands}
 use Rattle.stores.specs.declared.Answers.{Answers}
 use Rattle.stores.specs.declared.Tables.{Tables}
 use Rattle.stores.specs.declared.Stack.{Stack}
-use Rattle.stores.specs.View.{flag, tableAt, tables, span, entryAt, entries, entered}
-use Rattle.stores.specs.Entries.{firstAt, allFrom, within, below, coinductiveAt}
+use Rattle.stores.specs.View.{flag, tableAt, tables, span, entries, entered}
+use Rattle.stores.specs.Entries.{firstAt, allFrom, within, coinductiveAt}
+use Rattle.stores.proofs.TableViews.{table-at-is}
 use Rattle.stores.proofs.Spans.{firstIf, later, span-at}
 
 abbrev choose : Bool → (m n : ℕ) → ℕ
@@ -57,6 +57,19 @@ module _ (test : ℕ → Bool) where
           let s : suc i + n ≡ i + suc n = omega arith in
           (λ h. more .0 (omega arith), λ h. more .1 (omega arith) ∙ ap (λ (j : ℕ). choose (test j) j (suc j)) s)
 
+-- one entry more on top: what is found beneath it counts, one further down
+abbrev on-top : Bool → Option ℕ
+on-top b = elim b [ true ↦ some 0 | false ↦ none ]
+
+abbrev deeper : (beneath here : Option ℕ) → Option ℕ
+deeper o here = elim o [ some depth ↦ some (suc depth) | none ↦ here ]
+
+beneath-some : (o here : Option ℕ) (i : ℕ) → o ≡ some i → (r : Option ℕ) → some (suc i) ≡ r → deeper o here ≡ r
+beneath-some o here i e r d = ap (λ (x : Option ℕ). deeper x here) e ∙ d
+
+beneath-none : (o here : Option ℕ) → o ≡ none → (r : Option ℕ) → here ≡ r → deeper o here ≡ r
+beneath-none o here e r d = ap (λ (x : Option ℕ). deeper x here) e ∙ d
+
 -- IS_ACTIVE: the entry nearest the bottom, counted from the top
 module _ (k : Stack) (s : Strands) (t : ℕ) where
   abbrev on : ℕ → Bool
@@ -67,13 +80,13 @@ module _ (k : Stack) (s : Strands) (t : ℕ) where
   active-from (suc n) = at (ltb (firstAt on 0 n) n) refl (active-from n)
     where
       next : (b : Bool) → on n ≡ b → firstAt on 0 n ≡ n
-          → _≡_ {A = Option ℕ} (elim b [ true ↦ some 0 | false ↦ none ]) (firstIf (ltb (firstAt on 0 (suc n)) (suc n)) (suc n - 1 - firstAt on 0 (suc n)))
+          → on-top b ≡ (firstIf (ltb (firstAt on 0 (suc n)) (suc n)) (suc n - 1 - firstAt on 0 (suc n)))
       next b e f =
           let z : 0 + n ≡ n = omega arith in
           let m : firstAt on 0 (suc n) ≡ choose b n (suc n) = first-more on 0 n .1 (f ∙ sym z) ∙ ap (λ (j : ℕ). choose (on j) j (suc j)) z ∙ ap (λ (c : Bool). choose c n (suc n)) e in
           found b ∙ sym (ap (λ (j : ℕ). firstIf (ltb j (suc n)) (suc n - 1 - j)) m)
         where
-          found : (c : Bool) → _≡_ {A = Option ℕ} (elim c [ true ↦ some 0 | false ↦ none ]) (firstIf (ltb (choose c n (suc n)) (suc n)) (suc n - 1 - choose c n (suc n)))
+          found : (c : Bool) → on-top c ≡ (firstIf (ltb (choose c n (suc n)) (suc n)) (suc n - 1 - choose c n (suc n)))
           found true = let z : 0 ≡ suc n - 1 - n = omega arith in ap some z ∙ sym (ap (λ (b : Bool). firstIf b (suc n - 1 - n)) (lt-ltb n (suc n) (omega arith)))
           found false = sym (ap (λ (b : Bool). firstIf b (suc n - 1 - suc n)) (le-ltb (suc n) (suc n) (omega arith)))
 
@@ -83,14 +96,13 @@ module _ (k : Stack) (s : Strands) (t : ℕ) where
           let h : firstAt on 0 n < n = ltb-true (firstAt on 0 n) n e in
           let m : firstAt on 0 (suc n) ≡ firstAt on 0 n = first-more on 0 n .0 (omega arith) in
           let d : suc (n - 1 - firstAt on 0 n) ≡ suc n - 1 - firstAt on 0 (suc n) = omega (arith, m) in
-          ap (λ (o : Option ℕ). elim o as (λ (r : Option ℕ). Option ℕ) [ some depth ↦ some (suc depth) | none ↦ elim (on n) [ true ↦ some 0 | false ↦ none ] ])
-          (below ∙ ap (λ (b : Bool). firstIf b (n - 1 - firstAt on 0 n)) e)
-          ∙ ap some d ∙ sym (ap (λ (b : Bool). firstIf b (suc n - 1 - firstAt on 0 (suc n))) (lt-ltb (firstAt on 0 (suc n)) (suc n) (omega (arith, m))))
+          let b : ltb (firstAt on 0 (suc n)) (suc n) ≡ true = lt-ltb (firstAt on 0 (suc n)) (suc n) (omega (arith, m)) in
+          beneath-some (is-active t (entries k s n)) (on-top (on n)) (n - 1 - firstAt on 0 n) (below ∙ ap (λ (c : Bool). firstIf c (n - 1 - firstAt on 0 n)) e)
+          (firstIf (ltb (firstAt on 0 (suc n)) (suc n)) (suc n - 1 - firstAt on 0 (suc n))) (ap some d ∙ sym (ap (λ (c : Bool). firstIf c (suc n - 1 - firstAt on 0 (suc n))) b))
       at false e below =
           let h : n ≤ firstAt on 0 n = ltb-false (firstAt on 0 n) n e in
-          ap (λ (o : Option ℕ). elim o as (λ (r : Option ℕ). Option ℕ) [ some depth ↦ some (suc depth) | none ↦ elim (on n) [ true ↦ some 0 | false ↦ none ] ])
-          (below ∙ ap (λ (b : Bool). firstIf b (n - 1 - firstAt on 0 n)) e)
-          ∙ next (on n) refl (omega (arith, first-bound on 0 n))
+          beneath-none (is-active t (entries k s n)) (on-top (on n)) (below ∙ ap (λ (c : Bool). firstIf c (n - 1 - firstAt on 0 n)) e)
+          (firstIf (ltb (firstAt on 0 (suc n)) (suc n)) (suc n - 1 - firstAt on 0 (suc n))) (next (on n) refl (omega (arith, first-bound on 0 n)))
 
   within-is : k .depth ≤ 64 → within (k .depth) ≡ k .depth
   within-is h = omega arith
@@ -154,10 +166,6 @@ module _ (k : Stack) (s : Strands) (ts : Tables) (a : Answers) (f : Forest) (is 
   abbrev test : ℕ → Bool
   test = coinductiveAt (k .table) (ts .coinductive)
 
-  -- an entry's table, if it is made
-  pub table-at-is : (t : ℕ) → t < ts .count → table-at f t ≡ go (tableAt ts s a t)
-  table-at-is t h = ap (λ (l : List Table). unwrap (getElem? l t)) is ∙ ap unwrap (span-at (tableAt ts s a) (ts .count) t h)
-
   flag-is : (i : ℕ) → getD (k .table) i 0 < ts .count → flag (getD (ts .coinductive) (getD (k .table) i 0) 0) ≡ test i
   flag-is i h = sym (ap (λ (b : Bool). b && flag (getD (ts .coinductive) (getD (k .table) i 0) 0)) (lt-ltb (getD (k .table) i 0) 64 (omega arith)))
 
@@ -172,15 +180,15 @@ module _ (k : Stack) (s : Strands) (ts : Tables) (a : Answers) (f : Forest) (is 
   up-to-top (suc n) (suc m) h made =
       let e : (n - m) + m ≡ n = omega arith in
       let z : suc n - suc m ≡ n - m = omega arith in
-      ap₂ (λ (x : Stops Table) (y : Stops Bool). x >>= λ t. y >>= λ o. go (t .coinductive-goal && o)) (table-at-is (getD (k .table) n 0) (made n (omega arith))) (up-to-top n m (omega arith) (λ i j. made i (omega arith)))
+      ap₂ (λ (x : Stops Table) (y : Stops Bool). x >>= λ t. y >>= λ o. go (t .coinductive-goal && o)) (table-at-is ts s a f is (getD (k .table) n 0) (made n (omega arith))) (up-to-top n m (omega arith) (λ i j. made i (omega arith)))
       ∙ ap (λ (b : Bool). go (b && allFrom test (n - m) m)) (flag-is n (made n (omega arith)))
       ∙ ap go (ap (λ (j : ℕ). test j && allFrom test (n - m) m) (sym e) ∙ sym (all-snoc test (n - m) m) ∙ ap (λ (j : ℕ). allFrom test j (suc m)) (sym z))
 
   -- the entries from one up to the top, by what `coinductive_from` says
-  pub coinductive-view : k .depth ≤ 64 → ((i : ℕ) → i < k .depth → getD (k .table) i 0 < ts .count) → (from : ℕ) → from < k .depth
+  pub coinductive-from-view : k .depth ≤ 64 → ((i : ℕ) → i < k .depth → getD (k .table) i 0 < ts .count) → (from : ℕ) → from < k .depth
       → (r : Bool) → r ≡ allFrom (coinductiveAt (k .table) (ts .coinductive)) from (within (k .depth) - from)
       → coinductive-entries f (top-of-stack-from (k .depth - 1 - from) (entered k s)) ≡ go r
-  coinductive-view small made from h r e =
+  coinductive-from-view small made from h r e =
       let m : suc (k .depth - 1 - from) ≡ k .depth - from = omega arith in
       let w : within (k .depth) - from ≡ k .depth - from = omega arith in
       let b : k .depth - (k .depth - from) ≡ from = omega arith in

@@ -1,5 +1,5 @@
 -- What the stack's operations do to its view, each as the definition does, and that `SoundStack` is kept. From the laws of `set`.
-use Prim.Native.Nat.{ℕ, zero, suc, _+_, _-_, _≤_, _<_}
+use Prim.Native.Nat.{ℕ, zero, suc, _-_, _≤_, _<_}
 use native.Mathlib.Omega.{arith}
 use native.Mathlib.Numerals.{add-one}
 use mathlib.Core.Path.{_≡_, refl, sym, ap, ap₂, subst, _∙_}
@@ -8,12 +8,10 @@ use mathlib.Core.Option.{Option, none, some}
 use mathlib.Core.List.{List, [], _∷_}
 use lib.ListN.{length, getD, set, length-set}
 use lib.Seq.{getD-set-same, getD-set-other}
-use lib.Dec.{eqb, ltb}
-use borrow.Author.Tests.{lt-ltb, le-ltb, ne-eqb, eqb-true, eqb-false}
-use Rattle.definitions.specs as said
-use Rattle.definitions.specs.Stop.{Stops, stop, go, _>>=_, unwrap}
-use Rattle.definitions.specs.Stack as said-stack
-use Rattle.definitions.specs.Stack.{StackEntry, with-active, with-minimums, top, change-top, push-entry, Popped, no-caller, caller, pop-and-take-caller-strand, pop-and-borrow-caller-strand}
+use lib.Dec.{eqb}
+use borrow.Author.Tests.{lt-ltb, le-ltb, eqb-true, eqb-false}
+use Rattle.definitions.specs.Stop.{go}
+use Rattle.definitions.specs.Stack.{StackEntry, with-active, with-minimums, top, change-top, push-entry}
 use Rattle.definitions.specs.Strand as said-strand
 use Rattle.strands.specs.declared.Strand.{Strand}
 use Rattle.stores.specs.declared.Strands.{Strands}
@@ -21,8 +19,8 @@ use Rattle.stores.specs.declared.Stack.{Stack}
 use Rattle.stores.specs.View.{strandAt, activeAt, entryAt, entries, entered}
 use Rattle.stores.specs.Sound.{SoundStack}
 use Rattle.stores.specs.Storing.{written}
-use Rattle.stores.specs.Entries.{setIf, addIf, placeIf, depthAfter, writtenAt, hasCaller, hasTop, callerPlace, callerWritten, topWritten, pushed, popped, callerTaken, activated, minimized}
-use Rattle.stores.proofs.EntryCases.{some-caller, some-top}
+use Rattle.stores.specs.Entries.{setIf, addIf, hasTop, topWritten, pushed, popped, activated, minimized}
+use Rattle.stores.proofs.EntryCases.{some-top}
 use Rattle.stores.proofs.StrandViews.{written-away}
 
 pub entries-same : (k k′ : Stack) (s s′ : Strands) (n : ℕ) → ((i : ℕ) → i < n → entryAt k′ s′ i ≡ entryAt k s i) → entries k′ s′ n ≡ entries k s n

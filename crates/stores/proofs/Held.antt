@@ -1,14 +1,14 @@
 -- Lists of places up to their order: two lists in which each number stands equally often are equally long. From `times` alone.
 use Prim.Native.Nat.{ℕ, zero, suc, _+_, _≤_, _<_}
 use native.Mathlib.Omega.{arith}
-use mathlib.Core.Path.{_≡_, refl, sym, ap, _∙_}
+use mathlib.Core.Path.{_≡_, refl, sym, ap}
 use mathlib.Core.Bool.{Bool, true, false}
-use mathlib.Core.List.{List, [], _∷_, _++_}
+use mathlib.Core.List.{List, [], _∷_}
 use lib.ListN.{length, getD}
 use lib.Dec.{eqb}
-use borrow.Author.Tests.{eqb-true, eqb-false}
+use borrow.Author.Tests.{eqb-true}
 use Rattle.rings.specs.Lists.{one, times}
-use Rattle.rings.proofs.Counts.{times-self, times-append}
+use Rattle.rings.proofs.Counts.{times-self}
 
 abbrev skip : Bool → ℕ → (l m : List ℕ) → List ℕ
 skip true y l m = l

@@ -12,3 +12,9 @@ pub mod EntryCases
 pub mod EntryViews
 pub mod EntryCallers
 pub mod EntrySearch
+pub mod TableViews
+pub mod AnswerCases
+pub mod PushCases
+pub mod AnswerViews
+pub mod PushViews
+pub mod Building

@@ -1,14 +1,13 @@
 -- `take_place` at its tests' answers, and what its number says: 256 where exactly 256 places are in use. From `RingTookAt` of `ring_pop`.
-use Prim.Native.Nat.{ℕ, zero, suc, _+_, _-_, _≤_, _<_}
+use Prim.Native.Nat.{ℕ, _+_, _-_, _≤_, _<_}
 use native.Mathlib.Omega.{arith}
-use mathlib.Core.Path.{_≡_, refl, sym, ap, ap₂, subst, _∙_}
+use mathlib.Core.Path.{_≡_, refl}
 use mathlib.Core.Bool.{Bool, true, false}
-use mathlib.Core.List.{List, [], _∷_}
+use mathlib.Core.List.{List, _∷_}
 use lib.ListN.{length, getD}
-use lib.Dec.{eqb, ltb}
+use lib.Dec.{ltb}
 use borrow.Author.Tests.{lt-ltb, le-ltb, ltb-true, ltb-false}
 use Rattle.rings.specs.Rings.{ringOf, RingTookAt}
-use Rattle.rings.proofs.Walks.{length-walk}
 use Rattle.stores.specs.declared.Places.{Places}
 use Rattle.stores.specs.View.{free, ring}
 use Rattle.stores.specs.Sound.{waiting, SoundPlaces}
@@ -86,3 +85,12 @@ module _ (p : Places) (n : ℕ) (held : List ℕ) (sound : SoundPlaces p n held)
       go : (b : Bool) → ltb (freePlace p) 256 ≡ b → freePlace p < 256
       go true e = ltb-true (freePlace p) 256 e
       go false e = absurd (omega (arith, freed-none (ltb-false (freePlace p) 256 e)))
+
+  still : (a b : Bool) → anyFree p ≡ a → anyFresh p ≡ b → 256 ≤ freePlaceIf a b p → freedIf a b p ≡ p
+  still true b ea eb h = absurd (omega (arith, freed-pop (omega (arith, length-ring p free, ltb-true 0 (getD (p .len) free 0) ea)) .small))
+  still false true ea eb h = absurd (omega (arith, ltb-true (p .top) 256 eb))
+  still false false ea eb h = refl
+
+  -- and then nothing has changed
+  pub freed-still : 256 ≤ freePlace p → freed p ≡ p
+  freed-still = still (anyFree p) (anyFresh p) refl refl

@@ -1,21 +1,20 @@
 -- A whole ring goes to the free places, and `SoundPlaces` is kept; and what the ring functions leave is what the models say. From the
 -- theorems of crate `rings`.
-use Prim.Native.Nat.{ℕ, zero, suc, _+_, _-_, _≤_, _<_}
+use Prim.Native.Nat.{ℕ, _+_, _-_, _≤_, _<_}
 use native.Mathlib.Omega.{arith}
-use mathlib.Core.Path.{_≡_, refl, sym, ap, ap₂, subst, _∙_}
+use mathlib.Core.Path.{_≡_, refl, ap, ap₂, _∙_}
 use mathlib.Core.Bool.{Bool, true, false}
-use mathlib.Core.List.{List, [], _∷_, _++_}
+use mathlib.Core.List.{List, [], _++_}
 use lib.ListN.{length, getD, set, length-append}
-use lib.Dec.{eqb, ltb}
 use borrow.Author.Tests.{ltb-true, ltb-false}
-use Rattle.rings.specs.Lists.{firstIndex, times}
-use Rattle.rings.specs.Rings.{RingSound, RingTook, RingMoved}
+use Rattle.rings.specs.Lists.{times}
+use Rattle.rings.specs.Rings.{RingTook, RingMoved, linked, lengthened}
 use Rattle.rings.proofs.Counts.{times-append, pigeons}
 use Rattle.rings.proofs.RingViews.{ring-move-to, ring-move-from, ring-move-other, ring-move-sound}
 use Rattle.stores.specs.declared.Places.{Places}
 use Rattle.stores.specs.View.{free, ring}
 use Rattle.stores.specs.Sound.{waiting, SoundPlaces}
-use Rattle.stores.specs.Placing.{places, before, takenAt, takenIf, placeIf, taken, takenPlace, hasOne, firstOf, movedTo, freed, TookPlace}
+use Rattle.stores.specs.Placing.{places, takenAt, takenIf, placeIf, taken, takenPlace, hasOne, firstOf, movedTo, enqueued, freed, freePlace, TookPlace}
 use Rattle.stores.proofs.Waiting.{is-or-not, waiting-one}
 use Rattle.stores.proofs.PlaceViews.{length-ring}
 
@@ -50,7 +49,7 @@ module _ (p : Places) (n : ℕ) (held : List ℕ) (t : ℕ) (h : t < n) (sound :
   pub moved-sound : SoundPlaces (movedTo t free p) n held
   moved-sound =
       let w : waiting p′ n + length (ring p t) ≡ waiting p n + length (ring p′ t) =
-      waiting-one p p′ n t h (λ u k d. moved-other u (λ e. omega (arith, sound .few)) d) in
+      waiting-one p p′ n t h (λ u k d. ap length (moved-other u (λ e. omega (arith, sound .few)) d)) in
       record {
         rings = ring-move-sound (p .next) (p .tail) (p .len) (p .top) (sound .rings) t free apart small (omega arith) (p′ .next) (p′ .tail) (p′ .len) did;
         few = sound .few;
@@ -94,3 +93,14 @@ pub moved-is : (p : Places) (n : ℕ) (held : List ℕ) (t g : ℕ) → SoundPla
 moved-is p n held t g sound n′ t′ l′ did =
     places-is n′ (movedTo t g p .next) t′ (movedTo t g p .tail) l′ (movedTo t g p .len) (p .top) (p .top)
     (did .links) (did .ends) (did .size (ring-few p n held sound g) (ring-few p n held sound t)) refl
+
+pub enqueued-is : (p : Places) (t q : ℕ) (n′ t′ l′ : List ℕ) → n′ ≡ linked (p .next) (p .tail) (p .len) t q → t′ ≡ set (p .tail) t q → l′ ≡ lengthened (p .len) t
+    → places n′ t′ l′ (p .top) ≡ enqueued t q p
+enqueued-is p t q n′ t′ l′ en et el = places-is n′ (enqueued t q p .next) t′ (enqueued t q p .tail) l′ (enqueued t q p .len) (p .top) (p .top) en et el refl
+
+-- `take_place` and then `ring_enqueue` of the place that it found
+pub freed-enqueued-is : (p : Places) (t : ℕ) (n′ l′ : List ℕ) (m′ q : ℕ) → TookPlace (p .next) (p .tail) (p .len) (p .top) n′ l′ m′ q
+    → (n″ t″ l″ : List ℕ) → n″ ≡ linked n′ (p .tail) l′ t q → t″ ≡ set (p .tail) t q → l″ ≡ lengthened l′ t
+    → places n″ t″ l″ m′ ≡ enqueued t (freePlace p) (freed p)
+freed-enqueued-is p t n′ l′ m′ q took n″ t″ l″ en et el =
+    enqueued-is (places n′ (p .tail) l′ m′) t q n″ t″ l″ en et el ∙ ap₂ (λ (i : ℕ) (r : Places). enqueued t i r) (took .is) (freed-is p n′ l′ m′ q took)

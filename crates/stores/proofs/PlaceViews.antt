@@ -2,27 +2,31 @@
 -- held. From the theorems of crate `rings`; no link is seen here.
 use Prim.Native.Nat.{ℕ, zero, suc, _+_, _-_, _≤_, _<_}
 use native.Mathlib.Omega.{arith}
-use mathlib.Core.Path.{_≡_, refl, sym, ap, subst, _∙_}
+use mathlib.Core.Path.{_≡_, refl, ap, subst, _∙_}
 use mathlib.Core.Bool.{Bool, true, false}
 use mathlib.Core.List.{List, [], _∷_, _++_}
-use lib.ListN.{length, take, drop, getD, set, length-append, length-drop}
+use lib.ListN.{length, take, drop, getD, length-append, length-drop}
 use lib.Seq.{length-take-le, set-getD}
-use lib.Dec.{eqb, ltb}
-use borrow.Author.Tests.{eq-eqb, eqb-true, eqb-false}
+use lib.Dec.{eqb}
+use borrow.Author.Tests.{eqb-true}
 use Rattle.rings.specs.Lists.{one, times, turned}
-use Rattle.rings.specs.Rings.{RingSound, RingTookAt, RingMoved}
+use Rattle.rings.specs.Rings.{RingTookAt}
 use Rattle.rings.proofs.Counts.{times-append, times-self, times-out}
 use Rattle.rings.proofs.Walks.{length-walk}
-use Rattle.rings.proofs.RingViews.{ring-enqueue-own, ring-enqueue-other, ring-enqueue-sound, ring-take-own, ring-take-other, ring-take-sound, ring-take-out, ring-take-used, ring-move-to, ring-move-from, ring-move-other, ring-move-sound, ring-fresh-top}
+use Rattle.rings.proofs.RingViews.{ring-enqueue-own, ring-enqueue-other, ring-enqueue-sound, ring-take-own, ring-take-other, ring-take-sound, ring-take-out, ring-take-used, ring-fresh-top}
 use Rattle.stores.specs.declared.Places.{Places}
 use Rattle.stores.specs.View.{free, ring}
 use Rattle.stores.specs.Sound.{waiting, SoundPlaces}
-use Rattle.stores.specs.Placing.{enqueued, before, takenAt, popped, fresh, movedTo}
+use Rattle.stores.specs.Placing.{enqueued, before, takenAt, popped, fresh}
 use Rattle.stores.proofs.Held.{times-at}
 use Rattle.stores.proofs.Waiting.{is-or-not, waiting-same, waiting-one}
 
 pub length-ring : (p : Places) (t : ℕ) → length (ring p t) ≡ getD (p .len) t 0
 length-ring p t = length-walk (getD (p .len) t 0) (p .next) (getD (p .tail) t 0)
+
+-- how many are in use, by the two numbers that `in_use` reads
+pub in-use-is : (p : Places) (n : ℕ) (held : List ℕ) → SoundPlaces p n held → p .top - getD (p .len) free 0 ≡ waiting p n + length held
+in-use-is p n held sound = omega (arith, sound .all, length-ring p free)
 
 -- PUT: a held place goes to the end of ring t
 module _ (p : Places) (n : ℕ) (held : List ℕ) (q t : ℕ) (sound : SoundPlaces p n (q ∷ held)) (small : t < 256) where
@@ -66,7 +70,7 @@ enqueued-sound p n held q t h sound =
     let small : t < 256 = omega (arith, sound .few) in
     let apart : free ≡ t → ⊥ = λ e. omega (arith, sound .few) in
     let w : waiting (enqueued t q p) n + length (ring p t) ≡ waiting p n + length (ring (enqueued t q p) t) =
-    waiting-one p (enqueued t q p) n t h (λ u k d. enqueued-other p n held q t sound small u d) in
+    waiting-one p (enqueued t q p) n t h (λ u k d. ap length (enqueued-other p n held q t sound small u d)) in
     put p n held q t sound small (λ u k d e. omega arith)
     (omega (arith, w, longer p n held q t sound small, ap length (enqueued-other p n held q t sound small free apart)))
 
@@ -74,7 +78,7 @@ enqueued-sound p n held q t h sound =
 pub given-sound : (p : Places) (n : ℕ) (held : List ℕ) (q : ℕ) → SoundPlaces p n (q ∷ held) → SoundPlaces (enqueued free q p) n held
 given-sound p n held q sound =
     let w : waiting (enqueued free q p) n ≡ waiting p n =
-    waiting-same p (enqueued free q p) n (λ u k. enqueued-other p n held q free sound (omega arith) u (λ e. omega (arith, sound .few))) in
+    waiting-same p (enqueued free q p) n (λ u k. ap length (enqueued-other p n held q free sound (omega arith) u (λ e. omega (arith, sound .few)))) in
     put p n held q free sound (omega arith) (λ u k d e. d e) (omega (arith, w, longer p n held q free sound (omega arith)))
 
 pub given-other : (p : Places) (n : ℕ) (held : List ℕ) (q : ℕ) → SoundPlaces p n (q ∷ held) → (u : ℕ) → u < n → ring (enqueued free q p) u ≡ ring p u
@@ -158,7 +162,7 @@ taken-sound p n held t j h sound there =
     let small : t < 256 = omega (arith, sound .few) in
     let apart : free ≡ t → ⊥ = λ e. omega (arith, sound .few) in
     let w : waiting (takenAt t j p) n + length (ring p t) ≡ waiting p n + length (ring (takenAt t j p) t) =
-    waiting-one p (takenAt t j p) n t h (λ u k d. taken-other p n held t j sound small there u d) in
+    waiting-one p (takenAt t j p) n t h (λ u k d. ap length (taken-other p n held t j sound small there u d)) in
     hold p n held t j sound small there (λ u k d e. omega arith)
     (omega (arith, w, shorter p n held t j sound small there, ap length (taken-other p n held t j sound small there free apart)))
 
@@ -170,7 +174,7 @@ pub popped-sound : (p : Places) (n : ℕ) (held : List ℕ) → SoundPlaces p n 
     → SoundPlaces (popped free p) n (getD (ring p free) 0 0 ∷ held)
 popped-sound p n held sound there =
     let w : waiting (takenAt free 0 p) n ≡ waiting p n =
-    waiting-same p (takenAt free 0 p) n (λ u k. taken-other p n held free 0 sound (omega arith) there u (λ e. omega (arith, sound .few))) in
+    waiting-same p (takenAt free 0 p) n (λ u k. ap length (taken-other p n held free 0 sound (omega arith) there u (λ e. omega (arith, sound .few)))) in
     subst (λ (r : Places). SoundPlaces r n (getD (ring p free) 0 0 ∷ held)) (popped-is p)
     (hold p n held free 0 sound (omega arith) there (λ u k d e. d e) (omega (arith, w, shorter p n held free 0 sound (omega arith) there)))
 

@@ -1,19 +1,19 @@
 -- Laws of `span`, of `map` over a list of places, and of the search in a list, over any element. They carry a change of one table to
 -- the list of tables.
 use Prim.Native.Nat.{ℕ, zero, suc, _+_, _≤_, _<_}
-use native.Mathlib.Nat.{add-zero, zero-add, add-suc, suc-add}
+use native.Mathlib.Nat.{add-zero, zero-add}
 use native.Mathlib.Omega.{arith}
-use mathlib.Core.Path.{_≡_, refl, sym, ap, ap₂, subst, _∙_}
+use mathlib.Core.Path.{_≡_, refl, sym, ap, ap₂, _∙_}
 use mathlib.Core.Bool.{Bool, true, false}
 use mathlib.Core.Option.{Option, none, some}
 use mathlib.Core.List.{List, [], _∷_, _++_, map}
 use lib.ListN.{length, take, drop, getD, set, getElem?}
 use lib.Seq.{drop-cons}
-use lib.Dec.{eqb, ltb}
+use lib.Dec.{ltb}
 use borrow.Author.Tests.{lt-ltb, le-ltb, ltb-true, ltb-false}
 use Rattle.definitions.specs.Lists.{push, position, rotate-left, total}
 use Rattle.rings.specs.Lists.{stop, firstIndex, times, turned}
-use Rattle.rings.proofs.Counts.{All, all-map, map-append, map-cong, absent-all, times-self}
+use Rattle.rings.proofs.Counts.{All, map-append, times-self}
 use Rattle.stores.specs.View.{span}
 
 -- where a search ends: at i, or nowhere

@@ -1,5 +1,5 @@
 -- The operations on the strand store keep `SoundStrands`, with the list of held places grown or shrunk. From the theorems on places.
-use Prim.Native.Nat.{ℕ, zero, suc, _+_, _≤_, _<_}
+use Prim.Native.Nat.{ℕ, suc, _+_, _≤_, _<_}
 use native.Mathlib.Omega.{arith}
 use mathlib.Core.Path.{_≡_, refl, sym, ap, subst, _∙_}
 use mathlib.Core.Bool.{Bool, true, false}
@@ -7,21 +7,21 @@ use mathlib.Core.List.{List, [], _∷_, _++_}
 use lib.ListN.{length, getD, set, length-set}
 use lib.Seq.{getD-set-same, getD-set-other}
 use lib.Dec.{eqb, ltb}
-use borrow.Author.Tests.{eqb-true, eqb-false, ltb-true, ltb-false}
-use Rattle.rings.specs.Lists.{one, times, turned}
+use borrow.Author.Tests.{ltb-true, ltb-false}
+use Rattle.rings.specs.Lists.{one, times}
 use Rattle.rings.proofs.Counts.{times-append, times-self, times-out}
 use Rattle.strands.specs.declared.Strand.{Strand}
 use Rattle.strands.specs.View.{Sound}
 use Rattle.stores.specs.declared.Places.{Places}
 use Rattle.stores.specs.declared.Strands.{Strands}
 use Rattle.stores.specs.View.{free, ring, noStrand}
-use Rattle.stores.specs.Sound.{waiting, SoundPlaces, InUse, SoundStrands, flagOf}
-use Rattle.stores.specs.Placing.{enqueued, takenAt, takenIf, placeIf, freed, freePlace, movedTo, firstOf}
-use Rattle.stores.specs.Storing.{with-places, written, enqueuedStrand, given, testAt, takenStrand, strandPlace, anyStrand, cleared, freedStrands, Ready}
+use Rattle.stores.specs.Sound.{SoundPlaces, InUse, SoundStrands, flagOf}
+use Rattle.stores.specs.Placing.{enqueued, takenAt, freed, freePlace, movedTo}
+use Rattle.stores.specs.Storing.{with-places, written, enqueuedStrand, given, cleared, freedStrands, Ready}
 use Rattle.stores.proofs.Held.{Alike, times-at, times-cases}
 use Rattle.stores.proofs.Waiting.{is-or-not, sound-alike, sound-grown}
 use Rattle.stores.proofs.PlaceViews.{enqueued-own, enqueued-other, enqueued-sound, given-sound, given-other, taken-own, taken-other, taken-sound}
-use Rattle.stores.proofs.PlaceCases.{Freed, freed-sound}
+use Rattle.stores.proofs.PlaceCases.{freed-sound}
 use Rattle.stores.proofs.PlaceMoves.{moved-own, moved-other, moved-sound}
 
 in-use : (s : Strands) (p′ : Places) (q : ℕ) → InUse s q → InUse (with-places s p′) q

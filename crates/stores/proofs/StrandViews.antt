@@ -1,35 +1,34 @@
 -- What the operations on the strand store do to the view of the tables: each is the definition's, at the one table that it names. From
 -- the theorems on places and the laws of spans.
-use Prim.Native.Nat.{ℕ, zero, suc, _+_, _≤_, _<_}
+use Prim.Native.Nat.{ℕ, _<_}
 use native.Mathlib.Omega.{arith}
 use mathlib.Core.Path.{_≡_, refl, sym, ap, ap₂, subst, _∙_}
 use mathlib.Core.Bool.{Bool, true, false, not, _&&_}
 use mathlib.Core.Option.{Option, none, some}
-use mathlib.Core.List.{List, [], _∷_, _++_, map}
+use mathlib.Core.List.{List, [], _∷_, map}
 use lib.ListN.{length, getD, set, length-map}
 use lib.Seq.{getD-set-same, getD-set-other}
 use lib.Dec.{eqb, ltb}
-use borrow.Author.Tests.{ltb-true, ltb-false}
+use borrow.Author.Tests.{ltb-true}
 use Rattle.definitions.specs as said
-use Rattle.definitions.specs.Lists.{push, position, rotate-left, total}
+use Rattle.definitions.specs.Lists.{push, position, rotate-left}
 use Rattle.definitions.specs.Strand as said-strand
-use Rattle.definitions.specs.Table.{Table, with-strands, enqueue-strand, take-strands, pop-front, dequeue-next-strand-that}
+use Rattle.definitions.specs.Table.{with-strands, enqueue-strand, take-strands, pop-front, dequeue-next-strand-that}
 use Rattle.definitions.specs.Turn as turns
 use Rattle.rings.specs.Lists.{firstIndex, times, turned}
-use Rattle.rings.proofs.Counts.{All, all-map, map-append, map-cong, absent-all}
+use Rattle.rings.proofs.Counts.{all-map, map-append, map-cong, absent-all}
 use Rattle.strands.specs.declared.Strand.{Strand}
 use Rattle.strands.specs.View.{view}
-use Rattle.stores.specs.declared.Places.{Places}
 use Rattle.stores.specs.declared.Strands.{Strands}
 use Rattle.stores.specs.declared.Answers.{Answers}
 use Rattle.stores.specs.declared.Tables.{Tables}
-use Rattle.stores.specs.View.{free, ring, noStrand, strandAt, flag, mode, tableAt, tables, span}
-use Rattle.stores.specs.Sound.{waiting, SoundPlaces, InUse, SoundStrands, flagOf}
-use Rattle.stores.specs.Placing.{enqueued, takenAt, takenIf, placeIf, taken, freed, freePlace, movedTo, firstOf, hasOne}
-use Rattle.stores.specs.Storing.{with-places, strandsOf, written, enqueuedStrand, given, testAt, takenStrand, strandPlace, anyStrand, cleared, freedStrands, Ready}
-use Rattle.stores.proofs.Spans.{length-span, span-at, span-same, span-set, span-push, total-push, firstIf, position-is, first-map, first-cong, rotate-front, map-turned, map-at, all-times}
+use Rattle.stores.specs.View.{ring, noStrand, strandAt, flag, mode, tableAt, tables}
+use Rattle.stores.specs.Sound.{SoundPlaces, InUse, SoundStrands, flagOf}
+use Rattle.stores.specs.Placing.{takenAt, takenIf, placeIf, freePlace, firstOf}
+use Rattle.stores.specs.Storing.{with-places, strandsOf, written, enqueuedStrand, given, testAt, takenStrand, strandPlace, anyStrand, cleared, freedStrands}
+use Rattle.stores.proofs.Spans.{span-same, span-set, firstIf, position-is, first-map, first-cong, rotate-front, map-turned, map-at, all-times}
 use Rattle.stores.proofs.PlaceViews.{enqueued-own, enqueued-other, given-other, taken-own, taken-other}
-use Rattle.stores.proofs.PlaceCases.{Freed, freed-sound}
+use Rattle.stores.proofs.PlaceCases.{freed-sound}
 use Rattle.stores.proofs.PlaceMoves.{moved-own, moved-other}
 
 -- THE LIST OF TABLES, when the strands of one change or of none

@@ -1,17 +1,18 @@
 -- How many places wait in the first n rings, when one ring changes or none does; and `SoundPlaces` with the held places in another
 -- order, or for one table more. From the definition of `waiting`.
-use Prim.Native.Nat.{ℕ, zero, suc, _+_, _≤_, _<_}
+use Prim.Native.Nat.{ℕ, zero, suc, _+_, _<_}
 use native.Mathlib.Omega.{arith}
 use mathlib.Core.Path.{_≡_, refl, sym, ap, subst, _∙_}
 use mathlib.Core.Bool.{Bool, true, false}
-use mathlib.Core.List.{List, [], _∷_}
+use mathlib.Core.List.{List}
 use lib.ListN.{length}
 use lib.Dec.{eqb}
 use borrow.Author.Tests.{eqb-true, eqb-false}
-use Rattle.rings.specs.Lists.{times}
+use Rattle.definitions.specs.Lists.{total}
 use Rattle.stores.specs.declared.Places.{Places}
-use Rattle.stores.specs.View.{free, ring}
+use Rattle.stores.specs.View.{free, ring, span}
 use Rattle.stores.specs.Sound.{waiting, SoundPlaces}
+use Rattle.stores.proofs.Spans.{span-push, total-push}
 use Rattle.stores.proofs.Held.{Alike, length-alike}
 
 -- a number is t or it isn't
@@ -22,12 +23,12 @@ is-or-not t P here there u = go (eqb u t) refl
     go true e = subst P (sym (eqb-true u t e)) here
     go false e = there u (eqb-false u t e)
 
-pub waiting-same : (p p′ : Places) (n : ℕ) → ((u : ℕ) → u < n → ring p′ u ≡ ring p u) → waiting p′ n ≡ waiting p n
+pub waiting-same : (p p′ : Places) (n : ℕ) → ((u : ℕ) → u < n → length (ring p′ u) ≡ length (ring p u)) → waiting p′ n ≡ waiting p n
 waiting-same p p′ zero h = refl
 waiting-same p p′ (suc n) h =
-    omega (arith, ap length (h n (omega arith)), waiting-same p p′ n (λ u k. h u (omega arith)))
+    omega (arith, h n (omega arith), waiting-same p p′ n (λ u k. h u (omega arith)))
 
-pub waiting-one : (p p′ : Places) (n t : ℕ) → t < n → ((u : ℕ) → u < n → (u ≡ t → ⊥) → ring p′ u ≡ ring p u)
+pub waiting-one : (p p′ : Places) (n t : ℕ) → t < n → ((u : ℕ) → u < n → (u ≡ t → ⊥) → length (ring p′ u) ≡ length (ring p u))
     → waiting p′ n + length (ring p t) ≡ waiting p n + length (ring p′ t)
 waiting-one p p′ zero t h other = absurd (omega arith)
 waiting-one p p′ (suc n) t h other = go (eqb n t) refl (λ k. waiting-one p p′ n t k (λ u i d. other u (omega arith) d))
@@ -40,7 +41,13 @@ waiting-one p p′ (suc n) t h other = go (eqb n t) refl (λ k. waiting-one p p�
         omega (arith, w, ap (λ (k : ℕ). length (ring p k)) i, ap (λ (k : ℕ). length (ring p′ k)) i)
     go false e more =
         let d : n ≡ t → ⊥ = eqb-false n t e in
-        omega (arith, more (omega arith), ap length (other n (omega arith) d))
+        omega (arith, more (omega arith), other n (omega arith) d)
+
+-- a count over all tables that each table's ring has
+pub total-waiting : {A : Type 0} (f : ℕ → A) (count : A → ℕ) (p : Places) → ((u : ℕ) → count (f u) ≡ length (ring p u)) → (n : ℕ) → total count (span f 0 n) ≡ waiting p n
+total-waiting f count p h zero = refl
+total-waiting f count p h (suc n) =
+    ap (total count) (span-push f n) ∙ total-push count (span f 0 n) (f n) ∙ omega (arith, total-waiting f count p h n, h n)
 
 -- the held places are a list up to its order
 pub sound-alike : (p : Places) (n : ℕ) (held held′ : List ℕ) → Alike held held′ → SoundPlaces p n held → SoundPlaces p n held′

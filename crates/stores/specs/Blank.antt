@@ -1,7 +1,6 @@
 -- The stores as they are made: no place was used, no table is made, and nothing is on the stack.
-use Prim.Native.Nat.{ℕ}
 use mathlib.Core.Path.{_≡_}
-use mathlib.Core.List.{List, []}
+use mathlib.Core.List.{[]}
 use lib.ListN.{replicate}
 use Rattle.stores.specs.declared.Places.{Places}
 use Rattle.stores.specs.declared.Strands.{Strands}

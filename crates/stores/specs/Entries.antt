@@ -57,11 +57,12 @@ abbrev pub allFrom : (ℕ → Bool) → (i n : ℕ) → Bool
 allFrom test i zero = true
 allFrom test i (suc n) = test i && allFrom test (suc i) n
 
-abbrev pub below : (t : ℕ) → List ℕ → Bool
-below t l = ltb t 64 && flag (getD l t 0)
+-- the flag of table t in a list of flags
+abbrev pub flagAt : (t : ℕ) → List ℕ → Bool
+flagAt t l = ltb t 64 && flag (getD l t 0)
 
 abbrev pub coinductiveAt : (table coinductive : List ℕ) → ℕ → Bool
-coinductiveAt table coinductive i = below (getD table i 0) coinductive
+coinductiveAt table coinductive i = flagAt (getD table i 0) coinductive
 
 -- THE MODELS on the record
 abbrev pub pushed : (t time most : ℕ) → Stack → Stack

@@ -4,3 +4,5 @@ pub mod Placing
 pub mod Storing
 pub mod Blank
 pub mod Entries
+pub mod Tabling
+pub mod Answering

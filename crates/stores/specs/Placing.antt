@@ -1,8 +1,8 @@
 -- What the operations on places do, as functions on the record. Crate `rings` has the code, but for `take_place`.
-use Prim.Native.Nat.{ℕ, zero, suc, _+_, _-_}
+use Prim.Native.Nat.{ℕ, _+_, _-_}
 use mathlib.Core.Path.{_≡_}
 use mathlib.Core.Bool.{Bool, true, false}
-use mathlib.Core.List.{List, []}
+use mathlib.Core.List.{List}
 use lib.ListN.{length, take, getD, set}
 use lib.Dec.{eqb, ltb}
 use Rattle.rings.specs.Lists.{firstIndex}

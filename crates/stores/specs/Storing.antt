@@ -1,9 +1,9 @@
 -- What the operations on the strand store do, as functions on the record, and when a place waits for a strand.
-use Prim.Native.Nat.{ℕ, zero, suc, _+_, _<_, _≤_}
+use Prim.Native.Nat.{ℕ, _<_, _≤_}
 use mathlib.Core.Path.{_≡_}
-use mathlib.Core.Bool.{Bool, true, false}
+use mathlib.Core.Bool.{Bool}
 use mathlib.Core.List.{List, [], _∷_, map}
-use lib.ListN.{length, getD, set}
+use lib.ListN.{length, set}
 use Rattle.definitions.specs.Strand as held
 use Rattle.rings.specs.Lists.{times}
 use Rattle.rings.specs.Rings.{eligible}

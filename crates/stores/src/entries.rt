@@ -1,10 +1,11 @@
 // stack.rs: the stack's arrays are lent, and its depth goes by value. The topmost entry stands at depth - 1. At most 64 entries: a table
 // is on the stack at most once. On a depth that no stack has nothing is written.
+use crate::goals::flag_at;
 ghost use mathlib.Core.Path.{_≡_};
 ghost use Prim.Native.Nat.{_-_};
 ghost use lib.ListN.{getD, set};
 ghost use lib.Dec.{eqb};
-ghost use Rattle.stores.specs.Entries.{depthAfter, writtenAt, below, callerPlace, callerWritten, topWritten, firstAt, within, allFrom, coinductiveAt};
+ghost use Rattle.stores.specs.Entries.{depthAfter, writtenAt, callerPlace, callerWritten, topWritten, firstAt, within, allFrom, coinductiveAt};
 
 // `push`: the depth that it leaves; the same depth where the stack is full.
 pub fn push_entry(
@@ -126,21 +127,11 @@ pub fn coinductive_from(table: &[u8; 64], coinductive: &[u8; 64], from: usize, d
     let m = upto(depth);
     let mut i = from;
     while i < m {
-        if is_coinductive(coinductive, table[i]) {
+        if flag_at(coinductive, table[i]) {
             i = i + 1;
         } else {
             return false;
         }
     }
     true
-}
-
-// Whether a table is coinductive; one that can't be isn't.
-pub fn is_coinductive(coinductive: &[u8; 64], t: u8) -> bool
-    ensures { λ r. ⌜ r ≡ below t (now (coinductive .entry)) ⌝ }
-{
-    if t >= 64 {
-        return false;
-    }
-    coinductive[t as usize] != 0
 }

@@ -1,7 +1,9 @@
 // table.rs, tables.rs and stack.rs: where the Rust has Vec, VecDeque and FxHashMap, arrays of a fixed size. Strands and answers stand at
 // places of a store; a table's queue, its answers and the free places are rings of places (crate `rings`).
+pub mod answering; // answering.rt: the answers
 pub mod blank; // blank.rt: the stores as they are made
 pub mod entries; // entries.rt: the stack's entries
+pub mod goals; // goals.rt: the tables' own numbers
 pub mod placing; // placing.rt: a free place of a store
 
 use strands::Answer;

@@ -1,6 +1,8 @@
 // Places of a store: a free one is found here; the rings' own operations are in the crate `rings`.
 use rings::ring_pop;
 ghost use mathlib.Core.Path.{_≡_};
+ghost use Prim.Native.Nat.{_-_};
+ghost use lib.ListN.{getD};
 ghost use Rattle.stores.specs.Sound.{flagOf};
 ghost use Rattle.stores.specs.Placing.{TookPlace};
 
@@ -23,6 +25,14 @@ pub fn take_place(
         return t as usize;
     }
     256
+}
+
+// How many places are in use: they wait in a table's ring, or are held.
+pub fn in_use(len: &[u16; 256], top: u16) -> u16
+    ensures { λ r. ⌜ r ≡ top - getD (now (len .entry)) 64 0 ⌝ }
+{
+    let free = len[64];
+    if free < top { top - free } else { 0 }
 }
 
 // A flag as it is kept in an array of numbers.

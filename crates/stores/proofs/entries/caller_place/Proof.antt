@@ -3,26 +3,19 @@ use Rattle.stores.proofs.EntryCases.{caller-none, caller-far, caller-so
 use borrow.Author.Needs.{needs}
 use Rattle.stores.proofs.entries.caller_place.Statement.{statement}
 use Rattle.stores.proofs.entries.caller_place.Tie as tie
-use Rattle.stores.proofs.entries.caller_place.Reads as reads
-use Rattle.stores.proofs.entries.caller_place.Lts as lts
 
--- src/entries.rt:51:9
 returns : tie.Need-returns
 returns c = let a = c .before .args in caller-none (a .depth) (a .active .now) (search needs) .0
 
--- src/entries.rt:54:9
 returns-2 : tie.Need-returns-2
 returns-2 c = let a = c .before .before .args in caller-far (a .depth) (a .active .now) (search needs) .0
 
--- src/entries.rt:56:5
 mul-result : tie.Need-mul-result
 mul-result c = search needs
 
--- src/entries.rt:56:5
 element-copy-out-result : tie.Need-element-copy-out-result
 element-copy-out-result c = search needs
 
--- src/entries.rt:47:1
 returns-3 : tie.Need-returns-3
 returns-3 c = let a = c .before .before .before .args in caller-some (a .depth) (a .active .now) (search needs) (search needs) .0
 

@@ -14,9 +14,6 @@ use Rattle.stores.specs.Entries.{firstAt, within}
 use Rattle.stores.proofs.EntryCases.{first-here, first-next, first-over}
 use Rattle.stores.proofs.entries.first_of.Statement.{statement}
 use Rattle.stores.proofs.entries.first_of.Tie as tie
-use Rattle.stores.proofs.entries.first_of.Reads as reads
-use Rattle.stores.proofs.entries.first_of.Lts as lts
-use Rattle.stores.proofs.entries.upto.Reads as upto-reads
 
 abbrev test : List ℕ → ℕ → ℕ → Bool
 test xs x j = eqb (getD xs j 0) x
@@ -28,22 +25,18 @@ Inv-loop xs n x m i₀ i =
 abbrev μ-loop : tie.MeasureT-loop
 μ-loop xs n x m i₀ i = m - i
 
--- src/entries.rt:111:9
 upto-requires : tie.Need-upto-requires Inv-loop μ-loop
 upto-requires c κs = search needs
 
--- src/entries.rt:113:5
 loop-holds : tie.Need-loop-holds Inv-loop μ-loop
 loop-holds c =
     let a = c .before .args in
     let m : ℕ = c .upto .result in
     (omega arith, c .upto .ensures, omega (arith, c .upto .ensures), ap (firstAt (test (a .xs .now) (a .x)) 0) (sub-zero m ∙ c .upto .ensures))
 
--- src/entries.rt:114:12
 element-copy-out-if1 : tie.Need-element-copy-out-if1 Inv-loop μ-loop
 element-copy-out-if1 c = search needs
 
--- src/entries.rt:115:13
 returns : tie.Need-returns Inv-loop μ-loop
 returns c =
     let a = c .before .before .before .before .before .args in
@@ -51,15 +44,12 @@ returns c =
     let m : ℕ = c .before .before .before .before .upto .result in
     sym (first-here (test (a .xs .now) (a .x)) m (l .i) (search needs) (eq-eqb (getD (a .xs .now) (l .i) 0) (a .x) (c .if1 .taken))) ∙ l .inv .3
 
--- src/entries.rt:117:13
 add-i : tie.Need-add-i Inv-loop μ-loop
 add-i c = search needs
 
--- src/entries.rt:113:5
 loop-less : tie.Need-loop-less Inv-loop μ-loop
 loop-less c = search needs
 
--- src/entries.rt:113:5
 loop-again : tie.Need-loop-again Inv-loop μ-loop
 loop-again c =
     let a = c .before .before .before .before .before .args in
@@ -71,7 +61,6 @@ loop-again c =
       sym (first-next (test (a .xs .now) (a .x)) m (l .i) (search needs) (ne-eqb (getD (a .xs .now) (l .i) 0) (a .x) (c .if1 .left))) ∙ l .inv .3,
     )
 
--- src/entries.rt:108:1
 returns-2 : tie.Need-returns-2 Inv-loop μ-loop
 returns-2 c =
     let a = c .before .before .before .args in

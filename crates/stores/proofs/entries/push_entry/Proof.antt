@@ -3,56 +3,42 @@ use Rattle.stores.proofs.EntryCases.{depth-full, depth-more, written-fu
 use borrow.Author.Needs.{needs}
 use Rattle.stores.proofs.entries.push_entry.Statement.{statement}
 use Rattle.stores.proofs.entries.push_entry.Tie as tie
-use Rattle.stores.proofs.entries.push_entry.Reads as reads
-use Rattle.stores.proofs.entries.push_entry.Lts as lts
 
--- src/entries.rt:29:9
 returns : tie.Need-returns
 returns c =
     let a = c .before .args in
     (depth-full (a .depth) (search needs), written-full (a .depth) (search needs) (a .t) (a .table .now), written-full (a .depth) (search needs) (a .time) (a .clock .now), written-full (a .depth) (search needs) (a .most) (a .positive .now), written-full (a .depth) (search needs) (a .most) (a .negative .now), written-full (a .depth) (search needs) 256 (a .active .now))
 
--- src/entries.rt:31:5
 element-write-table : tie.Need-element-write-table
 element-write-table c = search needs
 
--- src/entries.rt:32:5
 mul-clock : tie.Need-mul-clock
 mul-clock c = search needs
 
--- src/entries.rt:32:5
 element-write-clock : tie.Need-element-write-clock
 element-write-clock c = search needs
 
--- src/entries.rt:33:5
 mul-positive : tie.Need-mul-positive
 mul-positive c = search needs
 
--- src/entries.rt:33:5
 element-write-positive : tie.Need-element-write-positive
 element-write-positive c = search needs
 
--- src/entries.rt:34:5
 mul-negative : tie.Need-mul-negative
 mul-negative c = search needs
 
--- src/entries.rt:34:5
 element-write-negative : tie.Need-element-write-negative
 element-write-negative c = search needs
 
--- src/entries.rt:35:5
 mul-active : tie.Need-mul-active
 mul-active c = search needs
 
--- src/entries.rt:35:5
 element-write-active : tie.Need-element-write-active
 element-write-active c = search needs
 
--- src/entries.rt:36:5
 add-result : tie.Need-add-result
 add-result c = search needs
 
--- src/entries.rt:10:1
 returns-2 : tie.Need-returns-2
 returns-2 c =
     let a = c .before .args in

@@ -3,30 +3,22 @@ use Rattle.stores.proofs.EntryCases.{top-none, top-far, top-some}
 use borrow.Author.Needs.{needs}
 use Rattle.stores.proofs.entries.set_active.Statement.{statement}
 use Rattle.stores.proofs.entries.set_active.Tie as tie
-use Rattle.stores.proofs.entries.set_active.Reads as reads
-use Rattle.stores.proofs.entries.set_active.Lts as lts
 
--- src/entries.rt:79:9
 returns : tie.Need-returns
 returns c = let a = c .before .args in top-none (a .depth) (a .active .now) (search needs) (a .place)
 
--- src/entries.rt:82:9
 returns-2 : tie.Need-returns-2
 returns-2 c = let a = c .before .before .args in top-far (a .depth) (a .active .now) (search needs) (a .place)
 
--- src/entries.rt:84:12
 sub-active : tie.Need-sub-active
 sub-active c = search needs
 
--- src/entries.rt:84:5
 mul-active : tie.Need-mul-active
 mul-active c = search needs
 
--- src/entries.rt:84:5
 element-write-active : tie.Need-element-write-active
 element-write-active c = search needs
 
--- src/entries.rt:75:1
 returns-3 : tie.Need-returns-3
 returns-3 c = let a = c .before .before .args in top-some (a .depth) (a .active .now) (search needs) (search needs) (a .place)
 

@@ -3,30 +3,22 @@ use Rattle.stores.proofs.EntryCases.{top-none, top-far, top-some}
 use borrow.Author.Needs.{needs}
 use Rattle.stores.proofs.entries.set_minimum.Statement.{statement}
 use Rattle.stores.proofs.entries.set_minimum.Tie as tie
-use Rattle.stores.proofs.entries.set_minimum.Reads as reads
-use Rattle.stores.proofs.entries.set_minimum.Lts as lts
 
--- src/entries.rt:92:9
 returns : tie.Need-returns
 returns c = let a = c .before .args in top-none (a .depth) (a .minimum .now) (search needs) (a .time)
 
--- src/entries.rt:95:9
 returns-2 : tie.Need-returns-2
 returns-2 c = let a = c .before .before .args in top-far (a .depth) (a .minimum .now) (search needs) (a .time)
 
--- src/entries.rt:97:13
 sub-minimum : tie.Need-sub-minimum
 sub-minimum c = search needs
 
--- src/entries.rt:97:5
 mul-minimum : tie.Need-mul-minimum
 mul-minimum c = search needs
 
--- src/entries.rt:97:5
 element-write-minimum : tie.Need-element-write-minimum
 element-write-minimum c = search needs
 
--- src/entries.rt:88:1
 returns-3 : tie.Need-returns-3
 returns-3 c = let a = c .before .before .args in top-some (a .depth) (a .minimum .now) (search needs) (search needs) (a .time)
 

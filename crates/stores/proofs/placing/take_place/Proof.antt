@@ -3,35 +3,26 @@ use Rattle.stores.proofs.PlaceCases.{took-free, took-fresh, took-none}
 use borrow.Author.Needs.{needs}
 use Rattle.stores.proofs.placing.take_place.Statement.{statement}
 use Rattle.stores.proofs.placing.take_place.Tie as tie
-use Rattle.stores.proofs.placing.take_place.Reads as reads
-use Rattle.stores.proofs.placing.take_place.Lts as lts
-use Rattle.rings.proofs.ring_pop.Reads as ring-pop-reads
 
--- src/placing.rt:10:8
 element-copy-out-if1 : tie.Need-element-copy-out-if1
 element-copy-out-if1 c = search needs
 
--- src/placing.rt:11:9
 ring-pop-requires : tie.Need-ring-pop-requires
 ring-pop-requires c κs = search needs
 
--- src/placing.rt:11:9
 returns : tie.Need-returns
 returns c =
     let a = c .before .before .before .before .before .args in
     took-free (a .next .now) (a .tail .now) (a .len .now) (a .top .now) (search needs) (c .ring-pop .last .0) (c .ring-pop .last .1 .1 .0) (c .ring-pop .result) (c .ring-pop .ensures)
 
--- src/placing.rt:15:16
 add-top : tie.Need-add-top
 add-top c = search needs
 
--- src/placing.rt:16:9
 returns-2 : tie.Need-returns-2
 returns-2 c =
     let a = c .before .before .before .before .args in
     took-fresh (a .next .now) (a .tail .now) (a .len .now) (a .top .now) (search needs) (search needs)
 
--- src/placing.rt:6:1
 returns-3 : tie.Need-returns-3
 returns-3 c =
     let a = c .before .before .before .before .args in

@@ -1,0 +1,56 @@
+-- `queue` is safe and ends: its loop counts up to a number.
+use Prim.Native.Nat.{_≤_, _-_}
+use borrow.Author.Needs.{needs}
+use Rattle.stores_bench.proofs.queue.Statement.{statement}
+use Rattle.stores_bench.proofs.queue.Tie as tie
+
+abbrev Inv-loop : tie.InvT-loop
+Inv-loop live turns next₀ tail₀ len₀ time ambiguous last₀ i₀ next tail len last i =
+    i ≤ turns
+
+abbrev μ-loop : tie.MeasureT-loop
+μ-loop live turns next₀ tail₀ len₀ time ambiguous last₀ i₀ next tail len last i =
+    turns - i
+
+filled-requires : tie.Need-filled-requires Inv-loop μ-loop
+filled-requires c κs = search needs
+
+loop-holds : tie.Need-loop-holds Inv-loop μ-loop
+loop-holds c = search needs
+
+ring-take-requires : tie.Need-ring-take-requires Inv-loop μ-loop
+ring-take-requires c κs = search needs
+
+small-requires : tie.Need-small-requires Inv-loop μ-loop
+small-requires c κs = search needs
+
+ring-enqueue-requires : tie.Need-ring-enqueue-requires Inv-loop μ-loop
+ring-enqueue-requires c κs = search needs
+
+add-i : tie.Need-add-i Inv-loop μ-loop
+add-i c = search needs
+
+loop-less : tie.Need-loop-less Inv-loop μ-loop
+loop-less c = search needs
+
+loop-again : tie.Need-loop-again Inv-loop μ-loop
+loop-again c = search needs
+
+returns : tie.Need-returns Inv-loop μ-loop
+returns c = search needs
+
+pub queue-spec : {M : Type 1} → statement M
+queue-spec =
+    tie.close
+    (tie.spec
+    Inv-loop
+    μ-loop
+    filled-requires
+    loop-holds
+    ring-take-requires
+    small-requires
+    ring-enqueue-requires
+    add-i
+    loop-less
+    loop-again
+    returns)

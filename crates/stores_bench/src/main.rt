@@ -1,0 +1,246 @@
+// Runs one operation of the stores many times, for a clock outside: how many arguments there are names it. With none it only says so.
+use rings::ring_at;
+use rings::ring_enqueue;
+use rings::ring_take;
+use stores::Places;
+use stores::answering::PushAnswer;
+use stores::answering::push_answer;
+use stores::blank::blank_answers;
+use stores::blank::blank_places;
+use stores::blank::blank_strands;
+use stores::placing::take_place;
+use strands::Answer;
+use strands::answers::blank_answer;
+ghost use Prim.Native.Nat.{_≤_, _<_};
+
+fn small(x: usize) -> u8
+    ensures { λ r. ⌜ r < 256 ⌝ }
+{
+    if x < 256 { x as u8 } else { 0 }
+}
+
+// That many places wait in ring 0.
+fn filled(live: usize) -> Places {
+    let p = blank_places();
+    let mut next = p.next;
+    let mut tail = p.tail;
+    let mut len = p.len;
+    let mut top = p.top;
+    let mut i: usize = 0;
+    while i < live {
+        let q = take_place(&mut next, &tail, &mut len, &mut top);
+        ring_enqueue(&mut next, &mut tail, &mut len, 0, small(q));
+        i = i + 1;
+    }
+    Places {
+        next,
+        tail,
+        len,
+        top,
+    }
+}
+
+// A place is taken, and the one held before it given back.
+fn places(live: usize, turns: usize) -> usize {
+    let p = filled(live);
+    let mut next = p.next;
+    let mut tail = p.tail;
+    let mut len = p.len;
+    let mut top = p.top;
+    let mut held = take_place(&mut next, &tail, &mut len, &mut top);
+    let mut i: usize = 0;
+    while i < turns {
+        let q = take_place(&mut next, &tail, &mut len, &mut top);
+        ring_enqueue(&mut next, &mut tail, &mut len, 64, small(held));
+        held = q;
+        i = i + 1;
+    }
+    held
+}
+
+// The first eligible strand is taken from the queue and goes to its end.
+fn queue(live: usize, turns: usize) -> usize {
+    let p = filled(live);
+    let mut next = p.next;
+    let mut tail = p.tail;
+    let mut len = p.len;
+    let time = [0u64; 256];
+    let ambiguous = [0u8; 256];
+    let mut last: usize = 0;
+    let mut i: usize = 0;
+    while i < turns {
+        let q = ring_take(
+            &mut next,
+            &mut tail,
+            &mut len,
+            0,
+            &time,
+            &ambiguous,
+            1,
+            true,
+        );
+        ring_enqueue(&mut next, &mut tail, &mut len, 0, small(q));
+        last = q;
+        i = i + 1;
+    }
+    last
+}
+
+// The same where no strand is eligible: the whole queue is looked at.
+fn search(live: usize, turns: usize) -> usize {
+    let p = filled(live);
+    let mut next = p.next;
+    let mut tail = p.tail;
+    let mut len = p.len;
+    let time = [7u64; 256];
+    let ambiguous = [0u8; 256];
+    let mut last: usize = 0;
+    let mut i: usize = 0;
+    while i < turns {
+        last = ring_take(
+            &mut next,
+            &mut tail,
+            &mut len,
+            0,
+            &time,
+            &ambiguous,
+            1,
+            true,
+        );
+        i = i + 1;
+    }
+    last
+}
+
+// A strand is read at the place taken, written again and queued: a small turn in the loop that owns the store.
+fn turns_of(live: usize, turns: usize) -> u64 {
+    let s = blank_strands();
+    let mut strands = s.strands;
+    let p = filled(live);
+    let mut next = p.next;
+    let mut tail = p.tail;
+    let mut len = p.len;
+    let time = [0u64; 256];
+    let ambiguous = [0u8; 256];
+    let mut last: u64 = 0;
+    let mut i: usize = 0;
+    while i < turns {
+        let q = ring_take(
+            &mut next,
+            &mut tail,
+            &mut len,
+            0,
+            &time,
+            &ambiguous,
+            1,
+            true,
+        );
+        let k = small(q);
+        let mut x = strands[k as usize];
+        x.last_pursued_time = last;
+        strands[k as usize] = x;
+        ring_enqueue(&mut next, &mut tail, &mut len, 0, k);
+        last = i as u64;
+        i = i + 1;
+    }
+    last
+}
+
+fn other(x: u16) -> u16 {
+    if x > 0 { x - 1 } else { 1 }
+}
+
+// The place of an answer by its index, that one and the one before it in turn.
+fn lookup(live: usize, first: u16, turns: usize) -> usize {
+    let p = filled(live);
+    let next = p.next;
+    let tail = p.tail;
+    let len = p.len;
+    let mut index = first;
+    let mut sum: usize = 0;
+    let mut i: usize = 0;
+    while i < turns {
+        sum = sum ^ ring_at(&next, &tail, &len, 0, index);
+        index = flipped(index, first);
+        i = i + 1;
+    }
+    sum
+}
+
+fn flipped(index: u16, first: u16) -> u16 {
+    if index == first { other(first) } else { first }
+}
+
+fn answer(variant: u16) -> Answer {
+    let mut x = blank_answer();
+    x.variant = variant;
+    x
+}
+
+fn place_of(o: PushAnswer) -> usize
+    ensures { λ r. ⌜ r < 256 ⌝ }
+{
+    match o {
+        PushAnswer::Repeat => 255,
+        PushAnswer::Stop(n) => n as usize,
+        PushAnswer::New(q) => q as usize,
+    }
+}
+
+// That many answers, and then pushes of the last again.
+fn pushes(live: u16, turns: usize) -> usize {
+    let a = blank_answers();
+    let mut answers = a.answers;
+    let p = a.places;
+    let mut next = p.next;
+    let mut tail = p.tail;
+    let mut len = p.len;
+    let mut top = p.top;
+    let mut last: usize = 0;
+    let mut n: u16 = 0;
+    let mut i: usize = 0;
+    while i < turns {
+        let x = answer(n);
+        last = place_of(push_answer(answers, &mut next, &mut tail, &mut len, &mut top, 0, x));
+        answers[last] = x;
+        n = following(n, live);
+        i = i + 1;
+    }
+    last
+}
+
+// Counts up to the last answer and stays there.
+fn following(n: u16, live: u16) -> u16 {
+    if n < live { n + 1 } else { n }
+}
+
+fn run(k: usize) -> usize {
+    match k {
+        2 => places(16, 100000000),
+        3 => places(254, 100000000),
+        4 => queue(16, 100000000),
+        5 => queue(256, 100000000),
+        6 => search(16, 10000000),
+        7 => search(256, 1000000),
+        8 => turns_of(16, 100000000) as usize,
+        9 => turns_of(256, 100000000) as usize,
+        10 => lookup(16, 15, 10000000),
+        11 => lookup(256, 255, 1000000),
+        12 => pushes(15, 1000000),
+        13 => pushes(255, 1000000),
+        _ => 0,
+    }
+}
+
+fn main() {
+    let k = os::arg_count();
+    if k < 2 {
+        io::write_all(
+            1,
+            b"name an operation by the number of arguments: 1 to 12\n",
+        );
+        return;
+    }
+    io::print_decimal(1, run(k as usize) as u64);
+    io::write_all(1, b"\n");
+}

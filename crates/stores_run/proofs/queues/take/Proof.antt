@@ -1,0 +1,17 @@
+-- `take` meets its contract: the model `takenStrand`.
+use Rattle.stores_run.proofs.Owners.{take-of}
+use borrow.Author.Needs.{needs}
+use Rattle.stores_run.proofs.queues.take.Statement.{statement}
+use Rattle.stores_run.proofs.queues.take.Tie as tie
+
+ring-take-requires : tie.Need-ring-take-requires
+ring-take-requires c κs = search needs
+
+returns : tie.Need-returns
+returns c =
+    let a = c .before .before .before .before .before .before .before .before .before .before .before .before .args in
+    let r = c .ring-take in
+    take-of (a .s) (a .t) (a .clock) (r .last .0) (r .last .1 .0) (r .last .1 .1 .0) (r .result) (r .ensures)
+
+pub take-spec : {M : Type 1} → statement M
+take-spec = tie.close (tie.spec ring-take-requires returns)

@@ -1,0 +1,15 @@
+// Drives the stores by lists of operations at every limit, and writes what they hold.
+mod queues; // queues.rt: the strand store
+mod kept; // kept.rt: the answers
+mod frames; // frames.rt: tables, stack, delayed goals
+mod words; // words.rt: what is written
+
+fn main() {
+    queues::rotation();
+    queues::limit();
+    kept::outcomes();
+    kept::limit();
+    frames::delays();
+    frames::entries();
+    frames::goals();
+}

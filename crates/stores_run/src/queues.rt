@@ -1,0 +1,204 @@
+// The strand store: a turned queue, 256 and 257 strands, and places used again.
+use crate::words::line;
+use crate::words::number;
+use crate::words::one;
+use rings::ring_at;
+use rings::ring_enqueue;
+use rings::ring_move;
+use rings::ring_take;
+use stores::Places;
+use stores::Strands;
+use stores::blank::blank_strands;
+use stores::placing::flag_of;
+use stores::placing::in_use;
+use stores::placing::take_place;
+use strands::Strand;
+use strands::making::blank;
+ghost use Rattle.stores_run.specs.Owner.{Puts, Takes, Clears};
+
+struct Placed {
+    done: bool,
+    strands: Strands,
+}
+
+struct Took {
+    place: usize,
+    strands: Strands,
+}
+
+// A new strand at the end of a table's queue: a place is taken, written and enqueued.
+fn put(s: Strands, t: u8, x: Strand) -> Placed
+    ensures { λ r. ⌜ Puts s t x r ⌝ }
+{
+    let p = s.places;
+    let mut next = p.next;
+    let mut tail = p.tail;
+    let mut len = p.len;
+    let mut top = p.top;
+    let q = take_place(&mut next, &tail, &mut len, &mut top);
+    if q >= 256 {
+        return Placed {
+            done: false,
+            strands: s,
+        };
+    }
+    ring_enqueue(&mut next, &mut tail, &mut len, t, q as u8);
+    let mut r = s;
+    r.strands[q] = x;
+    r.time[q] = x.last_pursued_time;
+    r.ambiguous[q] = flag_of(x.ambiguous);
+    let places = Places {
+        next,
+        tail,
+        len,
+        top,
+    };
+    r.places = places;
+    Placed {
+        done: true,
+        strands: r,
+    }
+}
+
+// The first strand of a table's queue that was pursued before the time.
+fn take(s: Strands, t: u8, clock: u64) -> Took
+    ensures { λ r. ⌜ Takes s t clock r ⌝ }
+{
+    let p = s.places;
+    let mut next = p.next;
+    let mut tail = p.tail;
+    let mut len = p.len;
+    let time = s.time;
+    let ambiguous = s.ambiguous;
+    let q = ring_take(
+        &mut next,
+        &mut tail,
+        &mut len,
+        t,
+        &time,
+        &ambiguous,
+        clock,
+        false,
+    );
+    let places = Places {
+        next,
+        tail,
+        len,
+        top: p.top,
+    };
+    let mut r = s;
+    r.places = places;
+    Took {
+        place: q,
+        strands: r,
+    }
+}
+
+// The queue's places are free.
+fn clear(s: Strands, t: u8) -> Strands
+    ensures { λ r. ⌜ Clears s t r ⌝ }
+{
+    let p = s.places;
+    let mut next = p.next;
+    let mut tail = p.tail;
+    let mut len = p.len;
+    ring_move(&mut next, &mut tail, &mut len, t, 64);
+    let places = Places {
+        next,
+        tail,
+        len,
+        top: p.top,
+    };
+    let mut r = s;
+    r.places = places;
+    r
+}
+
+fn strand(variant: u16, time: u64) -> Strand {
+    let mut x = blank();
+    x.variant = variant;
+    x.last_pursued_time = time;
+    x
+}
+
+fn used(s: Strands) -> usize {
+    let p = s.places;
+    let len = p.len;
+    let n = in_use(&len, p.top);
+    n as usize
+}
+
+// The variants along a queue, at most eight.
+fn along(s: Strands, t: u8) {
+    let p = s.places;
+    let next = p.next;
+    let tail = p.tail;
+    let len = p.len;
+    let strands = s.strands;
+    let mut i: u16 = 0;
+    while i < 8 {
+        let q = ring_at(&next, &tail, &len, t, i);
+        if q < 256 {
+            let x = strands[q];
+            number(x.variant);
+        }
+        i = i + 1;
+    }
+}
+
+fn show(s: Strands, t: u8) {
+    io::write_all(1, b"queue ");
+    along(s, t);
+    io::write_all(1, b"\n");
+}
+
+// Strands 1 2 3, of which 2 may be taken first: it leaves 3 1.
+pub fn rotation() {
+    let a = put(blank_strands(), 5, strand(1, 9));
+    let b = put(a.strands, 5, strand(2, 1));
+    let c = put(b.strands, 5, strand(3, 9));
+    show(c.strands, 5);
+    let d = take(c.strands, 5, 2);
+    line(b"taken at place", d.place);
+    show(d.strands, 5);
+    let e = take(d.strands, 5, 2);
+    line(b"none: place", e.place);
+    line(b"in use", used(e.strands));
+}
+
+struct Filled {
+    count: usize,
+    strands: Strands,
+}
+
+// As many new strands as there is room for, of 300, in turn in three queues.
+fn fill(s: Strands) -> Filled {
+    let mut r = s;
+    let mut n: usize = 0;
+    let mut i: u16 = 0;
+    while i < 300 {
+        let t = i % 3;
+        let p = put(r, t as u8, strand(i, 0));
+        n = n + one(p.done);
+        r = p.strands;
+        i = i + 1;
+    }
+    Filled {
+        count: n,
+        strands: r,
+    }
+}
+
+// 256 strands and not 257; the places of a queue that is cleared are used again.
+pub fn limit() {
+    let f = fill(blank_strands());
+    line(b"strands of 300:", f.count);
+    line(b"in use", used(f.strands));
+    show(f.strands, 1);
+    let s = clear(f.strands, 1);
+    line(b"in use", used(s));
+    let g = fill(s);
+    line(b"strands of 300:", g.count);
+    line(b"in use", used(g.strands));
+    show(g.strands, 1);
+}
