@@ -21,7 +21,7 @@ use Rattle.stores.specs.View.{ring, strandAt, tableAt, tables}
 use Rattle.stores.specs.Sound.{waiting, SoundStrands, SoundAnswers, SoundTables}
 use Rattle.stores.specs.Storing.{storedAll}
 use Rattle.stores.specs.Tabling.{inserted}
-use Rattle.stores.proofs.Spans.{length-span}
+use Rattle.book.proofs.Spans.{span-length}
 use Rattle.stores.proofs.StrandSound.{strands-grown}
 use Rattle.stores.proofs.StrandStores.{StoredAll, stored-all, stored-all-view}
 use Rattle.stores.proofs.AnswerViews.{answers-grown}
@@ -77,6 +77,6 @@ module _ (ts : Tables) (s : Strands) (a : Answers) (held : List ℕ) (g : ℕ) (
           stored-all-view s (suc n) held n xs ts′ a (inserted-count ts s a g co false sound room) (omega arith) all
           ∙ ap₂ (λ (l : List Table) (t : Table). set l n t) (inserted-view ts s a g co false sound room no-answers no-strands)
           (ap₂ (λ (t : Table) (l : List said-strand.Strand). with-strands t (l ++ map view xs)) (inserted-new ts s a g co false sound room no-answers no-strands) (ap (map (strandAt s)) no-strands))
-          ∙ ap (λ (k : ℕ). set (push (tables ts s a) (new g co)) k (with-strands (new g co) (map view xs))) (sym (length-span (tableAt ts s a) 0 n))
+          ∙ ap (λ (k : ℕ). set (push (tables ts s a) (new g co)) k (with-strands (new g co) (map view xs))) (sym (span-length (tableAt ts s a) 0 n))
           ∙ set-append-seam (tables ts s a) (new g co) [] (with-strands (new g co) (map view xs));
     }

@@ -19,7 +19,8 @@ use Rattle.stores.specs.declared.Strands.{Strands}
 use Rattle.stores.specs.declared.Answers.{Answers}
 use Rattle.stores.specs.declared.Tables.{Tables}
 use Rattle.stores.specs.declared.Stack.{Stack}
-use Rattle.stores.specs.View.{flag, tableAt, tables, span, entries, entered}
+use Rattle.book.specs.View.{span}
+use Rattle.stores.specs.View.{flag, tableAt, tables, entries, entered}
 use Rattle.stores.specs.Entries.{firstAt, allFrom, within, coinductiveAt}
 use Rattle.stores.proofs.TableViews.{table-at-is}
 use Rattle.stores.proofs.Spans.{firstIf, later, span-at}

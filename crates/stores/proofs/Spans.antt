@@ -14,7 +14,8 @@ use borrow.Author.Tests.{lt-ltb, le-ltb, ltb-true, ltb-false}
 use Rattle.definitions.specs.Lists.{push, position, rotate-left, total}
 use Rattle.rings.specs.Lists.{stop, firstIndex, times, turned}
 use Rattle.rings.proofs.Counts.{All, map-append, times-self}
-use Rattle.stores.specs.View.{span}
+use Rattle.book.specs.View.{span}
+use Rattle.book.proofs.Spans.{span-ext, span-snoc}
 
 -- where a search ends: at i, or nowhere
 abbrev pub firstIf : Bool → ℕ → Option ℕ
@@ -34,10 +35,6 @@ position-step false n i o e = ap later e ∙ go (ltb i n) refl
     go false d = rw (d, le-ltb (suc i) (suc n) (omega (arith, ltb-false i n d))) refl
 
 module _ {A : Type 0} where
-  pub length-span : (f : ℕ → A) (s n : ℕ) → length (span f s n) ≡ n
-  length-span f s zero = refl
-  length-span f s (suc n) = ap suc (length-span f (suc s) n)
-
   span-at-from : (f : ℕ → A) (s n i : ℕ) → i < n → getElem? (span f s n) i ≡ some (f (s + i))
   span-at-from f s zero i h = absurd (omega arith)
   span-at-from f s (suc n) zero h = rw (add-zero s) refl
@@ -56,19 +53,14 @@ module _ {A : Type 0} where
   pub span-past : (f : ℕ → A) (n i : ℕ) → n ≤ i → getElem? (span f 0 n) i ≡ none
   span-past f n i h = span-past-from f 0 n i h
 
-  span-same-from : (f g : ℕ → A) (s n : ℕ) → ((u : ℕ) → s ≤ u → u < s + n → g u ≡ f u) → span g s n ≡ span f s n
-  span-same-from f g s zero h = refl
-  span-same-from f g s (suc n) h =
-      ap₂ (λ (x : A) (l : List A). x ∷ l) (h s (omega arith) (omega arith)) (span-same-from f g (suc s) n (λ u a b. h u (omega arith) (omega arith)))
-
   pub span-same : (f g : ℕ → A) (n : ℕ) → ((u : ℕ) → u < n → g u ≡ f u) → span g 0 n ≡ span f 0 n
-  span-same f g n h = span-same-from f g 0 n (λ u a b. h u (omega arith))
+  span-same f g n h = span-ext g f 0 n (λ u a b. h u (omega arith))
 
   span-set-from : (f g : ℕ → A) (s n t : ℕ) → t < n → ((u : ℕ) → u < s + n → (u ≡ s + t → ⊥) → g u ≡ f u)
       → span g s n ≡ set (span f s n) t (g (s + t))
   span-set-from f g s zero t h e = absurd (omega arith)
   span-set-from f g s (suc n) zero h e =
-      ap₂ (λ (x : A) (l : List A). x ∷ l) (ap g (sym (add-zero s))) (span-same-from f g (suc s) n (λ u a b. e u (omega arith) (λ d. omega arith)))
+      ap₂ (λ (x : A) (l : List A). x ∷ l) (ap g (sym (add-zero s))) (span-ext g f (suc s) n (λ u a b. e u (omega arith) (λ d. omega arith)))
   span-set-from f g s (suc n) (suc t) h e =
       let i : suc s + t ≡ s + suc t = omega arith in
       ap₂ (λ (x : A) (l : List A). x ∷ l) (e s (omega arith) (λ d. omega arith))
@@ -80,15 +72,9 @@ module _ {A : Type 0} where
       let z : 0 + t ≡ t = omega arith in
       span-set-from f g 0 n t h (λ u a b. e u (omega arith) (λ d. b (omega arith))) ∙ ap (λ (k : ℕ). set (span f 0 n) t (g k)) z
 
-  span-push-from : (f : ℕ → A) (s n : ℕ) → span f s (suc n) ≡ push (span f s n) (f (s + n))
-  span-push-from f s zero = ap (λ (k : ℕ). f k ∷ []) (sym (add-zero s))
-  span-push-from f s (suc n) =
-      let i : suc s + n ≡ s + suc n = omega arith in
-      ap (λ (l : List A). f s ∷ l) (span-push-from f (suc s) n ∙ ap (λ (k : ℕ). push (span f (suc s) n) (f k)) i)
-
   -- one more at the end
   pub span-push : (f : ℕ → A) (n : ℕ) → span f 0 (suc n) ≡ push (span f 0 n) (f n)
-  span-push f n = span-push-from f 0 n ∙ ap (λ (k : ℕ). push (span f 0 n) (f k)) (zero-add n)
+  span-push f n = span-snoc f 0 n ∙ ap (λ (k : ℕ). push (span f 0 n) (f k)) (zero-add n)
 
   pub total-push : (f : A → ℕ) (l : List A) (x : A) → total f (push l x) ≡ total f l + f x
   total-push f [] x = omega arith

@@ -10,7 +10,8 @@ use lib.Dec.{eqb}
 use borrow.Author.Tests.{eqb-true, eqb-false}
 use Rattle.definitions.specs.Lists.{total}
 use Rattle.stores.specs.declared.Places.{Places}
-use Rattle.stores.specs.View.{free, ring, span}
+use Rattle.book.specs.View.{span}
+use Rattle.stores.specs.View.{free, ring}
 use Rattle.stores.specs.Sound.{waiting, SoundPlaces}
 use Rattle.stores.proofs.Spans.{span-push, total-push}
 use Rattle.stores.proofs.Held.{Alike, length-alike}

@@ -1,16 +1,17 @@
 -- What the stores mean: the tables and the stack of the definitions that they hold.
-use Prim.Native.Nat.{ℕ, zero, suc, _+_}
+use Prim.Native.Nat.{ℕ, zero, suc}
 use mathlib.Core.Bool.{Bool, true, false, not}
 use mathlib.Core.Option.{Option, none, some}
 use mathlib.Core.List.{List, [], _∷_, map}
-use lib.ListN.{length, getD}
+use lib.ListN.{getD}
 use lib.Dec.{eqb}
 use Rattle.definitions.specs as said
 use Rattle.definitions.specs.Strand as held
 use Rattle.definitions.specs.Table as table
 use Rattle.definitions.specs.Tables as forest
 use Rattle.definitions.specs.Stack as stack
-use Rattle.rings.specs.Rings.{ringOf, heldAt}
+use Rattle.book.specs.View.{span}
+use Rattle.rings.specs.Rings.{ringOf}
 use Rattle.strands.specs.declared.Strand.{Strand}
 use Rattle.strands.specs.declared.Answer.{Answer}
 use Rattle.strands.specs.declared.Selected.the-variants.{Nothing}
@@ -49,12 +50,6 @@ mode n = elim (flag n) [ true ↦ said.Complete | false ↦ said.Ambiguous ]
 
 abbrev pub tableAt : Tables → Strands → Answers → ℕ → table.Table
 tableAt ts s a t = record { table-goal = getD (ts .goal) t 0; coinductive-goal = flag (getD (ts .coinductive) t 0); floundered = flag (getD (ts .floundered) t 0); answers = map (answerAt a) (ring (a .places) t); strands = map (strandAt s) (ring (s .places) t); answer-mode = mode (getD (ts .complete) t 0) }
-
-module _ {A : Type 0} where
-  -- f at n numbers from s on
-  abbrev pub span : (ℕ → A) → (s n : ℕ) → List A
-  span f s zero = []
-  span f s (suc n) = f s ∷ span f (suc s) n
 
 -- THE VIEW of the tables
 abbrev pub tables : Tables → Strands → Answers → forest.Tables
