@@ -159,6 +159,14 @@ def files():
     return out
 
 
+def write_files(folder, wanted):
+    for name, data in wanted.items():
+        path = os.path.join(folder, name)
+        os.makedirs(os.path.dirname(path), exist_ok=True)
+        with open(path, "wb") as f:
+            f.write(data)
+
+
 def main():
     wanted = files()
     if sys.argv[1:] == ["--check"]:
@@ -172,10 +180,7 @@ def main():
     if sys.argv[1:]:
         print(__doc__)
         return 2
-    os.makedirs(FOLDER, exist_ok=True)
-    for name, data in wanted.items():
-        with open(os.path.join(FOLDER, name), "wb") as f:
-            f.write(data)
+    write_files(FOLDER, wanted)
     return 0
 
 

@@ -11,6 +11,8 @@ one is 3 and the other 5, or one is 8 and the other 6: without a clause there ar
 import os
 import sys
 
+from papers import write_files
+
 ROOT = os.path.dirname(os.path.dirname(os.path.abspath(__file__)))
 FOLDER = os.path.join(ROOT, "crates", "reading_tests")
 
@@ -147,10 +149,7 @@ def main():
     if sys.argv[1:]:
         print(__doc__)
         return 2
-    os.makedirs(os.path.join(FOLDER, "data"), exist_ok=True)
-    for name, data in wanted.items():
-        with open(os.path.join(FOLDER, name), "wb") as f:
-            f.write(data)
+    write_files(FOLDER, wanted)
     return 0
 
 
