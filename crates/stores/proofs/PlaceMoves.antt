@@ -10,7 +10,7 @@ use borrow.Author.Tests.{ltb-true, ltb-false}
 use Rattle.rings.specs.Lists.{times}
 use Rattle.rings.specs.Rings.{RingTook, RingMoved, linked, lengthened}
 use Rattle.rings.proofs.Counts.{times-append, pigeons}
-use Rattle.rings.proofs.RingViews.{ring-move-to, ring-move-from, ring-move-other, ring-move-sound}
+use Rattle.rings.proofs.RingMoves.{ring-move-to, ring-move-from, ring-move-other, ring-move-sound}
 use Rattle.stores.specs.declared.Places.{Places}
 use Rattle.stores.specs.View.{free, ring}
 use Rattle.stores.specs.Sound.{waiting, SoundPlaces}
