@@ -7,13 +7,17 @@ use mathlib.Core.List.{List, [], _∷_, _++_, append-nil}
 use lib.ListN.{length, getD, set, length-set, length-append}
 use lib.Seq.{getD-set-other, getD-set-same}
 use lib.Dec.{eqb}
-use borrow.Author.Tests.{eq-eqb, ne-eqb}
+use borrow.Author.Tests.{le-ltb, eq-eqb, ne-eqb}
 use Rattle.rings.specs.Lists.{times, Full}
-use Rattle.rings.specs.Rings.{walk, ringOf, RingMoved, movedNext, movedTail, Chain, RingSound}
+use Rattle.rings.specs.Rings.{joinedBy, joined, walk, ringOf, RingMoved, movedNext, movedTail, Chain, RingSound}
 use Rattle.rings.proofs.Counts.{times-append, pigeons}
 use Rattle.rings.proofs.Walks.{chain-walk, chain-last, ring-frame, ring-splice}
 use Rattle.rings.proofs.RingViews.{any}
 use Rattle.rings.proofs.RingViews as views
+
+-- two queues have room together
+joined-within : (k m : ℕ) → k ≤ 256 → m ≤ 256 → joined k m ≡ k + m
+joined-within k m h i = ap₂ (λ (b c : Bool). joinedBy b c k m) (le-ltb 256 k h) (le-ltb 256 m i)
 
 module _ (next tail len : List ℕ) (top : ℕ) (sound : RingSound next tail len top) where
   -- the queue of a table, as it was
@@ -46,7 +50,7 @@ module _ (next tail len : List ℕ) (top : ℕ) (sound : RingSound next tail len
     room-both = omega (arith, pigeons top (q g ++ q f) once-both small-both, sound .room, length-append (q g) (q f), size g, size f)
 
     lens : l′ ≡ set (set len f 0) g (getD len g 0 + getD len f 0)
-    lens = did .size (omega (arith, room-both)) (omega (arith, room-both))
+    lens = did .size ∙ ap (set (set len f 0) g) (joined-within (getD len g 0) (getD len f 0) (omega (arith, room-both)) (omega (arith, room-both)))
 
     len-g : getD l′ g 0 ≡ length (q g ++ q f)
     len-g =

@@ -12,7 +12,7 @@ use lib.Dec.{eqb}
 use borrow.Author.Tests.{eq-eqb, ne-eqb, lt-ltb, le-ltb, ltb-true, ltb-false}
 use Rattle.rings.specs.declared.Spot.{Spot}
 use Rattle.rings.specs.Lists.{firstIndex, one, times}
-use Rattle.rings.specs.Rings.{walk, end, Chain, Found, ringOf, RingTook, RingTookAt, RingMoved, movedNext, movedTail}
+use Rattle.rings.specs.Rings.{walk, end, Chain, Found, ringOf, RingTook, RingTookAt, RingMoved, movedNext, movedTail, joined}
 use Rattle.rings.proofs.Laws.{firstIndex-here, firstIndex-past}
 
 pub length-walk : (m : ℕ) (next : List ℕ) (a : ℕ) → length (walk m next a) ≡ m
@@ -218,12 +218,12 @@ ring-splice next a b x y l m ca cb a∉ b∉ a≤ b≤ ha hb =
 
 -- `ring_move` at the tests' answers
 pub ring-moved : (next tail len : List ℕ) (f g : ℕ) (x y : Bool) (s : ℕ) → eqb (getD len f 0) 0 ≡ x → eqb (getD len g 0) 0 ≡ y
-    → (getD len g 0 ≤ 256 → getD len f 0 ≤ 256 → s ≡ getD len g 0 + getD len f 0)
+    → s ≡ joined (getD len g 0) (getD len f 0)
     → RingMoved next tail len f g (movedNext x y next (getD tail f 0) (getD tail g 0)) (movedTail x tail g (getD tail f 0)) (set (set len f 0) g s)
 ring-moved next tail len f g x y s ex ey es = record {
   links = ap₂ (λ (u v : Bool). movedNext u v next (getD tail f 0) (getD tail g 0)) (sym ex) (sym ey);
   ends = ap (λ (u : Bool). movedTail u tail g (getD tail f 0)) (sym ex);
-  size = λ h k. ap (set (set len f 0) g) (es h k);
+  size = ap (set (set len f 0) g) es;
 }
 
 -- `ring_pop` at the test's answers

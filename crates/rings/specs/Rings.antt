@@ -75,10 +75,24 @@ abbrev pub movedTail : Bool → List ℕ → ℕ → ℕ → List ℕ
 movedTail true tail g a = tail
 movedTail false tail g a = set tail g a
 
+-- the length of two queues together; a length above 256, which no queue has, counts for nothing
+abbrev pub joinedBy : (over over′ : Bool) → ℕ → ℕ → ℕ
+joinedBy true b k m = 0
+joinedBy false true k m = 0
+joinedBy false false k m = k + m
+
+abbrev pub joined : ℕ → ℕ → ℕ
+joined k m = joinedBy (ltb 256 k) (ltb 256 m) k m
+
 pub record RingMoved (next tail len : List ℕ) (f g : ℕ) (next′ tail′ len′ : List ℕ) : Type 0 where
   pub links : next′ ≡ movedNext (eqb (getD len f 0) 0) (eqb (getD len g 0) 0) next (getD tail f 0) (getD tail g 0)
   pub ends : tail′ ≡ movedTail (eqb (getD len f 0) 0) tail g (getD tail f 0)
-  pub size : getD len g 0 ≤ 256 → getD len f 0 ≤ 256 → len′ ≡ set (set len f 0) g (getD len g 0 + getD len f 0)
+  pub size : len′ ≡ set (set len f 0) g (joined (getD len g 0) (getD len f 0))
+
+-- a queue moved behind itself stays where it is
+pub record RingMove (next tail len : List ℕ) (f g : ℕ) (next′ tail′ len′ : List ℕ) : Type 0 where
+  pub stays : f ≡ g → (next′ ≡ next) × (tail′ ≡ tail) × (len′ ≡ len)
+  pub moves : (f ≡ g → ⊥) → RingMoved next tail len f g next′ tail′ len′
 
 -- each queue is a ring, and a place is in one queue at most, once; the places from top on were never used
 pub record RingSound (next tail len : List ℕ) (top : ℕ) : Type 0 where

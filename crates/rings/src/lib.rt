@@ -8,7 +8,7 @@ ghost use Prim.Native.Nat.{ℕ, _+_, _-_, _≤_, _<_};
 ghost use lib.ListN.{length, take, drop, getD, set};
 ghost use lib.Dec.{ltb};
 ghost use Rattle.rings.specs.Lists.{firstIndex, grown};
-ghost use Rattle.rings.specs.Rings.{walk, ringOf, eligibleAt, eligible, Found, RingTookAt, RingTook, linked, lengthened, RingMoved, PlaceAt};
+ghost use Rattle.rings.specs.Rings.{walk, ringOf, eligibleAt, eligible, Found, RingTookAt, RingTook, linked, lengthened, joined, RingMove, PlaceAt};
 
 // Whether a search found an eligible place, and the place before it.
 pub struct Spot {
@@ -158,7 +158,7 @@ pub fn ring_enqueue(
 }
 
 fn added(k: u16, m: u16) -> u16
-    ensures { λ r. ⌜ (k ≤ 256 → m ≤ 256 → r ≡ k + m) ⌝ }
+    ensures { λ r. ⌜ r ≡ joined k m ⌝ }
 {
     if k > 256 {
         return 0;
@@ -171,7 +171,7 @@ fn added(k: u16, m: u16) -> u16
 
 // Moves the whole queue of one table behind that of another: two links change, whatever their lengths. Free places are such a queue.
 pub fn ring_move(next: &mut [u8; 256], tail: &mut [u8; 256], len: &mut [u16; 256], from: u8, to: u8)
-    ensures { λ _. ⌜ ((from ≡ to → ⊥) → RingMoved (now (next .entry)) (now (tail .entry)) (now (len .entry)) from to (now (next .exit)) (now (tail .exit)) (now (len .exit))) ⌝ }
+    ensures { λ _. ⌜ RingMove (now (next .entry)) (now (tail .entry)) (now (len .entry)) from to (now (next .exit)) (now (tail .exit)) (now (len .exit)) ⌝ }
 {
     let f = from as usize;
     let g = to as usize;

@@ -1,6 +1,6 @@
 -- A whole ring goes to the free places, and `SoundPlaces` is kept; and what the ring functions leave is what the models say. From the
 -- theorems of crate `rings`.
-use Prim.Native.Nat.{ℕ, _+_, _-_, _≤_, _<_}
+use Prim.Native.Nat.{ℕ, _+_, _≤_, _<_}
 use native.Mathlib.Omega.{arith}
 use mathlib.Core.Path.{_≡_, refl, ap, ap₂, _∙_}
 use mathlib.Core.Bool.{Bool, true, false}
@@ -9,14 +9,13 @@ use lib.ListN.{length, getD, set, length-append}
 use borrow.Author.Tests.{ltb-true, ltb-false}
 use Rattle.rings.specs.Lists.{times}
 use Rattle.rings.specs.Rings.{RingTook, RingMoved, linked, lengthened}
-use Rattle.rings.proofs.Counts.{times-append, pigeons}
+use Rattle.rings.proofs.Counts.{times-append}
 use Rattle.rings.proofs.RingMoves.{ring-move-to, ring-move-from, ring-move-other, ring-move-sound}
 use Rattle.stores.specs.declared.Places.{Places}
 use Rattle.stores.specs.View.{free, ring}
 use Rattle.stores.specs.Sound.{waiting, SoundPlaces}
 use Rattle.stores.specs.Placing.{places, takenAt, takenIf, placeIf, taken, takenPlace, hasOne, firstOf, movedTo, enqueued, freed, freePlace, TookPlace}
 use Rattle.stores.proofs.Waiting.{is-or-not, waiting-one}
-use Rattle.stores.proofs.PlaceViews.{length-ring}
 
 module _ (p : Places) (n : ℕ) (held : List ℕ) (t : ℕ) (h : t < n) (sound : SoundPlaces p n held) where
   abbrev p′ : Places
@@ -26,7 +25,7 @@ module _ (p : Places) (n : ℕ) (held : List ℕ) (t : ℕ) (h : t < n) (sound :
   apart e = omega (arith, sound .few)
 
   did : RingMoved (p .next) (p .tail) (p .len) t free (p′ .next) (p′ .tail) (p′ .len)
-  did = record { links = refl; ends = refl; size = λ a b. refl }
+  did = record { links = refl; ends = refl; size = refl }
 
   small : t < 256
   small = omega (arith, sound .few)
@@ -84,15 +83,9 @@ pub freed-is : (p : Places) (n′ l′ : List ℕ) (m′ r : ℕ) → TookPlace 
 freed-is p n′ l′ m′ r did =
     places-is n′ (freed p .next) (p .tail) (freed p .tail) l′ (freed p .len) m′ (freed p .top) (did .links) (did .ends) (did .size) (did .mark)
 
-ring-few : (p : Places) (n : ℕ) (held : List ℕ) → SoundPlaces p n held → (t : ℕ) → getD (p .len) t 0 ≤ 256
-ring-few p n held sound t =
-    omega (arith, length-ring p t, pigeons (p .top) (ring p t) (λ x. sound .rings .once t x) (λ x h. sound .rings .small t x h), sound .rings .room)
-
-pub moved-is : (p : Places) (n : ℕ) (held : List ℕ) (t g : ℕ) → SoundPlaces p n held → (n′ t′ l′ : List ℕ)
-    → RingMoved (p .next) (p .tail) (p .len) t g n′ t′ l′ → places n′ t′ l′ (p .top) ≡ movedTo t g p
-moved-is p n held t g sound n′ t′ l′ did =
-    places-is n′ (movedTo t g p .next) t′ (movedTo t g p .tail) l′ (movedTo t g p .len) (p .top) (p .top)
-    (did .links) (did .ends) (did .size (ring-few p n held sound g) (ring-few p n held sound t)) refl
+pub moved-is : (p : Places) (t g : ℕ) (n′ t′ l′ : List ℕ) → RingMoved (p .next) (p .tail) (p .len) t g n′ t′ l′ → places n′ t′ l′ (p .top) ≡ movedTo t g p
+moved-is p t g n′ t′ l′ did =
+    places-is n′ (movedTo t g p .next) t′ (movedTo t g p .tail) l′ (movedTo t g p .len) (p .top) (p .top) (did .links) (did .ends) (did .size) refl
 
 pub enqueued-is : (p : Places) (t q : ℕ) (n′ t′ l′ : List ℕ) → n′ ≡ linked (p .next) (p .tail) (p .len) t q → t′ ≡ set (p .tail) t q → l′ ≡ lengthened (p .len) t
     → places n′ t′ l′ (p .top) ≡ enqueued t q p

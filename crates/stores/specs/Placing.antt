@@ -6,7 +6,7 @@ use mathlib.Core.List.{List}
 use lib.ListN.{length, take, getD, set}
 use lib.Dec.{eqb, ltb}
 use Rattle.rings.specs.Lists.{firstIndex}
-use Rattle.rings.specs.Rings.{end, linked, lengthened, movedNext, movedTail}
+use Rattle.rings.specs.Rings.{end, linked, lengthened, movedNext, movedTail, joined}
 use Rattle.stores.specs.declared.Places.{Places}
 use Rattle.stores.specs.View.{free, ring}
 
@@ -90,6 +90,6 @@ abbrev pub movedTo : (f g : ℕ) → Places → Places
 movedTo f g p = record {
   next = movedNext (eqb (getD (p .len) f 0) 0) (eqb (getD (p .len) g 0) 0) (p .next) (getD (p .tail) f 0) (getD (p .tail) g 0);
   tail = movedTail (eqb (getD (p .len) f 0) 0) (p .tail) g (getD (p .tail) f 0);
-  len = set (set (p .len) f 0) g (getD (p .len) g 0 + getD (p .len) f 0);
+  len = set (set (p .len) f 0) g (joined (getD (p .len) g 0) (getD (p .len) f 0));
   top = p .top;
 }

@@ -6,7 +6,7 @@ use rings::ring_move;
 ghost use mathlib.Core.Path.{_≡_};
 ghost use lib.ListN.{getD};
 ghost use lib.Dec.{eqb};
-ghost use Rattle.rings.specs.Rings.{RingMoved};
+ghost use Rattle.rings.specs.Rings.{RingMove};
 ghost use Rattle.stores.specs.Sound.{flagOf};
 ghost use Rattle.stores.specs.Entries.{depthAfter, writtenAt, flagAt, firstAt, within};
 ghost use Rattle.stores.specs.Tabling.{goalAt};
@@ -87,8 +87,8 @@ pub fn mark_floundered(
     t: u8,
 )
     ensures { λ _. ⌜ (now (floundered .exit) ≡ writtenAt t 1 (now (floundered .entry)))
-        × ((t ≡ 64 → ⊥) → RingMoved (now (next .entry)) (now (tail .entry)) (now (len .entry)) t 64 (now (next .exit)) (now (tail .exit)) (now (len .exit)))
-        × ((t ≡ 64 → ⊥) → RingMoved (now («answer_next» .entry)) (now («answer_tail» .entry)) (now («answer_len» .entry)) t 64 (now («answer_next» .exit)) (now («answer_tail» .exit)) (now («answer_len» .exit))) ⌝ }
+        × RingMove (now (next .entry)) (now (tail .entry)) (now (len .entry)) t 64 (now (next .exit)) (now (tail .exit)) (now (len .exit))
+        × RingMove (now («answer_next» .entry)) (now («answer_tail» .entry)) (now («answer_len» .entry)) t 64 (now («answer_next» .exit)) (now («answer_tail» .exit)) (now («answer_len» .exit)) ⌝ }
 {
     set_flag(floundered, t, true);
     ring_move(next, tail, len, t, 64);

@@ -8,7 +8,7 @@ use mathlib.Core.List.{List}
 use lib.ListN.{set}
 use lib.Dec.{ltb}
 use borrow.Author.Tests.{lt-ltb, le-ltb}
-use Rattle.rings.specs.Rings.{linked, lengthened, RingTook, RingMoved}
+use Rattle.rings.specs.Rings.{linked, lengthened, RingTook, RingMove}
 use Rattle.rings.proofs.Counts.{true-false}
 use Rattle.strands.specs.declared.Strand.{Strand}
 use Rattle.stores.specs.declared.Strands.{Strands}
@@ -41,7 +41,7 @@ take-of s t clock n′ t′ l′ r did =
     let e = taken-is (s .places) (testAt clock false s) t n′ t′ l′ r did in
     record { place = e .1; is = ap (with-places s) (e .0) }
 
-pub clear-of : (s : Strands) (t : ℕ) (n′ t′ l′ : List ℕ) → ((t ≡ 64 → ⊥) → RingMoved (s .places .next) (s .places .tail) (s .places .len) t 64 n′ t′ l′)
+pub clear-of : (s : Strands) (t : ℕ) (n′ t′ l′ : List ℕ) → RingMove (s .places .next) (s .places .tail) (s .places .len) t 64 n′ t′ l′
     → Clears s t (with-places s (places n′ t′ l′ (s .places .top)))
 clear-of s t n′ t′ l′ did n held h sound =
-    ap (with-places s) (moved-is (s .places) n held t 64 (sound .places) n′ t′ l′ (did (λ e. omega (arith, sound .places .few))))
+    ap (with-places s) (moved-is (s .places) t 64 n′ t′ l′ (did .moves (λ e. omega (arith, sound .places .few))))

@@ -14,7 +14,7 @@ use Rattle.rings.proofs.wide.Reads as wide-reads
 
 -- src/lib.rt:270:9
 returns : tie.Need-returns
-returns c = λ n. absurd (n (c .if1 .taken))
+returns c = record { stays = λ e. (refl, refl, refl); moves = λ n. absurd (n (c .if1 .taken)) }
 
 -- src/lib.rt:272:13
 mul-m : tie.Need-mul-m
@@ -62,9 +62,9 @@ element-write-len-2 c = search needs
 
 -- src/lib.rt:279:9
 returns-2 : tie.Need-returns-2
-returns-2 c = λ n.
+returns-2 c =
     let a = c .before .before .before .before .before .before .before .args in
-    ring-moved (a .next .now) (a .tail .now) (a .len .now) (a .from) (a .to) true (eqb (getD (a .len .now) (a .to) 0) 0) (c .before .added .result) (eq-eqb _ _ (c .if2 .taken)) refl (c .before .added .ensures)
+    record { stays = λ e. absurd (c .before .before .before .before .before .before .if1 .left e); moves = λ n. ring-moved (a .next .now) (a .tail .now) (a .len .now) (a .from) (a .to) true (eqb (getD (a .len .now) (a .to) 0) 0) (c .before .added .result) (eq-eqb _ _ (c .if2 .taken)) refl (c .before .added .ensures) }
 
 -- src/lib.rt:281:5
 element-write-tail : tie.Need-element-write-tail
@@ -72,9 +72,9 @@ element-write-tail c = search needs
 
 -- src/lib.rt:283:9
 returns-3 : tie.Need-returns-3
-returns-3 c = λ n.
+returns-3 c =
     let a = c .before .before .before .before .before .before .before .before .args in
-    ring-moved (a .next .now) (a .tail .now) (a .len .now) (a .from) (a .to) false true (c .before .before .added .result) (ne-eqb _ _ (c .before .if2 .left)) (eq-eqb _ _ (c .if3 .taken)) (c .before .before .added .ensures)
+    record { stays = λ e. absurd (c .before .before .before .before .before .before .before .if1 .left e); moves = λ n. ring-moved (a .next .now) (a .tail .now) (a .len .now) (a .from) (a .to) false true (c .before .before .added .result) (ne-eqb _ _ (c .before .if2 .left)) (eq-eqb _ _ (c .if3 .taken)) (c .before .before .added .ensures) }
 
 -- src/lib.rt:285:9
 wide-requires : tie.Need-wide-requires
@@ -102,10 +102,13 @@ element-write-next-2 c = search needs
 
 -- src/lib.rt:264:1
 returns-4 : tie.Need-returns-4
-returns-4 c = λ n.
+returns-4 c =
     let a = c .before .before .before .before .before .before .before .before .before .before .before .before .args in
-    rw (c .before .before .before .wide .ensures .0, c .before .before .wide2 .ensures .0) (
-    ring-moved (a .next .now) (a .tail .now) (a .len .now) (a .from) (a .to) false false (c .before .before .before .before .before .before .added .result) (ne-eqb _ _ (c .before .before .before .before .before .if2 .left)) (ne-eqb _ _ (c .before .before .before .before .if3 .left)) (c .before .before .before .before .before .before .added .ensures))
+    record {
+      stays = λ e. absurd (c .before .before .before .before .before .before .before .before .before .before .before .if1 .left e);
+      moves = λ n. rw (c .before .before .before .wide .ensures .0, c .before .before .wide2 .ensures .0) (
+          ring-moved (a .next .now) (a .tail .now) (a .len .now) (a .from) (a .to) false false (c .before .before .before .before .before .before .added .result) (ne-eqb _ _ (c .before .before .before .before .before .if2 .left)) (ne-eqb _ _ (c .before .before .before .before .if3 .left)) (c .before .before .before .before .before .before .added .ensures));
+    }
 
 pub ring-move-spec : {M : Type 1} → statement M
 ring-move-spec =
