@@ -8,7 +8,7 @@ use lib.Seq.{getD-set-other}
 use lib.Dec.{leb}
 use Rattle.definitions.specs.Book.{goals-name, clause-count}
 use Rattle.book.specs.declared.Book.{Book}
-use Rattle.book.specs.View.{clauseAt, view, Tiles, Full, Ranged}
+use Rattle.book.specs.View.{clause-viewed, view, Tiles, Full, Ranged}
 use Rattle.book.proofs.Tilings.{tiles-count}
 
 -- Arrays.
@@ -73,5 +73,5 @@ pub record Held (b : Book) (literals named : ℕ) : Type 0 where
 
 pub held-count : (b : Book) (literals named : ℕ) → Held b literals named → clause-count (view b) ≡ b .clauses
 held-count b literals named h =
-    let r : 0 + clause-count (view b) ≡ b .clauses = tiles-count (clauseAt b) (b .«goal_flags») (b .«goal_first») (b .«goal_len») (b .goals) 0 0 (b .clauses) (h .tiles) in
+    let r : 0 + clause-count (view b) ≡ b .clauses = tiles-count (clause-viewed b) (b .«goal_flags») (b .«goal_first») (b .«goal_len») (b .goals) 0 0 (b .clauses) (h .tiles) in
     omega arith

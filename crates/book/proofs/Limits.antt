@@ -21,7 +21,7 @@ use Rattle.definitions.specs.Book.{
   Within,
 }
 use Rattle.book.specs.declared.Book.{Book}
-use Rattle.book.specs.View.{span, signed, literalAt, clauseAt, goalAt, view, Sound}
+use Rattle.book.specs.View.{span, signed, literal-viewed, clause-viewed, goal-viewed, view, Sound}
 use Rattle.book.proofs.Spans.{span-length}
 use Rattle.book.proofs.Names.{and-left, and-right}
 use Rattle.book.proofs.Looks.{goals-are, clauses-are}
@@ -31,33 +31,33 @@ signed-within n true goal want o w h = h
 signed-within n false goal want o w h = (h, w)
 
 module _ (b : Book) (s : Sound b) (n : ℕ) where
-  literals-within : (i k : ℕ) → literals-name n (span (literalAt b) i k) ≡ true → LiteralsWithin n (span (literalAt b) i k)
+  literals-within : (i k : ℕ) → literals-name n (span (literal-viewed b) i k) ≡ true → LiteralsWithin n (span (literal-viewed b) i k)
   literals-within i zero e = tt
   literals-within i (suc k) e =
-      let first = ltb (goal-of (literalAt b i)) n in
-      let rest = literals-name n (span (literalAt b) (suc i) k) in (
-        signed-within n (bit1 (getD (b .«literal_kind») i 0)) (getD (b .«literal_goal») i 0) (getD (b .«literal_want») i 0) (bit0 (getD (b .«literal_kind») i 0)) (s .ranged .wants i) (ltb-true (goal-of (literalAt b i)) n (and-left first rest e)),
+      let first = ltb (goal-of (literal-viewed b i)) n in
+      let rest = literals-name n (span (literal-viewed b) (suc i) k) in (
+        signed-within n (bit1 (getD (b .«literal_kind») i 0)) (getD (b .«literal_goal») i 0) (getD (b .«literal_want») i 0) (bit0 (getD (b .«literal_kind») i 0)) (s .ranged .wants i) (ltb-true (goal-of (literal-viewed b i)) n (and-left first rest e)),
         literals-within (suc i) k (and-right first rest e),
       )
 
-  clauses-within : (c k : ℕ) → clauses-name n (span (clauseAt b) c k) ≡ true → ClausesWithin n (span (clauseAt b) c k)
+  clauses-within : (c k : ℕ) → clauses-name n (span (clause-viewed b) c k) ≡ true → ClausesWithin n (span (clause-viewed b) c k)
   clauses-within c zero e = tt
   clauses-within c (suc k) e =
-      let first = literals-name n (clauseAt b c .literals) in
-      let rest = clauses-name n (span (clauseAt b) (suc c) k) in (
+      let first = literals-name n (clause-viewed b c .literals) in
+      let rest = clauses-name n (span (clause-viewed b) (suc c) k) in (
         record {
           variant-fits = s .ranged .variants c;
-          few-literals = subst (λ (m : ℕ). m ≤ 8) (sym (span-length (literalAt b) (8 * c) (getD (b .«clause_len») c 0))) (s .few-literals c);
+          few-literals = subst (λ (m : ℕ). m ≤ 8) (sym (span-length (literal-viewed b) (8 * c) (getD (b .«clause_len») c 0))) (s .few-literals c);
           literals-fit = literals-within (8 * c) (getD (b .«clause_len») c 0) (and-left first rest e);
         },
         clauses-within (suc c) k (and-right first rest e),
       )
 
-  goals-within : (g k : ℕ) → goals-name n (span (goalAt b) g k) ≡ true → GoalsWithin n (span (goalAt b) g k)
+  goals-within : (g k : ℕ) → goals-name n (span (goal-viewed b) g k) ≡ true → GoalsWithin n (span (goal-viewed b) g k)
   goals-within g zero e = tt
   goals-within g (suc k) e =
-      let first = clauses-name n (goalAt b g .clauses) in
-      let rest = goals-name n (span (goalAt b) (suc g) k) in (
+      let first = clauses-name n (goal-viewed b g .clauses) in
+      let rest = goals-name n (span (goal-viewed b) (suc g) k) in (
         clauses-within (getD (b .«goal_first») g 0) (getD (b .«goal_len») g 0) (and-left first rest e),
         goals-within (suc g) k (and-right first rest e),
       )

@@ -11,8 +11,8 @@ use Rattle.definitions.specs.Book as said
 use Rattle.definitions.specs.Book.{Clause, Goal, goal-of, literals-name, clauses-name, goals-name, bit0, bit1, clause-count}
 use Rattle.book.specs.declared.Book.{Book}
 use Rattle.book.specs.declared.Literal.{Literal}
-use Rattle.book.specs.View.{span, kept, meant, literalAt, clauseAt, goalIn, goalAt, view, Tiles, Sound}
-use Rattle.book.specs.Access.{entry, entry-by, literalIn, literalOf, literal-by}
+use Rattle.book.specs.View.{span, kept, meant, literal-viewed, clause-viewed, goal-in, goal-viewed, view, Tiles, Sound}
+use Rattle.book.specs.Access.{entry, entry-by, literal-there, literal-read, literal-by}
 use Rattle.book.proofs.Spans.{span-length, span-getD}
 use Rattle.book.proofs.Names.{and-left, and-right}
 use Rattle.book.proofs.MoreLiterals.{goal-of-signed}
@@ -22,10 +22,10 @@ use Rattle.book.proofs.Tilings.{tiles-count, tiles-within}
 pub entry-in : (size : ℕ) (l : List ℕ) (i : ℕ) → i < size → entry size l i ≡ getD l i 0
 entry-in size l i h = ap (λ (t : Bool). entry-by t (getD l i 0)) (lt-ltb i size h)
 
-pub literal-in : (kind goal want : List ℕ) (c j : ℕ) → c < 256 → j < 8 → literalOf kind goal want c j ≡ literalIn kind goal want (8 * c + j)
+pub literal-in : (kind goal want : List ℕ) (c j : ℕ) → c < 256 → j < 8 → literal-read kind goal want c j ≡ literal-there kind goal want (8 * c + j)
 literal-in kind goal want c j h k =
-    ap (λ (t : Bool). literal-by t (ltb j 8) (literalIn kind goal want (8 * c + j))) (lt-ltb c 256 h)
-    ∙ ap (λ (t : Bool). literal-by true t (literalIn kind goal want (8 * c + j))) (lt-ltb j 8 k)
+    ap (λ (t : Bool). literal-by t (ltb j 8) (literal-there kind goal want (8 * c + j))) (lt-ltb c 256 h)
+    ∙ ap (λ (t : Bool). literal-by true t (literal-there kind goal want (8 * c + j))) (lt-ltb j 8 k)
 
 -- Names.
 
@@ -53,18 +53,18 @@ module _ (n : ℕ) where
           subst (λ (i : ℕ). literals-name n (f i .literals) ≡ true) p (and-left (literals-name n (f s .literals)) (clauses-name n (span f (suc s) k)) e)
 
   named-tiles : (f : ℕ → Clause) (flags first len : List ℕ) (k g at end c : ℕ) → Tiles first len g k at end
-      → goals-name n (span (goalIn f flags first len) g k) ≡ true → at ≤ c → c < end → literals-name n (f c .literals) ≡ true
+      → goals-name n (span (goal-in f flags first len) g k) ≡ true → at ≤ c → c < end → literals-name n (f c .literals) ≡ true
   named-tiles f flags first len zero g at end c t e l h = absurd (omega arith)
   named-tiles f flags first len (suc k) g at end c t e l h =
       by (ltb c (at + getD len g 0)) refl
       (λ p. named-tiles f flags first len k (suc g) (at + getD len g 0) end c (t .1)
-      (and-right (clauses-name n (span f (getD first g 0) (getD len g 0))) (goals-name n (span (goalIn f flags first len) (suc g) k)) e) p h)
+      (and-right (clauses-name n (span f (getD first g 0) (getD len g 0))) (goals-name n (span (goal-in f flags first len) (suc g) k)) e) p h)
     where
       by : (b : Bool) → ltb c (at + getD len g 0) ≡ b → (at + getD len g 0 ≤ c → literals-name n (f c .literals) ≡ true) → literals-name n (f c .literals) ≡ true
       by true q behind =
           let p : getD first g 0 ≡ at = t .0 in
           named-clause f (getD first g 0) (getD len g 0) c
-          (and-left (clauses-name n (span f (getD first g 0) (getD len g 0))) (goals-name n (span (goalIn f flags first len) (suc g) k)) e)
+          (and-left (clauses-name n (span f (getD first g 0) (getD len g 0))) (goals-name n (span (goal-in f flags first len) (suc g) k)) e)
           (omega arith) (omega (arith, ltb-true c (at + getD len g 0) q))
       by false q behind = behind (ltb-false c (at + getD len g 0) q)
 
@@ -72,17 +72,17 @@ module _ (n : ℕ) where
 
 module _ (b : Book) (s : Sound b) where
   pub goals-are : length (view b) ≡ b .goals
-  goals-are = span-length (goalAt b) 0 (b .goals)
+  goals-are = span-length (goal-viewed b) 0 (b .goals)
 
   pub clauses-are : clause-count (view b) ≡ b .clauses
   clauses-are =
-      omega (arith, tiles-count (clauseAt b) (b .«goal_flags») (b .«goal_first») (b .«goal_len») (b .goals) 0 0 (b .clauses) (s .tiles))
+      omega (arith, tiles-count (clause-viewed b) (b .«goal_flags») (b .«goal_first») (b .«goal_len») (b .goals) 0 0 (b .clauses) (s .tiles))
 
   module _ (g : ℕ) (d : Goal) (h : g < b .goals) where
-    pub goal-is : getD (view b) g d ≡ goalAt b g
+    pub goal-is : getD (view b) g d ≡ goal-viewed b g
     goal-is =
         let z : 0 + g ≡ g = omega arith in
-        span-getD (goalAt b) 0 (b .goals) g d h ∙ ap (goalAt b) z
+        span-getD (goal-viewed b) 0 (b .goals) g d h ∙ ap (goal-viewed b) z
 
     pub coinductive-is : bit0 (entry 64 (b .«goal_flags») g) ≡ getD (view b) g d .coinductive
     coinductive-is =
@@ -98,41 +98,41 @@ module _ (b : Book) (s : Sound b) where
     pub clauses-of-are : entry 64 (b .«goal_len») g ≡ length (getD (view b) g d .clauses)
     clauses-of-are =
         entry-in 64 (b .«goal_len») g (omega (arith, s .few-goals))
-        ∙ sym (ap (λ (x : Goal). length (x .clauses)) goal-is ∙ span-length (clauseAt b) (getD (b .«goal_first») g 0) (getD (b .«goal_len») g 0))
+        ∙ sym (ap (λ (x : Goal). length (x .clauses)) goal-is ∙ span-length (clause-viewed b) (getD (b .«goal_first») g 0) (getD (b .«goal_len») g 0))
 
     -- a goal's clauses are among the book's
     pub clauses-within : getD (b .«goal_first») g 0 + getD (b .«goal_len») g 0 ≤ b .clauses
     clauses-within =
         let z : 0 + g ≡ g = omega arith in
         subst (λ (i : ℕ). getD (b .«goal_first») i 0 + getD (b .«goal_len») i 0 ≤ b .clauses) z
-        (tiles-within (clauseAt b) (b .«goal_flags») (b .«goal_first») (b .«goal_len») (b .goals) 0 0 (b .clauses) g (s .tiles) h)
+        (tiles-within (clause-viewed b) (b .«goal_flags») (b .«goal_first») (b .«goal_len») (b .goals) 0 0 (b .clauses) g (s .tiles) h)
 
     -- clause i of a goal is the book's clause at its first place and i
-    pub clause-is : (i : ℕ) (e : Clause) → i < getD (b .«goal_len») g 0 → getD (getD (view b) g d .clauses) i e ≡ clauseAt b (getD (b .«goal_first») g 0 + i)
+    pub clause-is : (i : ℕ) (e : Clause) → i < getD (b .«goal_len») g 0 → getD (getD (view b) g d .clauses) i e ≡ clause-viewed b (getD (b .«goal_first») g 0 + i)
     clause-is i e l =
         ap (λ (x : Goal). getD (x .clauses) i e) goal-is
-        ∙ span-getD (clauseAt b) (getD (b .«goal_first») g 0) (getD (b .«goal_len») g 0) i e l
+        ∙ span-getD (clause-viewed b) (getD (b .«goal_first») g 0) (getD (b .«goal_len») g 0) i e l
 
   module _ (c : ℕ) (h : c < b .clauses) where
-    pub variant-is : entry 256 (b .«clause_variant») c ≡ clauseAt b c .variant
+    pub variant-is : entry 256 (b .«clause_variant») c ≡ clause-viewed b c .variant
     variant-is = entry-in 256 (b .«clause_variant») c (omega (arith, s .few-clauses))
 
-    pub cannot-prove-is : bit0 (entry 256 (b .«clause_flags») c) ≡ clauseAt b c .cannot-prove
+    pub cannot-prove-is : bit0 (entry 256 (b .«clause_flags») c) ≡ clause-viewed b c .cannot-prove
     cannot-prove-is = ap bit0 (entry-in 256 (b .«clause_flags») c (omega (arith, s .few-clauses)))
 
-    pub outsized-is : bit1 (entry 256 (b .«clause_flags») c) ≡ clauseAt b c .outsized
+    pub outsized-is : bit1 (entry 256 (b .«clause_flags») c) ≡ clause-viewed b c .outsized
     outsized-is = ap bit1 (entry-in 256 (b .«clause_flags») c (omega (arith, s .few-clauses)))
 
-    pub literals-are : entry 256 (b .«clause_len») c ≡ length (clauseAt b c .literals)
+    pub literals-are : entry 256 (b .«clause_len») c ≡ length (clause-viewed b c .literals)
     literals-are =
-        entry-in 256 (b .«clause_len») c (omega (arith, s .few-clauses)) ∙ sym (span-length (literalAt b) (8 * c) (getD (b .«clause_len») c 0))
+        entry-in 256 (b .«clause_len») c (omega (arith, s .few-clauses)) ∙ sym (span-length (literal-viewed b) (8 * c) (getD (b .«clause_len») c 0))
 
     module _ (j : ℕ) (l : j < getD (b .«clause_len») c 0) where
       goal-named : getD (b .«literal_goal») (8 * c + j) 0 < b .goals
       goal-named =
-          let in-clause : literals-name (b .goals) (clauseAt b c .literals) ≡ true =
-          named-tiles (b .goals) (clauseAt b) (b .«goal_flags») (b .«goal_first») (b .«goal_len») (b .goals) 0 0 (b .clauses) c (s .tiles) (s .named) (omega arith) h in
-          let named : goal-of (literalAt b (8 * c + j)) < b .goals = named-literal (b .goals) (literalAt b) (8 * c) (getD (b .«clause_len») c 0) j in-clause l in
+          let in-clause : literals-name (b .goals) (clause-viewed b c .literals) ≡ true =
+          named-tiles (b .goals) (clause-viewed b) (b .«goal_flags») (b .«goal_first») (b .«goal_len») (b .goals) 0 0 (b .clauses) c (s .tiles) (s .named) (omega arith) h in
+          let named : goal-of (literal-viewed b (8 * c + j)) < b .goals = named-literal (b .goals) (literal-viewed b) (8 * c) (getD (b .«clause_len») c 0) j in-clause l in
           subst (λ (n : ℕ). n < b .goals)
           (goal-of-signed (bit1 (getD (b .«literal_kind») (8 * c + j) 0)) (getD (b .«literal_goal») (8 * c + j) 0) (getD (b .«literal_want») (8 * c + j) 0) (bit0 (getD (b .«literal_kind») (8 * c + j) 0))) named
 
@@ -140,16 +140,16 @@ module _ (b : Book) (s : Sound b) where
       goal-fits : getD (b .«literal_goal») (8 * c + j) 0 % 256 ≡ getD (b .«literal_goal») (8 * c + j) 0
       goal-fits = omega (arith, goal-named, s .few-goals)
 
-      here : literalOf (b .«literal_kind») (b .«literal_goal») (b .«literal_want») c j ≡ literalIn (b .«literal_kind») (b .«literal_goal») (b .«literal_want») (8 * c + j)
+      here : literal-read (b .«literal_kind») (b .«literal_goal») (b .«literal_want») c j ≡ literal-there (b .«literal_kind») (b .«literal_goal») (b .«literal_want») (8 * c + j)
       here = literal-in (b .«literal_kind») (b .«literal_goal») (b .«literal_want») c j (omega (arith, s .few-clauses)) (omega (arith, s .few-literals c))
 
-      pub literal-is : (d : said.Literal) → meant (literalOf (b .«literal_kind») (b .«literal_goal») (b .«literal_want») c j) ≡ getD (clauseAt b c .literals) j d
+      pub literal-is : (d : said.Literal) → meant (literal-read (b .«literal_kind») (b .«literal_goal») (b .«literal_want») c j) ≡ getD (clause-viewed b c .literals) j d
       literal-is d =
           ap meant here
           ∙ ap (λ (n : ℕ). kept (getD (b .«literal_kind») (8 * c + j) 0) n (getD (b .«literal_want») (8 * c + j) 0)) goal-fits
-          ∙ sym (span-getD (literalAt b) (8 * c) (getD (b .«clause_len») c 0) j d l)
+          ∙ sym (span-getD (literal-viewed b) (8 * c) (getD (b .«clause_len») c 0) j d l)
 
       -- a literal names a goal of the book
-      pub literal-names : literalOf (b .«literal_kind») (b .«literal_goal») (b .«literal_want») c j .goal < b .goals
+      pub literal-names : literal-read (b .«literal_kind») (b .«literal_goal») (b .«literal_want») c j .goal < b .goals
       literal-names =
           subst (λ (x : Literal). x .goal < b .goals) (sym here) (subst (λ (n : ℕ). n < b .goals) (sym goal-fits) goal-named)

@@ -9,7 +9,7 @@ use lib.Seq.{getD-set-same}
 use Rattle.definitions.specs.Book as said
 use Rattle.definitions.specs.Book.{Clause, Goal, goals-name, add-clause, with-clauses, bit0, bit1}
 use Rattle.book.specs.declared.Book.{Book}
-use Rattle.book.specs.View.{span, literalAt, clauseOf, clauseAt, goalOf, goalAt, view, Tiles, Full}
+use Rattle.book.specs.View.{span, literal-viewed, clause-made, clause-viewed, goal-made, goal-viewed, view, Tiles, Full}
 use Rattle.book.proofs.Spans.{span-snoc, span-ext}
 use Rattle.book.proofs.Names.{names-clause}
 use Rattle.book.proofs.Tilings.{add-clause-last, tiles-within, tiles-last}
@@ -43,29 +43,29 @@ module _ (b : Book) (g variant flags literals named : ℕ) (h : Held b literals 
   grown-here : getD grown g 0 ≡ getD (b .«goal_len») g 0 + 1
   grown-here = getD-set-same (b .«goal_len») g (getD (b .«goal_len») g 0 + 1) 0 (omega (arith, h .full .goal-len, h .few-goals))
 
-  clause-before : (c : ℕ) → c < b .clauses → clauseAt next c ≡ clauseAt b c
+  clause-before : (c : ℕ) → c < b .clauses → clause-viewed next c ≡ clause-viewed b c
   clause-before c l =
-      ap (λ (x : ℕ). clauseOf (literalAt b) c x (getD (set (b .«clause_flags») (b .clauses) flags) c 0) (getD (set (b .«clause_len») (b .clauses) 0) c 0))
+      ap (λ (x : ℕ). clause-made (literal-viewed b) c x (getD (set (b .«clause_flags») (b .clauses) flags) c 0) (getD (set (b .«clause_len») (b .clauses) 0) c 0))
       (below (b .«clause_variant») (b .clauses) c variant l)
-      ∙ ap (λ (x : ℕ). clauseOf (literalAt b) c (getD (b .«clause_variant») c 0) x (getD (set (b .«clause_len») (b .clauses) 0) c 0))
+      ∙ ap (λ (x : ℕ). clause-made (literal-viewed b) c (getD (b .«clause_variant») c 0) x (getD (set (b .«clause_len») (b .clauses) 0) c 0))
       (below (b .«clause_flags») (b .clauses) c flags l)
-      ∙ ap (λ (x : ℕ). clauseOf (literalAt b) c (getD (b .«clause_variant») c 0) (getD (b .«clause_flags») c 0) x)
+      ∙ ap (λ (x : ℕ). clause-made (literal-viewed b) c (getD (b .«clause_variant») c 0) (getD (b .«clause_flags») c 0) x)
       (below (b .«clause_len») (b .clauses) c 0 l)
 
-  clause-new : clauseAt next (b .clauses) ≡ bare-clause variant flags
+  clause-new : clause-viewed next (b .clauses) ≡ bare-clause variant flags
   clause-new =
       let s = h .full in
       let c = b .clauses in
-      ap (λ (x : ℕ). clauseOf (literalAt b) c x (getD (set (b .«clause_flags») c flags) c 0) (getD (set (b .«clause_len») c 0) c 0))
+      ap (λ (x : ℕ). clause-made (literal-viewed b) c x (getD (set (b .«clause_flags») c flags) c 0) (getD (set (b .«clause_len») c 0) c 0))
       (getD-set-same (b .«clause_variant») c variant 0 (omega (arith, s .clause-variant)))
-      ∙ ap (λ (x : ℕ). clauseOf (literalAt b) c variant x (getD (set (b .«clause_len») c 0) c 0))
+      ∙ ap (λ (x : ℕ). clause-made (literal-viewed b) c variant x (getD (set (b .«clause_len») c 0) c 0))
       (getD-set-same (b .«clause_flags») c flags 0 (omega (arith, s .clause-flags)))
-      ∙ ap (λ (x : ℕ). clauseOf (literalAt b) c variant flags x)
+      ∙ ap (λ (x : ℕ). clause-made (literal-viewed b) c variant flags x)
       (getD-set-same (b .«clause_len») c 0 0 (omega (arith, s .clause-len)))
 
   -- clauses before the new one are as they were
-  old : (first len : ℕ) → first + len ≤ b .clauses → span (clauseAt next) first len ≡ span (clauseAt b) first len
-  old first len l = span-ext (clauseAt next) (clauseAt b) first len (λ i x y. clause-before i (omega arith))
+  old : (first len : ℕ) → first + len ≤ b .clauses → span (clause-viewed next) first len ≡ span (clause-viewed b) first len
+  old first len l = span-ext (clause-viewed next) (clause-viewed b) first len (λ i x y. clause-before i (omega arith))
 
   tiles : Tiles (b .«goal_first») (b .«goal_len») 0 (suc g) 0 (b .clauses)
   tiles = subst (λ (n : ℕ). Tiles (b .«goal_first») (b .«goal_len») 0 n 0 (b .clauses)) last (h .tiles)
@@ -74,43 +74,43 @@ module _ (b : Book) (g variant flags literals named : ℕ) (h : Held b literals 
   bounds i l =
       let z : 0 + i ≡ i = omega arith in
       subst (λ (k : ℕ). getD (b .«goal_first») k 0 + getD (b .«goal_len») k 0 ≤ b .clauses) z
-      (tiles-within (clauseAt b) (b .«goal_flags») (b .«goal_first») (b .«goal_len») (suc g) 0 0 (b .clauses) i tiles l)
+      (tiles-within (clause-viewed b) (b .«goal_flags») (b .«goal_first») (b .«goal_len») (suc g) 0 0 (b .clauses) i tiles l)
 
   -- the last goal's clauses end where all end
   pub ends : getD (b .«goal_first») g 0 + getD (b .«goal_len») g 0 ≡ b .clauses
   ends =
       let z : 0 + g ≡ g = omega arith in
       subst (λ (k : ℕ). getD (b .«goal_first») k 0 + getD (b .«goal_len») k 0 ≡ b .clauses) z
-      (tiles-last (clauseAt b) (b .«goal_flags») (b .«goal_first») (b .«goal_len») g 0 0 (b .clauses) tiles)
+      (tiles-last (clause-viewed b) (b .«goal_flags») (b .«goal_first») (b .«goal_len») g 0 0 (b .clauses) tiles)
 
-  goal-before : (i : ℕ) → i < g → goalAt next i ≡ goalAt b i
+  goal-before : (i : ℕ) → i < g → goal-viewed next i ≡ goal-viewed b i
   goal-before i l =
-      ap (λ (x : ℕ). goalOf (clauseAt next) (getD (b .«goal_flags») i 0) (getD (b .«goal_first») i 0) x) (below (b .«goal_len») g i (getD (b .«goal_len») g 0 + 1) l)
-      ∙ ap (λ (cs : List Clause). with-clauses (goalAt b i) cs) (old (getD (b .«goal_first») i 0) (getD (b .«goal_len») i 0) (bounds i (omega arith)))
+      ap (λ (x : ℕ). goal-made (clause-viewed next) (getD (b .«goal_flags») i 0) (getD (b .«goal_first») i 0) x) (below (b .«goal_len») g i (getD (b .«goal_len») g 0 + 1) l)
+      ∙ ap (λ (cs : List Clause). with-clauses (goal-viewed b i) cs) (old (getD (b .«goal_first») i 0) (getD (b .«goal_len») i 0) (bounds i (omega arith)))
 
-  goal-grown : goalAt next g ≡ with-clauses (goalAt b g) (goalAt b g .clauses ++ (bare-clause variant flags ∷ []))
+  goal-grown : goal-viewed next g ≡ with-clauses (goal-viewed b g) (goal-viewed b g .clauses ++ (bare-clause variant flags ∷ []))
   goal-grown =
       let first = getD (b .«goal_first») g 0 in
       let len = getD (b .«goal_len») g 0 in
-      ap (λ (x : ℕ). goalOf (clauseAt next) (getD (b .«goal_flags») g 0) first x) (grown-here ∙ add-one len)
-      ∙ ap (λ (cs : List Clause). with-clauses (goalAt b g) cs)
-      (span-snoc (clauseAt next) first len
-      ∙ ap (λ (i : ℕ). span (clauseAt next) first len ++ (clauseAt next i ∷ [])) ends
-      ∙ ap (λ (x : Clause). span (clauseAt next) first len ++ (x ∷ [])) clause-new
+      ap (λ (x : ℕ). goal-made (clause-viewed next) (getD (b .«goal_flags») g 0) first x) (grown-here ∙ add-one len)
+      ∙ ap (λ (cs : List Clause). with-clauses (goal-viewed b g) cs)
+      (span-snoc (clause-viewed next) first len
+      ∙ ap (λ (i : ℕ). span (clause-viewed next) first len ++ (clause-viewed next i ∷ [])) ends
+      ∙ ap (λ (x : Clause). span (clause-viewed next) first len ++ (x ∷ [])) clause-new
       ∙ ap (λ (cs : List Clause). cs ++ (bare-clause variant flags ∷ [])) (old first len (bounds g (omega arith))))
 
   pub clause-view : view next ≡ add-clause (bare-clause variant flags) (view b)
   clause-view =
       let z : 0 + g ≡ g = omega arith in
-      let before : view b ≡ span (goalAt b) 0 g ++ (goalAt b g ∷ []) =
-      ap (span (goalAt b) 0) last ∙ span-snoc (goalAt b) 0 g ∙ ap (λ (i : ℕ). span (goalAt b) 0 g ++ (goalAt b i ∷ [])) z in
-      ap (span (goalAt next) 0) last
-      ∙ span-snoc (goalAt next) 0 g
-      ∙ ap (λ (i : ℕ). span (goalAt next) 0 g ++ (goalAt next i ∷ [])) z
-      ∙ ap (λ (x : Goal). span (goalAt next) 0 g ++ (x ∷ [])) goal-grown
-      ∙ ap (λ (gs : said.Book). gs ++ (with-clauses (goalAt b g) (goalAt b g .clauses ++ (bare-clause variant flags ∷ [])) ∷ []))
-      (span-ext (goalAt next) (goalAt b) 0 g (λ i x y. goal-before i (omega arith)))
-      ∙ sym (ap (add-clause (bare-clause variant flags)) before ∙ add-clause-last (bare-clause variant flags) (span (goalAt b) 0 g) (goalAt b g))
+      let before : view b ≡ span (goal-viewed b) 0 g ++ (goal-viewed b g ∷ []) =
+      ap (span (goal-viewed b) 0) last ∙ span-snoc (goal-viewed b) 0 g ∙ ap (λ (i : ℕ). span (goal-viewed b) 0 g ++ (goal-viewed b i ∷ [])) z in
+      ap (span (goal-viewed next) 0) last
+      ∙ span-snoc (goal-viewed next) 0 g
+      ∙ ap (λ (i : ℕ). span (goal-viewed next) 0 g ++ (goal-viewed next i ∷ [])) z
+      ∙ ap (λ (x : Goal). span (goal-viewed next) 0 g ++ (x ∷ [])) goal-grown
+      ∙ ap (λ (gs : said.Book). gs ++ (with-clauses (goal-viewed b g) (goal-viewed b g .clauses ++ (bare-clause variant flags ∷ [])) ∷ []))
+      (span-ext (goal-viewed next) (goal-viewed b) 0 g (λ i x y. goal-before i (omega arith)))
+      ∙ sym (ap (add-clause (bare-clause variant flags)) before ∙ add-clause-last (bare-clause variant flags) (span (goal-viewed b) 0 g) (goal-viewed b g))
 
   clause-full : Full next
   clause-full =

@@ -9,7 +9,7 @@ use lib.Seq.{getD-set-same}
 use Rattle.definitions.specs.Book as said
 use Rattle.definitions.specs.Book.{Goal, goals-name, bit0, bit1}
 use Rattle.book.specs.declared.Book.{Book}
-use Rattle.book.specs.View.{span, clauseAt, goalOf, goalAt, view, Tiles, Full}
+use Rattle.book.specs.View.{span, clause-viewed, goal-made, goal-viewed, view, Tiles, Full}
 use Rattle.book.proofs.Spans.{span-snoc, span-ext}
 use Rattle.book.proofs.Names.{names-goal}
 use Rattle.book.proofs.Held.{below, stored, tiles-goal, Held}
@@ -33,31 +33,31 @@ abbrev pub bare-goal : (flags : ℕ) → Goal
 bare-goal flags = record { coinductive = bit0 flags; floundered = bit1 flags; clauses = [] }
 
 module _ (b : Book) (flags literals named : ℕ) (h : Held b literals named) (room : b .goals < 64) (known : flags ≤ 3) where
-  goal-before : (i : ℕ) → i < b .goals → goalAt (with-goal b flags) i ≡ goalAt b i
+  goal-before : (i : ℕ) → i < b .goals → goal-viewed (with-goal b flags) i ≡ goal-viewed b i
   goal-before i l =
-      ap (λ (x : ℕ). goalOf (clauseAt b) x (getD (set (b .«goal_first») (b .goals) (b .clauses)) i 0) (getD (set (b .«goal_len») (b .goals) 0) i 0))
+      ap (λ (x : ℕ). goal-made (clause-viewed b) x (getD (set (b .«goal_first») (b .goals) (b .clauses)) i 0) (getD (set (b .«goal_len») (b .goals) 0) i 0))
       (below (b .«goal_flags») (b .goals) i flags l)
-      ∙ ap (λ (x : ℕ). goalOf (clauseAt b) (getD (b .«goal_flags») i 0) x (getD (set (b .«goal_len») (b .goals) 0) i 0))
+      ∙ ap (λ (x : ℕ). goal-made (clause-viewed b) (getD (b .«goal_flags») i 0) x (getD (set (b .«goal_len») (b .goals) 0) i 0))
       (below (b .«goal_first») (b .goals) i (b .clauses) l)
-      ∙ ap (λ (x : ℕ). goalOf (clauseAt b) (getD (b .«goal_flags») i 0) (getD (b .«goal_first») i 0) x)
+      ∙ ap (λ (x : ℕ). goal-made (clause-viewed b) (getD (b .«goal_flags») i 0) (getD (b .«goal_first») i 0) x)
       (below (b .«goal_len») (b .goals) i 0 l)
 
-  goal-new : goalAt (with-goal b flags) (b .goals) ≡ bare-goal flags
+  goal-new : goal-viewed (with-goal b flags) (b .goals) ≡ bare-goal flags
   goal-new =
       let s = h .full in
-      ap (λ (x : ℕ). goalOf (clauseAt b) x (getD (set (b .«goal_first») (b .goals) (b .clauses)) (b .goals) 0) (getD (set (b .«goal_len») (b .goals) 0) (b .goals) 0))
+      ap (λ (x : ℕ). goal-made (clause-viewed b) x (getD (set (b .«goal_first») (b .goals) (b .clauses)) (b .goals) 0) (getD (set (b .«goal_len») (b .goals) 0) (b .goals) 0))
       (getD-set-same (b .«goal_flags») (b .goals) flags 0 (omega (arith, s .goal-flags)))
-      ∙ ap (λ (x : ℕ). goalOf (clauseAt b) flags (getD (set (b .«goal_first») (b .goals) (b .clauses)) (b .goals) 0) x)
+      ∙ ap (λ (x : ℕ). goal-made (clause-viewed b) flags (getD (set (b .«goal_first») (b .goals) (b .clauses)) (b .goals) 0) x)
       (getD-set-same (b .«goal_len») (b .goals) 0 0 (omega (arith, s .goal-len)))
 
   pub goal-view : view (with-goal b flags) ≡ view b ++ (bare-goal flags ∷ [])
   goal-view =
       let z : 0 + b .goals ≡ b .goals = omega arith in
-      ap (span (goalAt (with-goal b flags)) 0) (add-one (b .goals))
-      ∙ span-snoc (goalAt (with-goal b flags)) 0 (b .goals)
-      ∙ ap (λ (i : ℕ). span (goalAt (with-goal b flags)) 0 (b .goals) ++ (goalAt (with-goal b flags) i ∷ [])) z
-      ∙ ap (λ (x : Goal). span (goalAt (with-goal b flags)) 0 (b .goals) ++ (x ∷ [])) goal-new
-      ∙ ap (λ (l : said.Book). l ++ (bare-goal flags ∷ [])) (span-ext (goalAt (with-goal b flags)) (goalAt b) 0 (b .goals) (λ i x y. goal-before i (omega arith)))
+      ap (span (goal-viewed (with-goal b flags)) 0) (add-one (b .goals))
+      ∙ span-snoc (goal-viewed (with-goal b flags)) 0 (b .goals)
+      ∙ ap (λ (i : ℕ). span (goal-viewed (with-goal b flags)) 0 (b .goals) ++ (goal-viewed (with-goal b flags) i ∷ [])) z
+      ∙ ap (λ (x : Goal). span (goal-viewed (with-goal b flags)) 0 (b .goals) ++ (x ∷ [])) goal-new
+      ∙ ap (λ (l : said.Book). l ++ (bare-goal flags ∷ [])) (span-ext (goal-viewed (with-goal b flags)) (goal-viewed b) 0 (b .goals) (λ i x y. goal-before i (omega arith)))
 
   goal-full : Full (with-goal b flags)
   goal-full =

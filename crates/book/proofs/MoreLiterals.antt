@@ -11,7 +11,7 @@ use lib.Dec.{ltb, leb}
 use Rattle.definitions.specs.Book as said
 use Rattle.definitions.specs.Book.{goals-name, clause-count, add-literal, goal-of, with-literals, bit0, bit1}
 use Rattle.book.specs.declared.Book.{Book}
-use Rattle.book.specs.View.{span, signed, literalAt, clauseOf, clauseAt, view, Tiles, Full}
+use Rattle.book.specs.View.{span, signed, literal-viewed, clause-made, clause-viewed, view, Tiles, Full}
 use Rattle.book.specs.Faults.{largest}
 use Rattle.book.proofs.Spans.{span-snoc, span-ext}
 use Rattle.book.proofs.Names.{and-then, names-literal, names-more}
@@ -54,14 +54,14 @@ module _ (b : Book) (c j kind goal want named : ℕ) (h : Held b j named) (last 
   has-now : getD (set (b .«clause_len») c (j + 1)) c 0 ≡ j + 1
   has-now = getD-set-same (b .«clause_len») c (j + 1) 0 (omega (arith, h .full .clause-len, h .few-clauses))
 
-  literal-before : (i : ℕ) → i < 8 * c + j → literalAt next i ≡ literalAt b i
+  literal-before : (i : ℕ) → i < 8 * c + j → literal-viewed next i ≡ literal-viewed b i
   literal-before i l =
       let p = 8 * c + j in
       ap (λ (k : ℕ). literal-of k (getD (set (b .«literal_goal») p goal) i 0) (getD (set (b .«literal_want») p want) i 0)) (below (b .«literal_kind») p i kind l)
       ∙ ap (λ (k : ℕ). literal-of (getD (b .«literal_kind») i 0) k (getD (set (b .«literal_want») p want) i 0)) (below (b .«literal_goal») p i goal l)
       ∙ ap (λ (k : ℕ). literal-of (getD (b .«literal_kind») i 0) (getD (b .«literal_goal») i 0) k) (below (b .«literal_want») p i want l)
 
-  literal-new : literalAt next (8 * c + j) ≡ added
+  literal-new : literal-viewed next (8 * c + j) ≡ added
   literal-new =
       let s = h .full in
       let p = 8 * c + j in
@@ -72,26 +72,26 @@ module _ (b : Book) (c j kind goal want named : ℕ) (h : Held b j named) (last 
       ∙ ap (λ (k : ℕ). literal-of kind goal k)
       (getD-set-same (b .«literal_want») p want 0 (omega (arith, s .literal-want, h .few-clauses)))
 
-  old : (s n : ℕ) → s + n ≤ 8 * c + j → span (literalAt next) s n ≡ span (literalAt b) s n
-  old s n l = span-ext (literalAt next) (literalAt b) s n (λ i x y. literal-before i (omega arith))
+  old : (s n : ℕ) → s + n ≤ 8 * c + j → span (literal-viewed next) s n ≡ span (literal-viewed b) s n
+  old s n l = span-ext (literal-viewed next) (literal-viewed b) s n (λ i x y. literal-before i (omega arith))
 
-  clause-before : (i : ℕ) → i < c → clauseAt b i ≡ clauseAt next i
+  clause-before : (i : ℕ) → i < c → clause-viewed b i ≡ clause-viewed next i
   clause-before i l =
-      sym (ap (λ (x : ℕ). clauseOf (literalAt next) i (getD (b .«clause_variant») i 0) (getD (b .«clause_flags») i 0) x) (below (b .«clause_len») c i (j + 1) l)
-      ∙ ap (λ (ls : List said.Literal). with-literals (clauseAt b i) ls) (old (8 * i) (getD (b .«clause_len») i 0) (omega (arith, h .few-literals i))))
+      sym (ap (λ (x : ℕ). clause-made (literal-viewed next) i (getD (b .«clause_variant») i 0) (getD (b .«clause_flags») i 0) x) (below (b .«clause_len») c i (j + 1) l)
+      ∙ ap (λ (ls : List said.Literal). with-literals (clause-viewed b i) ls) (old (8 * i) (getD (b .«clause_len») i 0) (omega (arith, h .few-literals i))))
 
-  clause-more : with-literals (clauseAt b c) (clauseAt b c .literals ++ (added ∷ [])) ≡ clauseAt next c
+  clause-more : with-literals (clause-viewed b c) (clause-viewed b c .literals ++ (added ∷ [])) ≡ clause-viewed next c
   clause-more =
-      sym (ap (λ (x : ℕ). clauseOf (literalAt next) c (getD (b .«clause_variant») c 0) (getD (b .«clause_flags») c 0) x) (has-now ∙ add-one j)
-      ∙ ap (λ (ls : List said.Literal). with-literals (clauseAt b c) ls)
-      (span-snoc (literalAt next) (8 * c) j
-      ∙ ap (λ (l : said.Literal). span (literalAt next) (8 * c) j ++ (l ∷ [])) literal-new
+      sym (ap (λ (x : ℕ). clause-made (literal-viewed next) c (getD (b .«clause_variant») c 0) (getD (b .«clause_flags») c 0) x) (has-now ∙ add-one j)
+      ∙ ap (λ (ls : List said.Literal). with-literals (clause-viewed b c) ls)
+      (span-snoc (literal-viewed next) (8 * c) j
+      ∙ ap (λ (l : said.Literal). span (literal-viewed next) (8 * c) j ++ (l ∷ [])) literal-new
       ∙ ap (λ (ls : List said.Literal). ls ++ (added ∷ [])) (old (8 * c) j (omega arith))
-      ∙ ap (λ (n : ℕ). span (literalAt b) (8 * c) n ++ (added ∷ [])) (sym has)))
+      ∙ ap (λ (n : ℕ). span (literal-viewed b) (8 * c) n ++ (added ∷ [])) (sym has)))
 
   pub literal-view : view next ≡ add-literal added (view b)
   literal-view =
-      sym (tiles-add (clauseAt b) (clauseAt next) added c clause-more clause-before (b .«goal_flags») (b .«goal_first») (b .«goal_len») (b .goals) 0 0
+      sym (tiles-add (clause-viewed b) (clause-viewed next) added c clause-more clause-before (b .«goal_flags») (b .«goal_first») (b .«goal_len») (b .goals) 0 0
       (subst (Tiles (b .«goal_first») (b .«goal_len») 0 (b .goals) 0) last (h .tiles)) (omega arith))
 
   literal-full : Full next

@@ -21,7 +21,7 @@ use Rattle.definitions.specs.Book.{
   last-literals,
   literals-so-far,
 }
-use Rattle.book.specs.View.{span, goalIn, Tiles}
+use Rattle.book.specs.View.{span, goal-in, Tiles}
 use Rattle.book.proofs.Spans.{span-length, span-ext}
 
 -- a clause is added to the last goal
@@ -57,18 +57,18 @@ module _ (f : ℕ → Clause) where
       last-literals-span s k ∙ ap (λ (i : ℕ). length (f i .literals)) p
 
 module _ (f : ℕ → Clause) (flags first len : List ℕ) where
-  pub tiles-count : (n g at end : ℕ) → Tiles first len g n at end → at + clause-count (span (goalIn f flags first len) g n) ≡ end
+  pub tiles-count : (n g at end : ℕ) → Tiles first len g n at end → at + clause-count (span (goal-in f flags first len) g n) ≡ end
   tiles-count zero g at end t = omega arith
   tiles-count (suc n) g at end t =
       let a : length (span f (getD first g 0) (getD len g 0)) ≡ getD len g 0 = span-length f (getD first g 0) (getD len g 0) in
-      let r : (at + getD len g 0) + clause-count (span (goalIn f flags first len) (suc g) n) ≡ end = tiles-count n (suc g) (at + getD len g 0) end (t .1) in
+      let r : (at + getD len g 0) + clause-count (span (goal-in f flags first len) (suc g) n) ≡ end = tiles-count n (suc g) (at + getD len g 0) end (t .1) in
       omega arith
 
   -- each goal's clauses stand before the end
   pub tiles-within : (n g at end i : ℕ) → Tiles first len g n at end → i < n → getD first (g + i) 0 + getD len (g + i) 0 ≤ end
   tiles-within zero g at end i t h = absurd (omega arith)
   tiles-within (suc n) g at end zero t h =
-      let r : (at + getD len g 0) + clause-count (span (goalIn f flags first len) (suc g) n) ≡ end = tiles-count n (suc g) (at + getD len g 0) end (t .1) in
+      let r : (at + getD len g 0) + clause-count (span (goal-in f flags first len) (suc g) n) ≡ end = tiles-count n (suc g) (at + getD len g 0) end (t .1) in
       let e : g ≡ g + 0 = omega arith in
       let p : getD first g 0 ≡ at = t .0 in
       let q : getD first g 0 + getD len g 0 ≤ end = omega arith in
@@ -93,24 +93,24 @@ module _ (f : ℕ → Clause) (flags first len : List ℕ) where
 
   -- how many literals the last clause has
   literals-by : (n g at e : ℕ) (t : Bool) → Tiles first len g (suc n) at (suc e) → at ≤ e
-      → eqb (clause-count (span (goalIn f flags first len) (suc g) n)) 0 ≡ t
-      → (at + getD len g 0 ≤ e → literals-so-far (span (goalIn f flags first len) (suc g) n) ≡ length (f e .literals))
-      → elim t [ true ↦ last-literals (span f (getD first g 0) (getD len g 0)) | false ↦ literals-so-far (span (goalIn f flags first len) (suc g) n) ]
+      → eqb (clause-count (span (goal-in f flags first len) (suc g) n)) 0 ≡ t
+      → (at + getD len g 0 ≤ e → literals-so-far (span (goal-in f flags first len) (suc g) n) ≡ length (f e .literals))
+      → elim t [ true ↦ last-literals (span f (getD first g 0) (getD len g 0)) | false ↦ literals-so-far (span (goal-in f flags first len) (suc g) n) ]
       ≡ length (f e .literals)
   literals-by n g at e true t h q ih =
-      let r : (at + getD len g 0) + clause-count (span (goalIn f flags first len) (suc g) n) ≡ suc e = tiles-count n (suc g) (at + getD len g 0) (suc e) (t .1) in
-      let z : clause-count (span (goalIn f flags first len) (suc g) n) ≡ 0 = eqb-true _ 0 q in
+      let r : (at + getD len g 0) + clause-count (span (goal-in f flags first len) (suc g) n) ≡ suc e = tiles-count n (suc g) (at + getD len g 0) (suc e) (t .1) in
+      let z : clause-count (span (goal-in f flags first len) (suc g) n) ≡ 0 = eqb-true _ 0 q in
       let p : getD first g 0 ≡ at = t .0 in
       last-literals-to f (getD first g 0) (getD len g 0) e (omega arith) (omega arith)
   literals-by n g at e false t h q ih =
-      let r : (at + getD len g 0) + clause-count (span (goalIn f flags first len) (suc g) n) ≡ suc e = tiles-count n (suc g) (at + getD len g 0) (suc e) (t .1) in
-      ih (omega (arith, eqb-false (clause-count (span (goalIn f flags first len) (suc g) n)) 0 q))
+      let r : (at + getD len g 0) + clause-count (span (goal-in f flags first len) (suc g) n) ≡ suc e = tiles-count n (suc g) (at + getD len g 0) (suc e) (t .1) in
+      ih (omega (arith, eqb-false (clause-count (span (goal-in f flags first len) (suc g) n)) 0 q))
 
   pub tiles-literals : (n g at e : ℕ) → Tiles first len g n at (suc e) → at ≤ e
-      → literals-so-far (span (goalIn f flags first len) g n) ≡ length (f e .literals)
+      → literals-so-far (span (goal-in f flags first len) g n) ≡ length (f e .literals)
   tiles-literals zero g at e t h = absurd (omega arith)
   tiles-literals (suc n) g at e t h =
-      literals-by n g at e (eqb (clause-count (span (goalIn f flags first len) (suc g) n)) 0) t h refl
+      literals-by n g at e (eqb (clause-count (span (goal-in f flags first len) (suc g) n)) 0) t h refl
       (λ k. tiles-literals n (suc g) (at + getD len g 0) e (t .1) k)
 
 -- f and h are the same clauses but for the last, which has one literal more
@@ -129,43 +129,43 @@ module _ (f h : ℕ → Clause) (l : Literal) (e : ℕ) (more : with-literals (f
   last-to s (suc k) q p = last-more s k (omega arith)
 
   module _ (flags first len : List ℕ) where
-    goal-same : (g : ℕ) → getD first g 0 + getD len g 0 ≤ e → goalIn f flags first len g ≡ goalIn h flags first len g
+    goal-same : (g : ℕ) → getD first g 0 + getD len g 0 ≤ e → goal-in f flags first len g ≡ goal-in h flags first len g
     goal-same g p =
-        ap (λ (cs : List Clause). with-clauses (goalIn f flags first len g) cs)
+        ap (λ (cs : List Clause). with-clauses (goal-in f flags first len g) cs)
         (span-ext f h (getD first g 0) (getD len g 0) (λ i x y. same i (omega arith)))
 
-    no-clauses : (n g : ℕ) → clause-count (span (goalIn f flags first len) g n) ≡ 0 → span (goalIn f flags first len) g n ≡ span (goalIn h flags first len) g n
+    no-clauses : (n g : ℕ) → clause-count (span (goal-in f flags first len) g n) ≡ 0 → span (goal-in f flags first len) g n ≡ span (goal-in h flags first len) g n
     no-clauses zero g q = refl
     no-clauses (suc n) g q =
         let a : length (span f (getD first g 0) (getD len g 0)) ≡ getD len g 0 = span-length f (getD first g 0) (getD len g 0) in
-        ap (λ (cs : List Clause). with-clauses (goalIn f flags first len g) cs ∷ span (goalIn f flags first len) (suc g) n)
+        ap (λ (cs : List Clause). with-clauses (goal-in f flags first len g) cs ∷ span (goal-in f flags first len) (suc g) n)
         (span-ext f h (getD first g 0) (getD len g 0) (λ i x y. absurd (omega arith)))
-        ∙ ap (λ (gs : Book). goalIn h flags first len g ∷ gs) (no-clauses n (suc g) (omega arith))
+        ∙ ap (λ (gs : Book). goal-in h flags first len g ∷ gs) (no-clauses n (suc g) (omega arith))
 
     add-by : (n g at : ℕ) (t : Bool) → Tiles first len g (suc n) at (suc e) → at ≤ e
-        → eqb (clause-count (span (goalIn f flags first len) (suc g) n)) 0 ≡ t
-        → (at + getD len g 0 ≤ e → add-literal l (span (goalIn f flags first len) (suc g) n) ≡ span (goalIn h flags first len) (suc g) n)
+        → eqb (clause-count (span (goal-in f flags first len) (suc g) n)) 0 ≡ t
+        → (at + getD len g 0 ≤ e → add-literal l (span (goal-in f flags first len) (suc g) n) ≡ span (goal-in h flags first len) (suc g) n)
         → elim t [
-          | true ↦ with-clauses (goalIn f flags first len g) (add-to-last l (span f (getD first g 0) (getD len g 0))) ∷ span (goalIn f flags first len) (suc g) n
-          | false ↦ goalIn f flags first len g ∷ add-literal l (span (goalIn f flags first len) (suc g) n)
-        ] ≡ span (goalIn h flags first len) g (suc n)
+          | true ↦ with-clauses (goal-in f flags first len g) (add-to-last l (span f (getD first g 0) (getD len g 0))) ∷ span (goal-in f flags first len) (suc g) n
+          | false ↦ goal-in f flags first len g ∷ add-literal l (span (goal-in f flags first len) (suc g) n)
+        ] ≡ span (goal-in h flags first len) g (suc n)
     add-by n g at true t p q ih =
-        let r : (at + getD len g 0) + clause-count (span (goalIn f flags first len) (suc g) n) ≡ suc e = tiles-count f flags first len n (suc g) (at + getD len g 0) (suc e) (t .1) in
-        let z : clause-count (span (goalIn f flags first len) (suc g) n) ≡ 0 = eqb-true _ 0 q in
+        let r : (at + getD len g 0) + clause-count (span (goal-in f flags first len) (suc g) n) ≡ suc e = tiles-count f flags first len n (suc g) (at + getD len g 0) (suc e) (t .1) in
+        let z : clause-count (span (goal-in f flags first len) (suc g) n) ≡ 0 = eqb-true _ 0 q in
         let s : getD first g 0 ≡ at = t .0 in
-        ap (λ (cs : List Clause). with-clauses (goalIn f flags first len g) cs ∷ span (goalIn f flags first len) (suc g) n)
+        ap (λ (cs : List Clause). with-clauses (goal-in f flags first len g) cs ∷ span (goal-in f flags first len) (suc g) n)
         (last-to (getD first g 0) (getD len g 0) (omega arith) (omega arith))
-        ∙ ap (λ (gs : Book). goalIn h flags first len g ∷ gs) (no-clauses n (suc g) z)
+        ∙ ap (λ (gs : Book). goal-in h flags first len g ∷ gs) (no-clauses n (suc g) z)
     add-by n g at false t p q ih =
-        let r : (at + getD len g 0) + clause-count (span (goalIn f flags first len) (suc g) n) ≡ suc e = tiles-count f flags first len n (suc g) (at + getD len g 0) (suc e) (t .1) in
+        let r : (at + getD len g 0) + clause-count (span (goal-in f flags first len) (suc g) n) ≡ suc e = tiles-count f flags first len n (suc g) (at + getD len g 0) (suc e) (t .1) in
         let s : getD first g 0 ≡ at = t .0 in
-        let b : at + getD len g 0 ≤ e = omega (arith, eqb-false (clause-count (span (goalIn f flags first len) (suc g) n)) 0 q) in
-        ap (λ (x : Goal). x ∷ add-literal l (span (goalIn f flags first len) (suc g) n)) (goal-same g (omega arith))
-        ∙ ap (λ (gs : Book). goalIn h flags first len g ∷ gs) (ih b)
+        let b : at + getD len g 0 ≤ e = omega (arith, eqb-false (clause-count (span (goal-in f flags first len) (suc g) n)) 0 q) in
+        ap (λ (x : Goal). x ∷ add-literal l (span (goal-in f flags first len) (suc g) n)) (goal-same g (omega arith))
+        ∙ ap (λ (gs : Book). goal-in h flags first len g ∷ gs) (ih b)
 
     pub tiles-add : (n g at : ℕ) → Tiles first len g n at (suc e) → at ≤ e
-        → add-literal l (span (goalIn f flags first len) g n) ≡ span (goalIn h flags first len) g n
+        → add-literal l (span (goal-in f flags first len) g n) ≡ span (goal-in h flags first len) g n
     tiles-add zero g at t p = absurd (omega arith)
     tiles-add (suc n) g at t p =
-        add-by n g at (eqb (clause-count (span (goalIn f flags first len) (suc g) n)) 0) t p refl
+        add-by n g at (eqb (clause-count (span (goal-in f flags first len) (suc g) n)) 0) t p refl
         (λ k. tiles-add n (suc g) (at + getD len g 0) (t .1) k)

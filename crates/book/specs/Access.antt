@@ -14,18 +14,18 @@ entry-by false x = 0
 abbrev pub entry : (size : ℕ) → List ℕ → ℕ → ℕ
 entry size l i = entry-by (ltb i size) (getD l i 0)
 
-abbrev pub noLiteral : Literal
-noLiteral = record { goal = 0; kind = 0; want = 0 }
+abbrev pub blank-literal : Literal
+blank-literal = record { goal = 0; kind = 0; want = 0 }
 
 abbrev pub literal-by : Bool → Bool → Literal → Literal
 literal-by true true l = l
-literal-by true false l = noLiteral
-literal-by false b l = noLiteral
+literal-by true false l = blank-literal
+literal-by false b l = blank-literal
 
 -- the literal at a place; a goal is kept in a byte
-abbrev pub literalIn : (kind goal want : List ℕ) → ℕ → Literal
-literalIn kind goal want i = record { goal = getD goal i 0 % 256; kind = getD kind i 0; want = getD want i 0 }
+abbrev pub literal-there : (kind goal want : List ℕ) → ℕ → Literal
+literal-there kind goal want i = record { goal = getD goal i 0 % 256; kind = getD kind i 0; want = getD want i 0 }
 
 -- literal j of clause c
-abbrev pub literalOf : (kind goal want : List ℕ) → (c j : ℕ) → Literal
-literalOf kind goal want c j = literal-by (ltb c 256) (ltb j 8) (literalIn kind goal want (8 * c + j))
+abbrev pub literal-read : (kind goal want : List ℕ) → (c j : ℕ) → Literal
+literal-read kind goal want c j = literal-by (ltb c 256) (ltb j 8) (literal-there kind goal want (8 * c + j))

@@ -30,37 +30,37 @@ abbrev pub meant : Literal → said.Literal
 meant l = kept (l .kind) (l .goal) (l .want)
 
 -- the literal at a place of the arrays
-abbrev pub literalAt : Book → ℕ → said.Literal
-literalAt b i = kept (getD (b .«literal_kind») i 0) (getD (b .«literal_goal») i 0) (getD (b .«literal_want») i 0)
+abbrev pub literal-viewed : Book → ℕ → said.Literal
+literal-viewed b i = kept (getD (b .«literal_kind») i 0) (getD (b .«literal_goal») i 0) (getD (b .«literal_want») i 0)
 
-abbrev pub clauseOf : (ℕ → said.Literal) → (c variant flags len : ℕ) → said.Clause
-clauseOf literal c variant flags len = record {
+abbrev pub clause-made : (ℕ → said.Literal) → (c variant flags len : ℕ) → said.Clause
+clause-made literal c variant flags len = record {
   variant = variant;
   cannot-prove = said.bit0 flags;
   outsized = said.bit1 flags;
   literals = span literal (8 * c) len;
 }
 
-abbrev pub clauseAt : Book → ℕ → said.Clause
-clauseAt b c =
-    clauseOf (literalAt b) c (getD (b .«clause_variant») c 0) (getD (b .«clause_flags») c 0) (getD (b .«clause_len») c 0)
+abbrev pub clause-viewed : Book → ℕ → said.Clause
+clause-viewed b c =
+    clause-made (literal-viewed b) c (getD (b .«clause_variant») c 0) (getD (b .«clause_flags») c 0) (getD (b .«clause_len») c 0)
 
-abbrev pub goalOf : (ℕ → said.Clause) → (flags first len : ℕ) → said.Goal
-goalOf clause flags first len = record {
+abbrev pub goal-made : (ℕ → said.Clause) → (flags first len : ℕ) → said.Goal
+goal-made clause flags first len = record {
   coinductive = said.bit0 flags;
   floundered = said.bit1 flags;
   clauses = span clause first len;
 }
 
-abbrev pub goalIn : (ℕ → said.Clause) → (flags first len : List ℕ) → ℕ → said.Goal
-goalIn clause flags first len g = goalOf clause (getD flags g 0) (getD first g 0) (getD len g 0)
+abbrev pub goal-in : (ℕ → said.Clause) → (flags first len : List ℕ) → ℕ → said.Goal
+goal-in clause flags first len g = goal-made clause (getD flags g 0) (getD first g 0) (getD len g 0)
 
-abbrev pub goalAt : Book → ℕ → said.Goal
-goalAt b g = goalIn (clauseAt b) (b .«goal_flags») (b .«goal_first») (b .«goal_len») g
+abbrev pub goal-viewed : Book → ℕ → said.Goal
+goal-viewed b g = goal-in (clause-viewed b) (b .«goal_flags») (b .«goal_first») (b .«goal_len») g
 
 -- THE VIEW
 abbrev pub view : Book → said.Book
-view b = span (goalAt b) 0 (b .goals)
+view b = span (goal-viewed b) 0 (b .goals)
 
 -- n goals from g on, with so many clauses each, lie side by side in the clauses from `at` to `end`
 abbrev pub Tiles : (first len : List ℕ) → (g n at end : ℕ) → Type 0

@@ -3,7 +3,7 @@
 use crate::Literal;
 ghost use mathlib.Core.Path.{_≡_};
 ghost use Rattle.definitions.specs.Book.{bit0, bit1};
-ghost use Rattle.book.specs.Access.{entry, literalOf};
+ghost use Rattle.book.specs.Access.{entry, literal-read};
 
 fn goal_byte(a: &[u8; 64], goal: usize) -> u8
     ensures { λ r. ⌜ r ≡ entry 64 (now (a .entry)) goal ⌝ }
@@ -83,7 +83,7 @@ pub fn literal_at(
     clause: usize,
     at: usize,
 ) -> Literal
-    ensures { λ r. ⌜ r ≡ literalOf (now (kind .entry)) (now (goal .entry)) (now (want .entry)) clause at ⌝ }
+    ensures { λ r. ⌜ r ≡ literal-read (now (kind .entry)) (now (goal .entry)) (now (want .entry)) clause at ⌝ }
 {
     if clause >= 256 {
         return Literal {

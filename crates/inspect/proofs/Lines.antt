@@ -15,7 +15,7 @@ use Rattle.pen.specs.Pen.{Pen, put, put-all}
 use Rattle.pen.proofs.Putting.{put-two, put-one, put-nothing, put-all-append}
 use Rattle.book.specs.declared.Book.{Book}
 use Rattle.book.specs.declared.Reading.{Reading}
-use Rattle.book.specs.View.{Sound, Tiles, span, clauseOf, view, seen, seen-by}
+use Rattle.book.specs.View.{Sound, Tiles, span, clause-made, view, seen, seen-by}
 use Rattle.inspect.specs.Words.{before, literal-words, body-words, head-words, clause-words, clauses-words, goal-line, goal-words, goals-words, refusal-words, reading-words}
 
 -- one place less
@@ -91,7 +91,7 @@ body-end f s n j h = ap (body-words j) (from-end f s n j h)
 pub clause-said : (f : ℕ → Literal) (goal c variant flags len n j : ℕ) (p q r s : Pen) → n ≡ len → n ≤ j
     → q ≡ put-all (head-words goal variant (bit0 flags) (bit1 flags)) p
     → put-all (literals-left f (8 * c) n j) r ≡ put-all (literals-left f (8 * c) n 0) q
-    → s ≡ put 10 r → s ≡ put-all (clause-words goal (clauseOf f c variant flags len)) p
+    → s ≡ put 10 r → s ≡ put-all (clause-words goal (clause-made f c variant flags len)) p
 unfolding clause-words
 clause-said f goal c variant flags len n j p q r s e h g i k =
     let said : r ≡ put-all (body-words 0 (span f (8 * c) len)) q =

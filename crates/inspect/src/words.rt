@@ -13,7 +13,7 @@ ghost use mathlib.Core.Path.{_≡_};
 ghost use Prim.Native.Nat.{_<_};
 ghost use Rattle.definitions.specs.Book.{bit0 as bit0Of, bit1 as bit1Of, read as readBook};
 ghost use Rattle.pen.specs.Pen.{pen, put-all};
-ghost use Rattle.book.specs.View.{Sound, signed, clauseAt, goalAt, view, seen};
+ghost use Rattle.book.specs.View.{Sound, signed, clause-viewed, goal-viewed, view, seen};
 ghost use Rattle.inspect.specs.Words.{mark as markOf, slashed as slashedOf, name-words, literal-words, before, head-words, clause-words, clauses-words, goal-line as goalLine, goal-words, goals-words, sentence as sentenceOf, refusal-words, reading-words};
 
 fn wide(n: u16) -> usize
@@ -111,7 +111,7 @@ fn goal_line(out: &mut [u8], at: usize, goal: usize, flags: u8) -> usize
 fn clause_line(out: &mut [u8], at: usize, book: Book, goal: usize, c: usize) -> usize
     requires { ⌜ Sound book ⌝ }
     requires { ⌜ c < 256 ⌝ }
-    ensures { λ r. ⌜ pen (now (out .exit)) r ≡ put-all (clause-words goal (clauseAt book c)) (pen (now (out .entry)) at) ⌝ }
+    ensures { λ r. ⌜ pen (now (out .exit)) r ≡ put-all (clause-words goal (clause-viewed book c)) (pen (now (out .entry)) at) ⌝ }
 {
     let count = wide8(book.clause_len[c]);
     let mut used = head(out, at, goal, book.clause_variant[c], book.clause_flags[c]);
@@ -135,7 +135,7 @@ fn clause_line(out: &mut [u8], at: usize, book: Book, goal: usize, c: usize) -> 
 fn clauses(out: &mut [u8], at: usize, book: Book, g: usize) -> usize
     requires { ⌜ Sound book ⌝ }
     requires { ⌜ g < book .goals ⌝ }
-    ensures { λ r. ⌜ pen (now (out .exit)) r ≡ put-all (clauses-words g (goalAt book g .clauses)) (pen (now (out .entry)) at) ⌝ }
+    ensures { λ r. ⌜ pen (now (out .exit)) r ≡ put-all (clauses-words g (goal-viewed book g .clauses)) (pen (now (out .entry)) at) ⌝ }
 {
     let first = wide(book.goal_first[g]);
     let count = wide(book.goal_len[g]);
@@ -152,7 +152,7 @@ fn clauses(out: &mut [u8], at: usize, book: Book, g: usize) -> usize
 fn goal(out: &mut [u8], at: usize, book: Book, g: usize) -> usize
     requires { ⌜ Sound book ⌝ }
     requires { ⌜ g < book .goals ⌝ }
-    ensures { λ r. ⌜ pen (now (out .exit)) r ≡ put-all (goal-words g (goalAt book g)) (pen (now (out .entry)) at) ⌝ }
+    ensures { λ r. ⌜ pen (now (out .exit)) r ≡ put-all (goal-words g (goal-viewed book g)) (pen (now (out .entry)) at) ⌝ }
 {
     let line = goal_line(out, at, g, book.goal_flags[g]);
     clauses(out, line, book, g)

@@ -8,7 +8,7 @@ use lib.ListN.{length, take, drop, getD, set}
 use lib.Seq.{getD-set-other, split-at}
 use lib.Dec.{eqb}
 use borrow.Author.Tests.{eq-eqb, ne-eqb, eqb-true, eqb-false}
-use Rattle.rings.specs.Lists.{stop, firstIndex, one, times}
+use Rattle.rings.specs.Lists.{stop, first-index, one, times}
 use Rattle.rings.proofs.Laws.{keep, filter, filter-count}
 
 pub true-false : {X : Type 0} (b : Bool) → b ≡ true → b ≡ false → X
@@ -155,15 +155,15 @@ pigeons (suc m) l once none =
         let n : p ≡ m → ⊥ = eqb-false p m e in
         omega (arith, times-filter p (λ y. not (eqb m y)) l, none p (omega arith))
 
--- what `firstIndex` finds: none before it passes the test, and the one at it does
+-- what `first-index` finds: none before it passes the test, and the one at it does
 module _ {A : Type 0} where
   abbrev First : (A → Bool) → List A → ℕ → A → Type 0
   First f l j d = All (λ x. f x ≡ false) (take j l) × (j < length l → f (getD l j d) ≡ true)
 
-  first-step : (f : A → Bool) (d x : A) (l : List A) (b : Bool) → f x ≡ b → First f l (firstIndex f l) d → First f (x ∷ l) (stop b (firstIndex f l)) d
+  first-step : (f : A → Bool) (d x : A) (l : List A) (b : Bool) → f x ≡ b → First f l (first-index f l) d → First f (x ∷ l) (stop b (first-index f l)) d
   first-step f d x l true e h = (tt, λ k. e)
   first-step f d x l false e h = ((e, h .0), λ k. h .1 (omega arith))
 
-  pub first : (f : A → Bool) (l : List A) (d : A) → First f l (firstIndex f l) d
+  pub first : (f : A → Bool) (l : List A) (d : A) → First f l (first-index f l) d
   first f [] d = (tt, λ k. absurd (omega arith))
   first f (x ∷ l) d = first-step f d x l (f x) refl (first f l d)

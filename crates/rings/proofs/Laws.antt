@@ -7,7 +7,7 @@ use mathlib.Core.Bool.{Bool, true, false, not}
 use mathlib.Core.List.{List, [], _∷_, _++_}
 use lib.ListN.{length, drop, getD}
 use lib.Seq.{getD-drop}
-use Rattle.rings.specs.Lists.{stop, firstIndex}
+use Rattle.rings.specs.Lists.{stop, first-index}
 
 module _ {A : Type 0} where
   abbrev pub keep : Bool → A → List A → List A
@@ -36,11 +36,11 @@ module _ {A : Type 0} where
   filter-count f [] = refl
   filter-count f (x ∷ l) = keep-count (f x) x (filter f l) (filter (λ y. not (f y)) l) (length l) (filter-count f l)
 
-  pub firstIndex-here : (f : A → Bool) (x : A) (l : List A) → f x ≡ true → firstIndex f (x ∷ l) ≡ 0
-  firstIndex-here f x l e = ap (λ (b : Bool). stop b (firstIndex f l)) e
+  pub first-index-here : (f : A → Bool) (x : A) (l : List A) → f x ≡ true → first-index f (x ∷ l) ≡ 0
+  first-index-here f x l e = ap (λ (b : Bool). stop b (first-index f l)) e
 
-  pub firstIndex-past : (f : A → Bool) (x : A) (l : List A) → f x ≡ false → firstIndex f (x ∷ l) ≡ suc (firstIndex f l)
-  firstIndex-past f x l e = ap (λ (b : Bool). stop b (firstIndex f l)) e
+  pub first-index-past : (f : A → Bool) (x : A) (l : List A) → f x ≡ false → first-index f (x ∷ l) ≡ suc (first-index f l)
+  first-index-past f x l e = ap (λ (b : Bool). stop b (first-index f l)) e
 
   pub getD-of-drop : (l m : List A) (i : ℕ) (d : A) → drop i l ≡ drop i m → getD l i d ≡ getD m i d
   getD-of-drop l m i d e =

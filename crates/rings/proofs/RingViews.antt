@@ -9,7 +9,7 @@ use lib.Seq.{getD-set-other, getD-set-same, length-take-le, split-at}
 use lib.Dec.{eqb, ltb}
 use borrow.Author.Tests.{ne-eqb, eqb-true, eqb-false, lt-ltb, ltb-true, ltb-false}
 use Rattle.rings.specs.Lists.{one, times, grown, turned, Full}
-use Rattle.rings.specs.Rings.{walk, end, ringOf, heldAt, RingTookAt, Chain, RingSound, linkedAt, linked, lengthened}
+use Rattle.rings.specs.Rings.{walk, end, ring-of, held-at, RingTookAt, Chain, RingSound, linked-at, linked, lengthened}
 use Rattle.rings.proofs.Counts.{map-append, map-away, times-append, times-self, times-out, pigeons}
 use Rattle.rings.proofs.Walks.{length-walk, chain-walk, chain-join, chain-front, chain-back, chain-last, chain-in, ring-frame, ring-turn, ring-append}
 
@@ -27,15 +27,15 @@ none-at zero t = refl
 none-at (suc n) zero = refl
 none-at (suc n) (suc t) = none-at n t
 
-pub ring-start : (t : ℕ) (next tail : List ℕ) → ringOf next tail (replicate 256 0) t ≡ []
+pub ring-start : (t : ℕ) (next tail : List ℕ) → ring-of next tail (replicate 256 0) t ≡ []
 ring-start t next tail = ap (λ (m : ℕ). walk m next (getD tail t 0)) (none-at 256 t)
 
 pub ring-start-sound : RingSound (replicate 256 0) (replicate 256 0) (replicate 256 0) 0
 ring-start-sound = record {
   room = omega arith;
-  fullNext = length-replicate {A = ℕ} 256 0;
-  fullTail = length-replicate {A = ℕ} 256 0;
-  fullLen = length-replicate {A = ℕ} 256 0;
+  long-next = length-replicate {A = ℕ} 256 0;
+  long-tail = length-replicate {A = ℕ} 256 0;
+  long-len = length-replicate {A = ℕ} 256 0;
   closed = λ t. rw (ring-start t (replicate 256 0) (replicate 256 0)) refl;
   once = λ t p. rw (ring-start t (replicate 256 0) (replicate 256 0)) (omega arith);
   small = λ t p h. rw (ring-start t (replicate 256 0) (replicate 256 0)) refl;
@@ -45,7 +45,7 @@ ring-start-sound = record {
 module _ (next tail len : List ℕ) (top : ℕ) (sound : RingSound next tail len top) where
   -- the queue of a table, as it was
   abbrev q : ℕ → List ℕ
-  q u = ringOf next tail len u
+  q u = ring-of next tail len u
 
   pub below-top : (t p : ℕ) → 1 ≤ times p (q t) → p < top
   below-top t p h = go (ltb p top) refl
@@ -65,9 +65,9 @@ module _ (next tail len : List ℕ) (top : ℕ) (sound : RingSound next tail len
   ring-fresh-top h = (
     record {
       room = omega arith;
-      fullNext = sound .fullNext;
-      fullTail = sound .fullTail;
-      fullLen = sound .fullLen;
+      long-next = sound .long-next;
+      long-tail = sound .long-tail;
+      long-len = sound .long-len;
       closed = sound .closed;
       once = sound .once;
       small = λ t p k. sound .small t p (omega arith);
@@ -112,19 +112,19 @@ module _ (next tail len : List ℕ) (top : ℕ) (sound : RingSound next tail len
     b-in = omega (arith, chain-in next p rest b round, counts b)
 
     ring : Chain next′ b rest b
-    ring = ring-turn next p b rest round (omega (arith, counts b, sound .once t b)) (λ h. omega (arith, below t b b-in, sound .fullNext))
+    ring = ring-turn next p b rest round (omega (arith, counts b, sound .once t b)) (λ h. omega (arith, below t b b-in, sound .long-next))
 
     tail-t : getD tail′ t 0 ≡ b
-    tail-t = getD-set-same tail t b 0 (omega (arith, sound .fullTail))
+    tail-t = getD-set-same tail t b 0 (omega (arith, sound .long-tail))
 
     len-t : getD len′ t 0 ≡ length rest
     len-t =
         let d : length (drop (suc j) (q t)) ≡ length (q t) - suc j = length-drop (suc j) (q t) in
         let k : length (take j (q t)) ≡ j = length-take-le j (q t) (omega arith) in
         let e : length rest ≡ getD len t 0 - 1 = omega (arith, length-append (drop (suc j) (q t)) (take j (q t)), size t) in
-        getD-set-same len t (getD len t 0 - 1) 0 (omega (arith, sound .fullLen)) ∙ sym e
+        getD-set-same len t (getD len t 0 - 1) 0 (omega (arith, sound .long-len)) ∙ sym e
 
-    ring-own : ringOf next′ tail′ len′ t ≡ rest
+    ring-own : ring-of next′ tail′ len′ t ≡ rest
     ring-own = ap₂ (λ (m a : ℕ). walk m next′ a) len-t tail-t ∙ chain-walk next′ b rest b ring
 
     module _ (u : ℕ) (n : u ≡ t → ⊥) where
@@ -134,22 +134,22 @@ module _ (next tail len : List ℕ) (top : ℕ) (sound : RingSound next tail len
       other-ring : Chain next′ (getD tail u 0) (q u) (getD tail u 0)
       other-ring = ring-frame next b (getD next p 0) (getD tail u 0) (q u) (sound .closed u) (sound .apart t u b n b-in)
 
-      ring-other : ringOf next′ tail′ len′ u ≡ q u
+      ring-other : ring-of next′ tail′ len′ u ≡ q u
       ring-other =
           ap₂ (λ (m a : ℕ). walk m next′ a) (getD-set-other len t u (getD len t 0 - 1) 0 n ∙ sym (size u)) other-tail
           ∙ chain-walk next′ (getD tail u 0) (q u) (getD tail u 0) other-ring
 
-    fewer : (u x : ℕ) → times x (ringOf next′ tail′ len′ u) ≤ times x (q u)
-    fewer = any t (λ u. (x : ℕ) → times x (ringOf next′ tail′ len′ u) ≤ times x (q u))
+    fewer : (u x : ℕ) → times x (ring-of next′ tail′ len′ u) ≤ times x (q u)
+    fewer = any t (λ u. (x : ℕ) → times x (ring-of next′ tail′ len′ u) ≤ times x (q u))
         (λ x. rw ring-own (omega (arith, counts x))) (λ u n x. rw (ring-other u n) (omega arith))
 
     ring-sound : RingSound next′ tail′ len′ top
     ring-sound = record {
       room = sound .room;
-      fullNext = length-set next b (getD next p 0) ∙ sound .fullNext;
-      fullTail = length-set tail t b ∙ sound .fullTail;
-      fullLen = length-set len t (getD len t 0 - 1) ∙ sound .fullLen;
-      closed = any t (λ u. Chain next′ (getD tail′ u 0) (ringOf next′ tail′ len′ u) (getD tail′ u 0))
+      long-next = length-set next b (getD next p 0) ∙ sound .long-next;
+      long-tail = length-set tail t b ∙ sound .long-tail;
+      long-len = length-set len t (getD len t 0 - 1) ∙ sound .long-len;
+      closed = any t (λ u. Chain next′ (getD tail′ u 0) (ring-of next′ tail′ len′ u) (getD tail′ u 0))
           (rw (ring-own, tail-t) ring) (λ u n. rw (ring-other u n, other-tail u n) (other-ring u n));
       once = λ u x. omega (arith, fewer u x, sound .once u x);
       small = λ u x h. omega (arith, fewer u x, sound .small u x h);
@@ -164,11 +164,11 @@ module _ (next tail len : List ℕ) (top : ℕ) (sound : RingSound next tail len
       pub ring-take-place : r ≡ getD (q t) j 0
       ring-take-place = did .place has
 
-      pub ring-take-own : ringOf n′ t′ l′ t ≡ turned j (q t)
-      ring-take-own = moved (λ n a l. ringOf n a l t ≡ turned j (q t)) ring-own
+      pub ring-take-own : ring-of n′ t′ l′ t ≡ turned j (q t)
+      ring-take-own = moved (λ n a l. ring-of n a l t ≡ turned j (q t)) ring-own
 
-      pub ring-take-other : (u : ℕ) → (u ≡ t → ⊥) → ringOf n′ t′ l′ u ≡ q u
-      ring-take-other u e = moved (λ n a l. ringOf n a l u ≡ q u) (ring-other u e)
+      pub ring-take-other : (u : ℕ) → (u ≡ t → ⊥) → ring-of n′ t′ l′ u ≡ q u
+      ring-take-other u e = moved (λ n a l. ring-of n a l u ≡ q u) (ring-other u e)
 
       pub ring-take-sound : RingSound n′ t′ l′ top
       ring-take-sound = moved (λ n a l. RingSound n a l top) ring-sound
@@ -177,21 +177,21 @@ module _ (next tail len : List ℕ) (top : ℕ) (sound : RingSound next tail len
       ring-take-used = below-top t r (rw ring-take-place (omega (arith, counts p, times-self p)))
 
       -- the place that was taken waits nowhere
-      pub ring-take-out : (u : ℕ) → times r (ringOf n′ t′ l′ u) ≡ 0
-      ring-take-out = any t (λ u. times r (ringOf n′ t′ l′ u) ≡ 0)
+      pub ring-take-out : (u : ℕ) → times r (ring-of n′ t′ l′ u) ≡ 0
+      ring-take-out = any t (λ u. times r (ring-of n′ t′ l′ u) ≡ 0)
           (rw (ring-take-own, ring-take-place) (omega (arith, counts p, times-self p, sound .once t p)))
           (λ u e. rw (ring-take-other u e, ring-take-place) (sound .apart t u p e (omega (arith, counts p, times-self p))))
 
   -- ENQUEUE a place that waits nowhere
   module _ (t p : ℕ) (fresh : (u : ℕ) → times p (q u) ≡ 0) (place : p < top) (table : t < 256) where
-    abbrev nextE : List ℕ
-    nextE = linked next tail len t p
+    abbrev next-e : List ℕ
+    next-e = linked next tail len t p
 
-    abbrev tailE : List ℕ
-    tailE = set tail t p
+    abbrev tail-e : List ℕ
+    tail-e = set tail t p
 
-    abbrev lenE : List ℕ
-    lenE = lengthened len t
+    abbrev len-e : List ℕ
+    len-e = lengthened len t
 
     once-more : (x : ℕ) (b : Bool) → eqb x p ≡ b → times x (q t) + one (eqb x p) ≤ 1
     once-more x true e =
@@ -199,50 +199,50 @@ module _ (next tail len : List ℕ) (top : ℕ) (sound : RingSound next tail len
         omega (arith, ap one e)
     once-more x false e = omega (arith, ap one e, sound .once t x)
 
-    countsE : (x : ℕ) → times x (q t ++ (p ∷ [])) ≡ times x (q t) + one (eqb x p)
-    countsE x = omega (arith, times-append x (q t) (p ∷ []))
+    counts-e : (x : ℕ) → times x (q t ++ (p ∷ [])) ≡ times x (q t) + one (eqb x p)
+    counts-e x = omega (arith, times-append x (q t) (p ∷ []))
 
-    smallE : (x : ℕ) → top ≤ x → times x (q t ++ (p ∷ [])) ≡ 0
-    smallE x h = omega (arith, countsE x, sound .small t x h, ap one (ne-eqb x p (λ e. omega arith)))
+    small-e : (x : ℕ) → top ≤ x → times x (q t ++ (p ∷ [])) ≡ 0
+    small-e x h = omega (arith, counts-e x, sound .small t x h, ap one (ne-eqb x p (λ e. omega arith)))
 
-    onceE : (x : ℕ) → times x (q t ++ (p ∷ [])) ≤ 1
-    onceE x = omega (arith, countsE x, once-more x (eqb x p) refl)
+    once-e : (x : ℕ) → times x (q t ++ (p ∷ [])) ≤ 1
+    once-e x = omega (arith, counts-e x, once-more x (eqb x p) refl)
 
     room : getD len t 0 < 256
-    room = omega (arith, pigeons top (q t ++ (p ∷ [])) onceE smallE, sound .room, length-append (q t) (p ∷ []), size t)
+    room = omega (arith, pigeons top (q t ++ (p ∷ [])) once-e small-e, sound .room, length-append (q t) (p ∷ []), size t)
 
-    ringE : Chain nextE p (q t ++ (p ∷ [])) p
-    ringE = go (eqb (getD len t 0) 0) refl (q t) refl
+    ring-e : Chain next-e p (q t ++ (p ∷ [])) p
+    ring-e = go (eqb (getD len t 0) 0) refl (q t) refl
       where
-        go : (b : Bool) → eqb (getD len t 0) 0 ≡ b → (l : List ℕ) → q t ≡ l → Chain nextE p (q t ++ (p ∷ [])) p
-        go true e [] i = rw (i, e) (getD-set-same next p p 0 (omega (arith, sound .fullNext, sound .room)), refl)
+        go : (b : Bool) → eqb (getD len t 0) 0 ≡ b → (l : List ℕ) → q t ≡ l → Chain next-e p (q t ++ (p ∷ [])) p
+        go true e [] i = rw (i, e) (getD-set-same next p p 0 (omega (arith, sound .long-next, sound .room)), refl)
         go true e (x ∷ l) i = absurd (omega (arith, size t, ap length i, eqb-true (getD len t 0) 0 e))
         go false e [] i = absurd (eqb-false (getD len t 0) 0 e (sym (size t) ∙ ap length i))
         go false e (x ∷ l) i =
             let c : Chain next (getD tail t 0) (x ∷ l) (getD tail t 0) = rw i at (sound .closed t) in
             let h : 1 ≤ times (getD tail t 0) (q t) = rw i (chain-last next (getD tail t 0) x l (getD tail t 0) c) in
             rw (i, e) (ring-append next (getD tail t 0) p x l c (rw i at (fresh t)) (rw i at (sound .once t (getD tail t 0)))
-            (omega (arith, sound .fullNext, sound .room)) (omega (arith, sound .fullNext, below t (getD tail t 0) h)))
+            (omega (arith, sound .long-next, sound .room)) (omega (arith, sound .long-next, below t (getD tail t 0) h)))
 
-    tailE-t : getD tailE t 0 ≡ p
-    tailE-t = getD-set-same tail t p 0 (omega (arith, sound .fullTail))
+    tail-e-t : getD tail-e t 0 ≡ p
+    tail-e-t = getD-set-same tail t p 0 (omega (arith, sound .long-tail))
 
-    lenE-t : getD lenE t 0 ≡ length (q t ++ (p ∷ []))
-    lenE-t =
+    len-e-t : getD len-e t 0 ≡ length (q t ++ (p ∷ []))
+    len-e-t =
         let g : grown (ltb (getD len t 0) 256) (getD len t 0) ≡ getD len t 0 + 1 = ap (λ (b : Bool). grown b (getD len t 0)) (lt-ltb (getD len t 0) 256 room) in
-        getD-set-same len t (grown (ltb (getD len t 0) 256) (getD len t 0)) 0 (omega (arith, sound .fullLen)) ∙ omega (arith, g, length-append (q t) (p ∷ []), size t)
+        getD-set-same len t (grown (ltb (getD len t 0) 256) (getD len t 0)) 0 (omega (arith, sound .long-len)) ∙ omega (arith, g, length-append (q t) (p ∷ []), size t)
 
-    pub ring-enqueue-own : ringOf nextE tailE lenE t ≡ q t ++ (p ∷ [])
-    ring-enqueue-own = ap₂ (λ (m a : ℕ). walk m nextE a) lenE-t tailE-t ∙ chain-walk nextE p (q t ++ (p ∷ [])) p ringE
+    pub ring-enqueue-own : ring-of next-e tail-e len-e t ≡ q t ++ (p ∷ [])
+    ring-enqueue-own = ap₂ (λ (m a : ℕ). walk m next-e a) len-e-t tail-e-t ∙ chain-walk next-e p (q t ++ (p ∷ [])) p ring-e
 
     module _ (u : ℕ) (n : u ≡ t → ⊥) where
-      tailE-u : getD tailE u 0 ≡ getD tail u 0
-      tailE-u = getD-set-other tail t u p 0 n
+      tail-e-u : getD tail-e u 0 ≡ getD tail u 0
+      tail-e-u = getD-set-other tail t u p 0 n
 
-      ringE-u : Chain nextE (getD tail u 0) (q u) (getD tail u 0)
-      ringE-u = go (eqb (getD len t 0) 0) refl (q t) refl
+      ring-e-u : Chain next-e (getD tail u 0) (q u) (getD tail u 0)
+      ring-e-u = go (eqb (getD len t 0) 0) refl (q t) refl
         where
-          go : (b : Bool) → eqb (getD len t 0) 0 ≡ b → (l : List ℕ) → q t ≡ l → Chain nextE (getD tail u 0) (q u) (getD tail u 0)
+          go : (b : Bool) → eqb (getD len t 0) 0 ≡ b → (l : List ℕ) → q t ≡ l → Chain next-e (getD tail u 0) (q u) (getD tail u 0)
           go true e l i = rw e (ring-frame next p p (getD tail u 0) (q u) (sound .closed u) (fresh u))
           go false e [] i = absurd (eqb-false (getD len t 0) 0 e (sym (size t) ∙ ap length i))
           go false e (x ∷ l) i =
@@ -251,60 +251,60 @@ module _ (next tail len : List ℕ) (top : ℕ) (sound : RingSound next tail len
               rw e (ring-frame (set next p (getD next (getD tail t 0) 0)) (getD tail t 0) p (getD tail u 0) (q u)
               (ring-frame next p (getD next (getD tail t 0) 0) (getD tail u 0) (q u) (sound .closed u) (fresh u)) (sound .apart t u (getD tail t 0) n h))
 
-      pub ring-enqueue-other : ringOf nextE tailE lenE u ≡ q u
+      pub ring-enqueue-other : ring-of next-e tail-e len-e u ≡ q u
       ring-enqueue-other =
-          ap₂ (λ (m a : ℕ). walk m nextE a) (getD-set-other len t u (grown (ltb (getD len t 0) 256) (getD len t 0)) 0 n ∙ sym (size u)) tailE-u
-          ∙ chain-walk nextE (getD tail u 0) (q u) (getD tail u 0) ringE-u
+          ap₂ (λ (m a : ℕ). walk m next-e a) (getD-set-other len t u (grown (ltb (getD len t 0) 256) (getD len t 0)) 0 n ∙ sym (size u)) tail-e-u
+          ∙ chain-walk next-e (getD tail u 0) (q u) (getD tail u 0) ring-e-u
 
-    fullE : Full nextE
-    fullE = go (eqb (getD len t 0) 0)
+    full-e : Full next-e
+    full-e = go (eqb (getD len t 0) 0)
       where
-        go : (b : Bool) → Full (linkedAt b next (getD tail t 0) p)
-        go true = length-set next p p ∙ sound .fullNext
-        go false = length-set (set next p (getD next (getD tail t 0) 0)) (getD tail t 0) p ∙ length-set next p (getD next (getD tail t 0) 0) ∙ sound .fullNext
+        go : (b : Bool) → Full (linked-at b next (getD tail t 0) p)
+        go true = length-set next p p ∙ sound .long-next
+        go false = length-set (set next p (getD next (getD tail t 0) 0)) (getD tail t 0) p ∙ length-set next p (getD next (getD tail t 0) 0) ∙ sound .long-next
 
     -- where a place is in the queues after it: as before, and p behind t's
-    apartE : (u v x : ℕ) → (v ≡ u → ⊥) → 1 ≤ times x (ringOf nextE tailE lenE u) → times x (ringOf nextE tailE lenE v) ≡ 0
-    apartE = any t (λ u. (v x : ℕ) → (v ≡ u → ⊥) → 1 ≤ times x (ringOf nextE tailE lenE u) → times x (ringOf nextE tailE lenE v) ≡ 0)
+    apart-e : (u v x : ℕ) → (v ≡ u → ⊥) → 1 ≤ times x (ring-of next-e tail-e len-e u) → times x (ring-of next-e tail-e len-e v) ≡ 0
+    apart-e = any t (λ u. (v x : ℕ) → (v ≡ u → ⊥) → 1 ≤ times x (ring-of next-e tail-e len-e u) → times x (ring-of next-e tail-e len-e v) ≡ 0)
         (λ v x n h. rw (ring-enqueue-other v n) (new v x n (eqb x p) refl (rw ring-enqueue-own at h)))
-        (λ u m. any t (λ v. (x : ℕ) → (v ≡ u → ⊥) → 1 ≤ times x (ringOf nextE tailE lenE u) → times x (ringOf nextE tailE lenE v) ≡ 0)
+        (λ u m. any t (λ v. (x : ℕ) → (v ≡ u → ⊥) → 1 ≤ times x (ring-of next-e tail-e len-e u) → times x (ring-of next-e tail-e len-e v) ≡ 0)
         (λ x n h. rw ring-enqueue-own (old u x n (rw (ring-enqueue-other u m) at h)))
         (λ v k x n h. rw (ring-enqueue-other v k) (sound .apart u v x n (rw (ring-enqueue-other u m) at h))))
       where
         new : (v x : ℕ) → (v ≡ t → ⊥) → (b : Bool) → eqb x p ≡ b → 1 ≤ times x (q t ++ (p ∷ [])) → times x (q v) ≡ 0
         new v x n true e h = ap (λ (y : ℕ). times y (q v)) (eqb-true x p e) ∙ fresh v
-        new v x n false e h = sound .apart t v x n (omega (arith, countsE x, ap one e))
+        new v x n false e h = sound .apart t v x n (omega (arith, counts-e x, ap one e))
 
         old : (u x : ℕ) → (t ≡ u → ⊥) → 1 ≤ times x (q u) → times x (q t ++ (p ∷ [])) ≡ 0
         old u x n h =
             let d : x ≡ p → ⊥ = λ e. omega (arith, fresh u, h, ap (λ (y : ℕ). times y (q u)) e) in
-            omega (arith, countsE x, sound .apart u t x n h, ap one (ne-eqb x p d))
+            omega (arith, counts-e x, sound .apart u t x n h, ap one (ne-eqb x p d))
 
-    pub ring-enqueue-sound : RingSound nextE tailE lenE top
+    pub ring-enqueue-sound : RingSound next-e tail-e len-e top
     ring-enqueue-sound = record {
       room = sound .room;
-      fullNext = fullE;
-      fullTail = length-set tail t p ∙ sound .fullTail;
-      fullLen = length-set len t (grown (ltb (getD len t 0) 256) (getD len t 0)) ∙ sound .fullLen;
-      closed = any t (λ u. Chain nextE (getD tailE u 0) (ringOf nextE tailE lenE u) (getD tailE u 0))
-          (rw (ring-enqueue-own, tailE-t) ringE) (λ u n. rw (ring-enqueue-other u n, tailE-u u n) (ringE-u u n));
-      once = any t (λ u. (x : ℕ) → times x (ringOf nextE tailE lenE u) ≤ 1)
-          (λ x. rw ring-enqueue-own (onceE x)) (λ u n x. rw (ring-enqueue-other u n) (sound .once u x));
-      small = any t (λ u. (x : ℕ) → top ≤ x → times x (ringOf nextE tailE lenE u) ≡ 0)
-          (λ x h. rw ring-enqueue-own (smallE x h)) (λ u n x h. rw (ring-enqueue-other u n) (sound .small u x h));
-      apart = apartE;
+      long-next = full-e;
+      long-tail = length-set tail t p ∙ sound .long-tail;
+      long-len = length-set len t (grown (ltb (getD len t 0) 256) (getD len t 0)) ∙ sound .long-len;
+      closed = any t (λ u. Chain next-e (getD tail-e u 0) (ring-of next-e tail-e len-e u) (getD tail-e u 0))
+          (rw (ring-enqueue-own, tail-e-t) ring-e) (λ u n. rw (ring-enqueue-other u n, tail-e-u u n) (ring-e-u u n));
+      once = any t (λ u. (x : ℕ) → times x (ring-of next-e tail-e len-e u) ≤ 1)
+          (λ x. rw ring-enqueue-own (once-e x)) (λ u n x. rw (ring-enqueue-other u n) (sound .once u x));
+      small = any t (λ u. (x : ℕ) → top ≤ x → times x (ring-of next-e tail-e len-e u) ≡ 0)
+          (λ x h. rw ring-enqueue-own (small-e x h)) (λ u n x h. rw (ring-enqueue-other u n) (sound .small u x h));
+      apart = apart-e;
     }
 
     -- what is put at a place that waits nowhere is in no queue, and in the table's once the place is enqueued
     module _ {A : Type 0} (d : A) (store : List A) (s : A) where
-      pub ring-put : (u : ℕ) → heldAt d (set store p s) (q u) ≡ heldAt d store (q u)
+      pub ring-put : (u : ℕ) → held-at d (set store p s) (q u) ≡ held-at d store (q u)
       ring-put u = map-away store p s d (q u) (fresh u)
 
-      pub ring-put-enqueue : length store ≡ 256 → heldAt d (set store p s) (ringOf nextE tailE lenE t) ≡ heldAt d store (q t) ++ (s ∷ [])
+      pub ring-put-enqueue : length store ≡ 256 → held-at d (set store p s) (ring-of next-e tail-e len-e t) ≡ held-at d store (q t) ++ (s ∷ [])
       ring-put-enqueue long =
           let f : ℕ → A = λ x. getD (set store p s) x d in
           ap (map f) ring-enqueue-own ∙ map-append f (q t) (p ∷ [])
           ∙ ap₂ (λ (l : List A) (z : A). l ++ (z ∷ [])) (ring-put t) (getD-set-same store p s d (omega (arith, sound .room)))
 
-      pub ring-put-enqueue-other : (u : ℕ) → (u ≡ t → ⊥) → heldAt d (set store p s) (ringOf nextE tailE lenE u) ≡ heldAt d store (q u)
+      pub ring-put-enqueue-other : (u : ℕ) → (u ≡ t → ⊥) → held-at d (set store p s) (ring-of next-e tail-e len-e u) ≡ held-at d store (q u)
       ring-put-enqueue-other u n = ap (map (λ x. getD (set store p s) x d)) (ring-enqueue-other u n) ∙ ring-put u

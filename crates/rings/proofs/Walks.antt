@@ -11,9 +11,9 @@ use lib.Seq.{getD-set-same, getD-set-other, set-getD, take-suc, getD-drop, drop-
 use lib.Dec.{eqb}
 use borrow.Author.Tests.{eq-eqb, ne-eqb, lt-ltb, le-ltb, ltb-true, ltb-false}
 use Rattle.rings.specs.declared.Spot.{Spot}
-use Rattle.rings.specs.Lists.{firstIndex, one, times}
-use Rattle.rings.specs.Rings.{walk, end, Chain, Found, ringOf, RingTook, RingTookAt, RingMoved, movedNext, movedTail, joined}
-use Rattle.rings.proofs.Laws.{firstIndex-here, firstIndex-past}
+use Rattle.rings.specs.Lists.{first-index, one, times}
+use Rattle.rings.specs.Rings.{walk, end, Chain, Found, ring-of, RingTook, RingTookAt, RingMoved, moved-next, moved-tail, joined}
+use Rattle.rings.proofs.Laws.{first-index-here, first-index-past}
 
 pub length-walk : (m : ℕ) (next : List ℕ) (a : ℕ) → length (walk m next a) ≡ m
 length-walk zero next a = refl
@@ -28,7 +28,7 @@ pub record Walked (f : ℕ → Bool) (next : List ℕ) (m a i b : ℕ) : Type 0 
   pub fits : i ≤ m
   pub left : drop i (walk m next a) ≡ walk (m - i) next b
   pub ends : b ≡ end a (take i (walk m next a))
-  pub first : i + firstIndex f (drop i (walk m next a)) ≡ firstIndex f (walk m next a)
+  pub first : i + first-index f (drop i (walk m next a)) ≡ first-index f (walk m next a)
 
 pub walked-none : (f : ℕ → Bool) (next : List ℕ) (m a : ℕ) → Walked f next m a 0 a
 walked-none f next m a = record { fits = omega arith; left = rw (sub-zero m); ends = refl; first = omega arith }
@@ -51,17 +51,17 @@ module _ (f : ℕ → Bool) (next : List ℕ) (m a i b : ℕ) (w : Walked f next
 
     pub walked-here : f (getD next b 0) ≡ true → Found f (walk m next a) a (record { found = true; before = b })
     walked-here e =
-        let s : firstIndex f (drop i (walk m next a)) ≡ 0 = rw here (firstIndex-here f (getD next b 0) (walk (m - (i + 1)) next (getD next b 0)) e) in
-        let j : i ≡ firstIndex f (walk m next a) = omega (arith, w .first) in
+        let s : first-index f (drop i (walk m next a)) ≡ 0 = rw here (first-index-here f (getD next b 0) (walk (m - (i + 1)) next (getD next b 0)) e) in
+        let j : i ≡ first-index f (walk m next a) = omega (arith, w .first) in
         record {
-          is = sym (lt-ltb (firstIndex f (walk m next a)) (length (walk m next a)) (omega (arith, length-walk m next a)));
+          is = sym (lt-ltb (first-index f (walk m next a)) (length (walk m next a)) (omega (arith, length-walk m next a)));
           at = w .ends ∙ ap (λ (k : ℕ). end a (take k (walk m next a))) j;
         }
 
     pub walked-next : f (getD next b 0) ≡ false → Walked f next m a (i + 1) (getD next b 0)
     walked-next e =
-        let s : firstIndex f (drop i (walk m next a)) ≡ suc (firstIndex f (drop (i + 1) (walk m next a))) =
-        rw (here, behind) (firstIndex-past f (getD next b 0) (walk (m - (i + 1)) next (getD next b 0)) e) in
+        let s : first-index f (drop i (walk m next a)) ≡ suc (first-index f (drop (i + 1) (walk m next a))) =
+        rw (here, behind) (first-index-past f (getD next b 0) (walk (m - (i + 1)) next (getD next b 0)) e) in
         let long : i < length (walk m next a) = omega (arith, length-walk m next a) in
         let t : take (i + 1) (walk m next a) ≡ take i (walk m next a) ++ (getD next b 0 ∷ []) =
         rw (add-one) (take-suc (walk m next a) i 0 long ∙ ap (λ (x : ℕ). take i (walk m next a) ++ (x ∷ [])) at-i) in
@@ -75,10 +75,10 @@ module _ (f : ℕ → Bool) (next : List ℕ) (m a i b : ℕ) (w : Walked f next
   pub walked-over : m ≤ i → Found f (walk m next a) a (record { found = false; before = b })
   walked-over h =
       let n : m - i ≡ 0 = omega arith in
-      let s : firstIndex f (drop i (walk m next a)) ≡ 0 = ap (firstIndex f) (w .left ∙ ap (λ (k : ℕ). walk k next b) n) in
-      let j : i ≡ firstIndex f (walk m next a) = omega (arith, w .first) in
+      let s : first-index f (drop i (walk m next a)) ≡ 0 = ap (first-index f) (w .left ∙ ap (λ (k : ℕ). walk k next b) n) in
+      let j : i ≡ first-index f (walk m next a) = omega (arith, w .first) in
       record {
-        is = sym (le-ltb (firstIndex f (walk m next a)) (length (walk m next a)) (omega (arith, length-walk m next a)));
+        is = sym (le-ltb (first-index f (walk m next a)) (length (walk m next a)) (omega (arith, length-walk m next a)));
         at = w .ends ∙ ap (λ (k : ℕ). end a (take k (walk m next a))) j;
       }
 
@@ -147,12 +147,12 @@ walk-at (suc m) next a (suc j) h = walk-at m next (getD next a 0) j (omega arith
 
 -- `ring_take` at the answers of `ring_find`
 module _ (next tail len : List ℕ) (t : ℕ) (f : ℕ → Bool) (s : Spot)
-    (found : Found f (ringOf next tail len t) (getD tail t 0) s) where
+    (found : Found f (ring-of next tail len t) (getD tail t 0) s) where
   queue : List ℕ
-  queue = ringOf next tail len t
+  queue = ring-of next tail len t
 
   j : ℕ
-  j = firstIndex f (ringOf next tail len t)
+  j = first-index f (ring-of next tail len t)
 
   pub ring-took : s .found ≡ true → (a p k : ℕ) → a ≡ s .before → p ≡ getD next a 0 → k ≡ getD len t 0 - 1
       → RingTook next tail len t f (set next a (getD next p 0)) (set tail t (s .before)) (set len t k) p
@@ -219,18 +219,18 @@ ring-splice next a b x y l m ca cb a∉ b∉ a≤ b≤ ha hb =
 -- `ring_move` at the tests' answers
 pub ring-moved : (next tail len : List ℕ) (f g : ℕ) (x y : Bool) (s : ℕ) → eqb (getD len f 0) 0 ≡ x → eqb (getD len g 0) 0 ≡ y
     → s ≡ joined (getD len g 0) (getD len f 0)
-    → RingMoved next tail len f g (movedNext x y next (getD tail f 0) (getD tail g 0)) (movedTail x tail g (getD tail f 0)) (set (set len f 0) g s)
+    → RingMoved next tail len f g (moved-next x y next (getD tail f 0) (getD tail g 0)) (moved-tail x tail g (getD tail f 0)) (set (set len f 0) g s)
 ring-moved next tail len f g x y s ex ey es = record {
-  links = ap₂ (λ (u v : Bool). movedNext u v next (getD tail f 0) (getD tail g 0)) (sym ex) (sym ey);
-  ends = ap (λ (u : Bool). movedTail u tail g (getD tail f 0)) (sym ex);
+  links = ap₂ (λ (u v : Bool). moved-next u v next (getD tail f 0) (getD tail g 0)) (sym ex) (sym ey);
+  ends = ap (λ (u : Bool). moved-tail u tail g (getD tail f 0)) (sym ex);
   size = ap (set (set len f 0) g) es;
 }
 
 -- `ring_pop` at the test's answers
 module _ (next tail len : List ℕ) (t : ℕ) where
-  pub pop-none : getD len t 0 ≡ 0 → RingTookAt next tail len t (ringOf next tail len t) 0 (getD tail t 0) next tail len 256
+  pub pop-none : getD len t 0 ≡ 0 → RingTookAt next tail len t (ring-of next tail len t) 0 (getD tail t 0) next tail len 256
   pop-none e =
-      let no : length (ringOf next tail len t) ≡ 0 = length-walk (getD len t 0) next (getD tail t 0) ∙ e in
+      let no : length (ring-of next tail len t) ≡ 0 = length-walk (getD len t 0) next (getD tail t 0) ∙ e in
       record {
         none = λ h. (refl, refl, refl, refl);
         place = λ h. absurd (omega arith);
@@ -240,11 +240,11 @@ module _ (next tail len : List ℕ) (t : ℕ) where
       }
 
   pub pop-some : (getD len t 0 ≡ 0 → ⊥) → (a p k : ℕ) → a ≡ getD tail t 0 → p ≡ getD next a 0 → k ≡ getD len t 0 - 1
-      → RingTookAt next tail len t (ringOf next tail len t) 0 (getD tail t 0) (set next a (getD next p 0)) tail (set len t k) p
+      → RingTookAt next tail len t (ring-of next tail len t) 0 (getD tail t 0) (set next a (getD next p 0)) tail (set len t k) p
   pop-some n a p k ea ep ek =
-      let l : length (ringOf next tail len t) ≡ getD len t 0 = length-walk (getD len t 0) next (getD tail t 0) in
-      let f : getD (ringOf next tail len t) 0 0 ≡ getD next (getD tail t 0) 0 = walk-at (getD len t 0) next (getD tail t 0) 0 (omega arith) in
-      let pf : p ≡ getD (ringOf next tail len t) 0 0 = ep ∙ ap (λ (x : ℕ). getD next x 0) ea ∙ sym f in
+      let l : length (ring-of next tail len t) ≡ getD len t 0 = length-walk (getD len t 0) next (getD tail t 0) in
+      let f : getD (ring-of next tail len t) 0 0 ≡ getD next (getD tail t 0) 0 = walk-at (getD len t 0) next (getD tail t 0) 0 (omega arith) in
+      let pf : p ≡ getD (ring-of next tail len t) 0 0 = ep ∙ ap (λ (x : ℕ). getD next x 0) ea ∙ sym f in
       record {
         none = λ h. absurd (omega arith);
         place = λ h. pf;

@@ -12,9 +12,9 @@ stop false n = suc n
 
 module _ {A : Type 0} where
   -- how many stand before the first that passes the test; all of them where none does
-  abbrev pub firstIndex : (A → Bool) → List A → ℕ
-  firstIndex f [] = 0
-  firstIndex f (x ∷ l) = stop (f x) (firstIndex f l)
+  abbrev pub first-index : (A → Bool) → List A → ℕ
+  first-index f [] = 0
+  first-index f (x ∷ l) = stop (f x) (first-index f l)
 
 abbrev pub one : Bool → ℕ
 one true = 1

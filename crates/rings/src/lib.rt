@@ -7,8 +7,8 @@ ghost use mathlib.Core.List.{List, [], _∷_, _++_};
 ghost use Prim.Native.Nat.{ℕ, _+_, _-_, _≤_, _<_};
 ghost use lib.ListN.{length, take, drop, getD, set};
 ghost use lib.Dec.{ltb};
-ghost use Rattle.rings.specs.Lists.{firstIndex, grown};
-ghost use Rattle.rings.specs.Rings.{walk, ringOf, eligibleAt, eligible, Found, RingTookAt, RingTook, linked, lengthened, joined, RingMove, PlaceAt};
+ghost use Rattle.rings.specs.Lists.{first-index, grown};
+ghost use Rattle.rings.specs.Rings.{walk, ring-of, eligible-at, eligible, Found, RingTookAt, RingTook, linked, lengthened, joined, RingMove, PlaceAt};
 
 // Whether a search found an eligible place, and the place before it.
 pub struct Spot {
@@ -23,7 +23,7 @@ fn wide(x: u8) -> usize
 }
 
 fn may_take(time: u64, ambiguous: u8, clock: u64, complete: bool) -> bool
-    ensures { λ r. ⌜ r ≡ eligibleAt time ambiguous clock complete ⌝ }
+    ensures { λ r. ⌜ r ≡ eligible-at time ambiguous clock complete ⌝ }
 {
     if time >= clock {
         return false;
@@ -101,7 +101,7 @@ pub fn ring_take(
 // Takes the first place of the table's queue: where the table is that of the free places, this finds one.
 pub fn ring_pop(next: &mut [u8; 256], tail: &[u8; 256], len: &mut [u16; 256], table: u8) -> usize
     ensures { λ r. ⌜ RingTookAt (now (next .entry)) (now (tail .entry)) (now (len .entry)) table
-        (ringOf (now (next .entry)) (now (tail .entry)) (now (len .entry)) table) 0 (getD (now (tail .entry)) table 0)
+        (ring-of (now (next .entry)) (now (tail .entry)) (now (len .entry)) table) 0 (getD (now (tail .entry)) table 0)
         (now (next .exit)) (now (tail .entry)) (now (len .exit)) r ⌝ }
 {
     let t = table as usize;
@@ -201,7 +201,7 @@ pub fn ring_move(next: &mut [u8; 256], tail: &mut [u8; 256], len: &mut [u16; 256
 
 // The place at an index of the table's queue, counted from 0; 256 where the queue is shorter.
 pub fn ring_at(next: &[u8; 256], tail: &[u8; 256], len: &[u16; 256], table: u8, index: u16) -> usize
-    ensures { λ r. ⌜ PlaceAt (ringOf (now (next .entry)) (now (tail .entry)) (now (len .entry)) table) index r ⌝ }
+    ensures { λ r. ⌜ PlaceAt (ring-of (now (next .entry)) (now (tail .entry)) (now (len .entry)) table) index r ⌝ }
 {
     let t = table as usize;
     let m = len[t];

@@ -11,10 +11,10 @@ use lib.Seq.{drop-nil}
 use lib.Dec.{ltb, leb}
 use borrow.Author.Tests.{ltb-true, lt-leb, le-leb, leb-true, leb-false, eqb-false}
 use Rattle.definitions.specs.Lists.{any-passes}
-use Rattle.rings.specs.Lists.{firstIndex}
+use Rattle.rings.specs.Lists.{first-index}
 use Rattle.rings.specs.Rings.{walk, Found}
 use Rattle.rings.proofs.Walks.{walk-at, length-walk}
-use Rattle.stores.specs.Placing.{placeIf}
+use Rattle.stores.specs.Placing.{place-if}
 
 true-is-not-false : {P : Type 0} → false ≡ true → P
 true-is-not-false e = absurd (eqb-false 0 0 (sym e) refl)
@@ -25,15 +25,15 @@ module _ (f : ℕ → Bool) (m : ℕ) (next : List ℕ) (a : ℕ) where
   l = walk m next a
 
   abbrev j : ℕ
-  j = firstIndex f (walk m next a)
+  j = first-index f (walk m next a)
 
-  pub found-place : (b : ℕ) → Found f (walk m next a) a (record { found = true; before = b }) → getD next b 0 ≡ placeIf (ltb j (length l)) (getD l j 0)
+  pub found-place : (b : ℕ) → Found f (walk m next a) a (record { found = true; before = b }) → getD next b 0 ≡ place-if (ltb j (length l)) (getD l j 0)
   found-place b found =
       let h : j < length l = ltb-true j (length l) (sym (found .is)) in
-      ap (λ (k : ℕ). getD next k 0) (found .at) ∙ sym (walk-at m next a j (omega (arith, h, length-walk m next a))) ∙ ap (λ (c : Bool). placeIf c (getD l j 0)) (found .is)
+      ap (λ (k : ℕ). getD next k 0) (found .at) ∙ sym (walk-at m next a j (omega (arith, h, length-walk m next a))) ∙ ap (λ (c : Bool). place-if c (getD l j 0)) (found .is)
 
-  pub found-none : (b : ℕ) → Found f (walk m next a) a (record { found = false; before = b }) → 256 ≡ placeIf (ltb j (length l)) (getD l j 0)
-  found-none b found = ap (λ (c : Bool). placeIf c (getD l j 0)) (found .is)
+  pub found-none : (b : ℕ) → Found f (walk m next a) a (record { found = false; before = b }) → 256 ≡ place-if (ltb j (length l)) (getD l j 0)
+  found-none b found = ap (λ (c : Bool). place-if c (getD l j 0)) (found .is)
 
 -- whether one from an index on passes the test: at step i of m, at place b
 module _ (test : ℕ → Bool) (next : List ℕ) (from m i b : ℕ) where

@@ -24,13 +24,13 @@ use Rattle.strands.specs.View as view
 use Rattle.stores.specs.declared.Strands.{Strands}
 use Rattle.stores.specs.declared.Answers.{Answers}
 use Rattle.stores.specs.declared.Tables.{Tables}
-use Rattle.stores.specs.View.{free, ring, noAnswer, answerAt, strandAt, flag, tableAt, tables}
+use Rattle.stores.specs.View.{free, ring, unread-answer, answer-at, strand-at, flag, held-table, tables}
 use Rattle.stores.specs.Sound.{waiting, SoundPlaces, SoundAnswers, SoundTables}
-use Rattle.stores.specs.Placing.{enqueued, freed, freePlace, movedTo}
-use Rattle.stores.specs.Storing.{strandsOf, cleared}
-use Rattle.stores.specs.Entries.{setIf}
+use Rattle.stores.specs.Placing.{enqueued, freed, free-place, moved-to}
+use Rattle.stores.specs.Storing.{strands-of, cleared}
+use Rattle.stores.specs.Entries.{set-if}
 use Rattle.stores.specs.Tabling.{marked}
-use Rattle.stores.specs.Answering.{answersOf, storedAnswer, clearedAnswers}
+use Rattle.stores.specs.Answering.{answers-of, answer-stored, cleared-answers}
 use Rattle.stores.proofs.Held.{times-at}
 use Rattle.stores.proofs.Waiting.{is-or-not, sound-grown, total-waiting}
 use Rattle.stores.proofs.Spans.{span-set, map-elem, map-elem-past}
@@ -39,39 +39,39 @@ use Rattle.stores.proofs.PlaceCases.{Freed, freed-sound}
 use Rattle.stores.proofs.PlaceMoves.{moved-own, moved-other, moved-sound}
 
 -- THE LIST OF TABLES, when the answers of one change
-pub answers-changed : (ts : Tables) (s : Strands) (a a′ : Answers) (t : ℕ) → t < ts .count → ((u : ℕ) → u < ts .count → (u ≡ t → ⊥) → answersOf a′ u ≡ answersOf a u)
-    → tables ts s a′ ≡ set (tables ts s a) t (with-answers (tableAt ts s a t) (answersOf a′ t))
+pub answers-changed : (ts : Tables) (s : Strands) (a a′ : Answers) (t : ℕ) → t < ts .count → ((u : ℕ) → u < ts .count → (u ≡ t → ⊥) → answers-of a′ u ≡ answers-of a u)
+    → tables ts s a′ ≡ set (tables ts s a) t (with-answers (held-table ts s a t) (answers-of a′ t))
 answers-changed ts s a a′ t h other =
-    span-set (tableAt ts s a) (tableAt ts s a′) (ts .count) t h (λ u k d. ap (with-answers (tableAt ts s a u)) (other u k d))
+    span-set (held-table ts s a) (held-table ts s a′) (ts .count) t h (λ u k d. ap (with-answers (held-table ts s a u)) (other u k d))
 
 -- LOOKUP: what stands at the place that `ring_at` finds
 module _ (ts : Tables) (s : Strands) (a : Answers) (t i r : ℕ) (found : PlaceAt (ring (a .places) t) i r) (sound : SoundPlaces (a .places) (ts .count) []) where
-  pub answer-there : r < 256 → answer (tableAt ts s a t) i ≡ some (answerAt a r)
+  pub answer-there : r < 256 → answer (held-table ts s a t) i ≡ some (answer-at a r)
   answer-there h = go (ltb i (length (ring (a .places) t))) refl
     where
-      go : (b : Bool) → ltb i (length (ring (a .places) t)) ≡ b → answer (tableAt ts s a t) i ≡ some (answerAt a r)
+      go : (b : Bool) → ltb i (length (ring (a .places) t)) ≡ b → answer (held-table ts s a t) i ≡ some (answer-at a r)
       go true e =
           let k : i < length (ring (a .places) t) = ltb-true i (length (ring (a .places) t)) e in
-          map-elem (answerAt a) (ring (a .places) t) i 0 k ∙ ap (λ (q : ℕ). some (answerAt a q)) (sym (found .there k))
+          map-elem (answer-at a) (ring (a .places) t) i 0 k ∙ ap (λ (q : ℕ). some (answer-at a q)) (sym (found .there k))
       go false e = absurd (omega (arith, found .past (ltb-false i (length (ring (a .places) t)) e)))
 
-  pub answer-past : 256 ≤ r → answer (tableAt ts s a t) i ≡ none
+  pub answer-past : 256 ≤ r → answer (held-table ts s a t) i ≡ none
   answer-past h = go (ltb i (length (ring (a .places) t))) refl
     where
-      go : (b : Bool) → ltb i (length (ring (a .places) t)) ≡ b → answer (tableAt ts s a t) i ≡ none
+      go : (b : Bool) → ltb i (length (ring (a .places) t)) ≡ b → answer (held-table ts s a t) i ≡ none
       go true e =
           let k : i < length (ring (a .places) t) = ltb-true i (length (ring (a .places) t)) e in
           let q : getD (ring (a .places) t) i 0 < a .places .top =
           below-top (a .places .next) (a .places .tail) (a .places .len) (a .places .top) (sound .rings) t (getD (ring (a .places) t) i 0) (times-at (ring (a .places) t) i k) in
           absurd (omega (arith, found .there k, sound .rings .room))
-      go false e = map-elem-past (answerAt a) (ring (a .places) t) i (ltb-false i (length (ring (a .places) t)) e)
+      go false e = map-elem-past (answer-at a) (ring (a .places) t) i (ltb-false i (length (ring (a .places) t)) e)
 
 -- HOW MANY: of a table, and of all
-pub answer-count-is : (ts : Tables) (s : Strands) (a : Answers) (t : ℕ) → next-answer-index (tableAt ts s a t) ≡ getD (a .places .len) t 0
-answer-count-is ts s a t = length-map (ring (a .places) t) (answerAt a) ∙ length-ring (a .places) t
+pub answer-count-is : (ts : Tables) (s : Strands) (a : Answers) (t : ℕ) → next-answer-index (held-table ts s a t) ≡ getD (a .places .len) t 0
+answer-count-is ts s a t = length-map (ring (a .places) t) (answer-at a) ∙ length-ring (a .places) t
 
 pub held-is : (ts : Tables) (s : Strands) (a : Answers) → total (λ t. length (t .answers)) (tables ts s a) ≡ waiting (a .places) (ts .count)
-held-is ts s a = total-waiting (tableAt ts s a) (λ t. length (t .answers)) (a .places) (λ u. length-map (ring (a .places) u) (answerAt a)) (ts .count)
+held-is ts s a = total-waiting (held-table ts s a) (λ t. length (t .answers)) (a .places) (λ u. length-map (ring (a .places) u) (answer-at a)) (ts .count)
 
 -- for one table more, which has no answer
 pub answers-grown : (a : Answers) (n : ℕ) → n < free → SoundAnswers a n → SoundAnswers a (suc n)
@@ -81,14 +81,14 @@ answers-grown a n room sound = record {
   stored = λ t q h k. go t q (ltb t n) refl h k;
 }
   where
-    go : (t q : ℕ) (b : Bool) → ltb t n ≡ b → t < suc n → 1 ≤ times q (ring (a .places) t) → SoundAnswer (getD (a .answers) q noAnswer)
+    go : (t q : ℕ) (b : Bool) → ltb t n ≡ b → t < suc n → 1 ≤ times q (ring (a .places) t) → SoundAnswer (getD (a .answers) q unread-answer)
     go t q true e h k = sound .stored t q (ltb-true t n e) k
     go t q false e h k = absurd (omega (arith, ap (times q) (sound .places .empty t (ltb-false t n e) (λ d. omega arith))))
 
 -- A NEW ANSWER
-module _ (a : Answers) (n t : ℕ) (x : Answer) (h : t < n) (sound : SoundAnswers a n) (good : SoundAnswer x) (room : freePlace (a .places) < 256) where
+module _ (a : Answers) (n t : ℕ) (x : Answer) (h : t < n) (sound : SoundAnswers a n) (good : SoundAnswer x) (room : free-place (a .places) < 256) where
   abbrev q : ℕ
-  q = freePlace (a .places)
+  q = free-place (a .places)
 
   abbrev f : Freed (a .places) n [] (freed (a .places)) q
   f = freed-sound (a .places) n [] (sound .places) room
@@ -106,35 +106,35 @@ module _ (a : Answers) (n t : ℕ) (x : Answer) (h : t < n) (sound : SoundAnswer
   apart : (u : ℕ) → u < n → times q (ring (a .places) u) ≡ 0
   apart u k = sym (ap (times q) (f .same u k)) ∙ f .sound .apart q u (omega (arith, times-self q))
 
-  here : getD (set (a .answers) q x) q noAnswer ≡ x
-  here = getD-set-same (a .answers) q x noAnswer (omega (arith, sound .long))
+  here : getD (set (a .answers) q x) q unread-answer ≡ x
+  here = getD-set-same (a .answers) q x unread-answer (omega (arith, sound .long))
 
-  away : (u : ℕ) → (u ≡ q → ⊥) → getD (set (a .answers) q x) u noAnswer ≡ getD (a .answers) u noAnswer
-  away u d = getD-set-other (a .answers) q u x noAnswer d
+  away : (u : ℕ) → (u ≡ q → ⊥) → getD (set (a .answers) q x) u unread-answer ≡ getD (a .answers) u unread-answer
+  away u d = getD-set-other (a .answers) q u x unread-answer d
 
-  kept : (u : ℕ) → u < n → map (answerAt (storedAnswer t x a)) (ring (a .places) u) ≡ answersOf a u
-  kept u k = map-cong (answerAt (storedAnswer t x a)) (answerAt a) (ring (a .places) u)
+  kept : (u : ℕ) → u < n → map (answer-at (answer-stored t x a)) (ring (a .places) u) ≡ answers-of a u
+  kept u k = map-cong (answer-at (answer-stored t x a)) (answer-at a) (ring (a .places) u)
       (all-map (λ y d. ap view.answer (away y d)) (ring (a .places) u) (absent-all q (ring (a .places) u) (apart u k)))
 
-  pub stored-answer-own : answersOf (storedAnswer t x a) t ≡ push (answersOf a t) (view.answer x)
+  pub stored-answer-own : answers-of (answer-stored t x a) t ≡ push (answers-of a t) (view.answer x)
   stored-answer-own =
-      ap (map (answerAt (storedAnswer t x a))) own ∙ map-append (answerAt (storedAnswer t x a)) (ring (a .places) t) (q ∷ [])
+      ap (map (answer-at (answer-stored t x a))) own ∙ map-append (answer-at (answer-stored t x a)) (ring (a .places) t) (q ∷ [])
       ∙ ap₂ (λ (l : List said.Answer) (y : said.Answer). push l y) (kept t h) (ap view.answer here)
 
-  pub stored-answer-other : (u : ℕ) → u < n → (u ≡ t → ⊥) → answersOf (storedAnswer t x a) u ≡ answersOf a u
-  stored-answer-other u k d = ap (map (answerAt (storedAnswer t x a))) (other u k d) ∙ kept u k
+  pub stored-answer-other : (u : ℕ) → u < n → (u ≡ t → ⊥) → answers-of (answer-stored t x a) u ≡ answers-of a u
+  stored-answer-other u k d = ap (map (answer-at (answer-stored t x a))) (other u k d) ∙ kept u k
 
-  pub stored-answer-sound : SoundAnswers (storedAnswer t x a) n
+  pub stored-answer-sound : SoundAnswers (answer-stored t x a) n
   stored-answer-sound = record {
     places = enqueued-sound (freed (a .places)) n [] q t h (f .sound);
     long = length-set (a .answers) q x ∙ sound .long;
-    stored = λ u y k i. is-or-not q (λ z. 1 ≤ times z (ring (enqueued t q (freed (a .places))) u) → SoundAnswer (getD (set (a .answers) q x) z noAnswer))
+    stored = λ u y k i. is-or-not q (λ z. 1 ≤ times z (ring (enqueued t q (freed (a .places))) u) → SoundAnswer (getD (set (a .answers) q x) z unread-answer))
         (λ j. subst SoundAnswer (sym here) good)
         (λ z d j. subst SoundAnswer (sym (away z d)) (old u z k d j)) y i;
   }
     where
-      old : (u z : ℕ) → u < n → (z ≡ q → ⊥) → 1 ≤ times z (ring (enqueued t q (freed (a .places))) u) → SoundAnswer (getD (a .answers) z noAnswer)
-      old u z k d j = is-or-not t (λ v. v < n → 1 ≤ times z (ring (enqueued t q (freed (a .places))) v) → SoundAnswer (getD (a .answers) z noAnswer))
+      old : (u z : ℕ) → u < n → (z ≡ q → ⊥) → 1 ≤ times z (ring (enqueued t q (freed (a .places))) u) → SoundAnswer (getD (a .answers) z unread-answer)
+      old u z k d j = is-or-not t (λ v. v < n → 1 ≤ times z (ring (enqueued t q (freed (a .places))) v) → SoundAnswer (getD (a .answers) z unread-answer))
           (λ i c. sound .stored t z h (omega (arith, ap (times z) own, times-append z (ring (a .places) t) (q ∷ []), absent)))
           (λ v e i c. sound .stored v z i (subst (λ (l : List ℕ). 1 ≤ times z l) (other v i e) c)) u k j
         where
@@ -142,17 +142,17 @@ module _ (a : Answers) (n t : ℕ) (x : Answer) (h : t < n) (sound : SoundAnswer
           absent = omega (arith, ap one (ne-eqb z q d))
 
   pub stored-answer-view : (ts : Tables) (s : Strands) → ts .count ≡ n
-      → tables ts s (storedAnswer t x a) ≡ set (tables ts s a) t (with-answers (tableAt ts s a t) (push (answersOf a t) (view.answer x)))
+      → tables ts s (answer-stored t x a) ≡ set (tables ts s a) t (with-answers (held-table ts s a t) (push (answers-of a t) (view.answer x)))
   stored-answer-view ts s e =
-      answers-changed ts s a (storedAnswer t x a) t (omega arith) (λ u k d. stored-answer-other u (omega arith) d)
-      ∙ ap (λ (l : List said.Answer). set (tables ts s a) t (with-answers (tableAt ts s a t) l)) stored-answer-own
+      answers-changed ts s a (answer-stored t x a) t (omega arith) (λ u k d. stored-answer-other u (omega arith) d)
+      ∙ ap (λ (l : List said.Answer). set (tables ts s a) t (with-answers (held-table ts s a t) l)) stored-answer-own
 
 -- FREE THEM ALL
-pub cleared-answers-sound : (a : Answers) (n t : ℕ) → t < n → SoundAnswers a n → SoundAnswers (clearedAnswers t a) n
+pub cleared-answers-sound : (a : Answers) (n t : ℕ) → t < n → SoundAnswers a n → SoundAnswers (cleared-answers t a) n
 cleared-answers-sound a n t h sound = record {
   places = moved-sound (a .places) n [] t h (sound .places);
   long = sound .long;
-  stored = λ u q k i. is-or-not t (λ v. v < n → 1 ≤ times q (ring (movedTo t free (a .places)) v) → SoundAnswer (getD (a .answers) q noAnswer))
+  stored = λ u q k i. is-or-not t (λ v. v < n → 1 ≤ times q (ring (moved-to t free (a .places)) v) → SoundAnswer (getD (a .answers) q unread-answer))
       (λ j c. absurd (omega (arith, ap (times q) (moved-own (a .places) n [] t h (sound .places)))))
       (λ v d j c. sound .stored v q j (subst (λ (l : List ℕ). 1 ≤ times q l) (moved-other (a .places) n [] t h (sound .places) v (λ e. omega (arith, sound .places .few)) d) c)) u k i;
 }
@@ -163,7 +163,7 @@ module _ (ts : Tables) (s : Strands) (a : Answers) (held : List ℕ) (t : ℕ) (
   ts′ = record { count = ts .count; goal = ts .goal; coinductive = ts .coinductive; floundered = set (ts .floundered) t 1; complete = ts .complete }
 
   marked-is : marked t ts ≡ ts′
-  marked-is = ap (λ (b : Bool). record { count = ts .count; goal = ts .goal; coinductive = ts .coinductive; floundered = setIf b t 1 (ts .floundered); complete = ts .complete }) (lt-ltb t 64 (omega (arith, sound .few)))
+  marked-is = ap (λ (b : Bool). record { count = ts .count; goal = ts .goal; coinductive = ts .coinductive; floundered = set-if b t 1 (ts .floundered); complete = ts .complete }) (lt-ltb t 64 (omega (arith, sound .few)))
 
   pub marked-sound : SoundTables (marked t ts)
   marked-sound = subst SoundTables (sym marked-is) (record {
@@ -175,20 +175,20 @@ module _ (ts : Tables) (s : Strands) (a : Answers) (held : List ℕ) (t : ℕ) (
   })
 
   abbrev table-with : ℕ → (floundered : ℕ) → List said.Answer → List said-strand.Strand → Table
-  table-with u f l m = record { table-goal = getD (ts .goal) u 0; coinductive-goal = flag (getD (ts .coinductive) u 0); floundered = flag f; answers = l; strands = m; answer-mode = tableAt ts s a u .answer-mode }
+  table-with u f l m = record { table-goal = getD (ts .goal) u 0; coinductive-goal = flag (getD (ts .coinductive) u 0); floundered = flag f; answers = l; strands = m; answer-mode = held-table ts s a u .answer-mode }
 
   table-is : (u f f′ : ℕ) (l l′ : List said.Answer) (m m′ : List said-strand.Strand) → f ≡ f′ → l ≡ l′ → m ≡ m′ → table-with u f l m ≡ table-with u f′ l′ m′
   table-is u f f′ l l′ m m′ e c d = ap₂ (λ (x : List said.Answer) (y : List said-strand.Strand). table-with u f x y) c d ∙ ap (λ (x : ℕ). table-with u x l′ m′) e
 
-  pub marked-view : tables (marked t ts) (cleared t s) (clearedAnswers t a) ≡ set (tables ts s a) t (mark-floundered (tableAt ts s a t))
+  pub marked-view : tables (marked t ts) (cleared t s) (cleared-answers t a) ≡ set (tables ts s a) t (mark-floundered (held-table ts s a t))
   marked-view =
-      ap (λ (r : Tables). tables r (cleared t s) (clearedAnswers t a)) marked-is
-      ∙ span-set (tableAt ts s a) (tableAt ts′ (cleared t s) (clearedAnswers t a)) (ts .count) t h
-      (λ u k d. table-is u (getD (set (ts .floundered) t 1) u 0) (getD (ts .floundered) u 0) (answersOf (clearedAnswers t a) u) (answersOf a u) (strandsOf (cleared t s) u) (strandsOf s u)
+      ap (λ (r : Tables). tables r (cleared t s) (cleared-answers t a)) marked-is
+      ∙ span-set (held-table ts s a) (held-table ts′ (cleared t s) (cleared-answers t a)) (ts .count) t h
+      (λ u k d. table-is u (getD (set (ts .floundered) t 1) u 0) (getD (ts .floundered) u 0) (answers-of (cleared-answers t a) u) (answers-of a u) (strands-of (cleared t s) u) (strands-of s u)
       (getD-set-other (ts .floundered) t u 1 0 d)
-      (ap (map (answerAt a)) (moved-other (a .places) (ts .count) [] t h rs u (λ e. omega (arith, rs .few)) d))
-      (ap (map (strandAt s)) (moved-other (s .places) (ts .count) held t h ss u (λ e. omega (arith, ss .few)) d)))
+      (ap (map (answer-at a)) (moved-other (a .places) (ts .count) [] t h rs u (λ e. omega (arith, rs .few)) d))
+      (ap (map (strand-at s)) (moved-other (s .places) (ts .count) held t h ss u (λ e. omega (arith, ss .few)) d)))
       ∙ ap (set (tables ts s a) t)
-      (table-is t (getD (set (ts .floundered) t 1) t 0) 1 (answersOf (clearedAnswers t a) t) [] (strandsOf (cleared t s) t) []
+      (table-is t (getD (set (ts .floundered) t 1) t 0) 1 (answers-of (cleared-answers t a) t) [] (strands-of (cleared t s) t) []
       (getD-set-same (ts .floundered) t 1 0 (omega (arith, sound .few, sound .long-floundered)))
-      (ap (map (answerAt a)) (moved-own (a .places) (ts .count) [] t h rs)) (ap (map (strandAt s)) (moved-own (s .places) (ts .count) held t h ss)))
+      (ap (map (answer-at a)) (moved-own (a .places) (ts .count) [] t h rs)) (ap (map (strand-at s)) (moved-own (s .places) (ts .count) held t h ss)))

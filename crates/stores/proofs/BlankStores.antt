@@ -12,9 +12,9 @@ use Rattle.stores.specs.declared.Strands.{Strands}
 use Rattle.stores.specs.declared.Answers.{Answers}
 use Rattle.stores.specs.View.{free, tables, entered}
 use Rattle.stores.specs.Sound.{SoundPlaces, SoundTables, SoundStack}
-use Rattle.stores.specs.Blank.{blankPlaces, blankTables, blankStack, BlankStrands, BlankAnswers}
+use Rattle.stores.specs.Blank.{blank-places, blank-tables, blank-stack, BlankStrands, BlankAnswers}
 
-pub blank-places-sound : SoundPlaces blankPlaces 0 []
+pub blank-places-sound : SoundPlaces blank-places 0 []
 blank-places-sound = record {
   rings = ring-start-sound;
   few = omega arith;
@@ -25,7 +25,7 @@ blank-places-sound = record {
   all = omega (arith, ap length (ring-start free (replicate 256 0) (replicate 256 0)));
 }
 
-blank-strands-of : (l : List Strand) → length l ≡ 256 → BlankStrands (record { strands = l; time = replicate 256 0; ambiguous = replicate 256 0; places = blankPlaces })
+blank-strands-of : (l : List Strand) → length l ≡ 256 → BlankStrands (record { strands = l; time = replicate 256 0; ambiguous = replicate 256 0; places = blank-places })
 blank-strands-of l long = record {
   places = refl;
   time = refl;
@@ -40,7 +40,7 @@ blank-strands-of l long = record {
   };
 }
 
-blank-answers-of : (l : List Answer) → length l ≡ 256 → BlankAnswers (record { answers = l; places = blankPlaces })
+blank-answers-of : (l : List Answer) → length l ≡ 256 → BlankAnswers (record { answers = l; places = blank-places })
 blank-answers-of l long = record {
   places = refl;
   sound = record {
@@ -50,16 +50,16 @@ blank-answers-of l long = record {
   };
 }
 
-pub blank-strands : (x : Strand) (p : Places) → p ≡ blankPlaces → BlankStrands (record { strands = replicate 256 x; time = replicate 256 0; ambiguous = replicate 256 0; places = p })
+pub blank-strands : (x : Strand) (p : Places) → p ≡ blank-places → BlankStrands (record { strands = replicate 256 x; time = replicate 256 0; ambiguous = replicate 256 0; places = p })
 blank-strands x p e =
     subst (λ (r : Places). BlankStrands (record { strands = replicate 256 x; time = replicate 256 0; ambiguous = replicate 256 0; places = r })) (sym e)
     (blank-strands-of (replicate 256 x) (length-replicate 256 x))
 
-pub blank-answers : (x : Answer) (p : Places) → p ≡ blankPlaces → BlankAnswers (record { answers = replicate 256 x; places = p })
+pub blank-answers : (x : Answer) (p : Places) → p ≡ blank-places → BlankAnswers (record { answers = replicate 256 x; places = p })
 blank-answers x p e =
     subst (λ (r : Places). BlankAnswers (record { answers = replicate 256 x; places = r })) (sym e) (blank-answers-of (replicate 256 x) (length-replicate 256 x))
 
-pub blank-tables-sound : SoundTables blankTables
+pub blank-tables-sound : SoundTables blank-tables
 blank-tables-sound = record {
   few = omega arith;
   long-goal = length-replicate {A = ℕ} 64 0;
@@ -68,10 +68,10 @@ blank-tables-sound = record {
   long-complete = length-replicate {A = ℕ} 64 0;
 }
 
-pub blank-tables-view : (s : Strands) (a : Answers) → tables blankTables s a ≡ []
+pub blank-tables-view : (s : Strands) (a : Answers) → tables blank-tables s a ≡ []
 blank-tables-view s a = refl
 
-pub blank-stack-sound : SoundStack blankStack
+pub blank-stack-sound : SoundStack blank-stack
 blank-stack-sound = record {
   few = omega arith;
   long-table = length-replicate {A = ℕ} 64 0;
@@ -82,5 +82,5 @@ blank-stack-sound = record {
   places = λ i h. absurd (omega arith);
 }
 
-pub blank-stack-view : (s : Strands) → entered blankStack s ≡ []
+pub blank-stack-view : (s : Strands) → entered blank-stack s ≡ []
 blank-stack-view s = refl

@@ -17,9 +17,9 @@ use Rattle.strands.specs.View.{view, Sound}
 use Rattle.stores.specs.declared.Strands.{Strands}
 use Rattle.stores.specs.declared.Answers.{Answers}
 use Rattle.stores.specs.declared.Tables.{Tables}
-use Rattle.stores.specs.View.{ring, strandAt, tableAt, tables}
+use Rattle.stores.specs.View.{ring, strand-at, held-table, tables}
 use Rattle.stores.specs.Sound.{waiting, SoundStrands, SoundAnswers, SoundTables}
-use Rattle.stores.specs.Storing.{storedAll}
+use Rattle.stores.specs.Storing.{stored-each}
 use Rattle.stores.specs.Tabling.{inserted}
 use Rattle.book.proofs.Spans.{span-length}
 use Rattle.stores.proofs.StrandSound.{strands-grown}
@@ -67,7 +67,7 @@ module _ (ts : Tables) (s : Strands) (a : Answers) (held : List ℕ) (g : ℕ) (
     all : StoredAll s (suc n) held n xs
     all = stored-all s (suc n) held n xs (omega arith) (strands-grown s n held room ss) good (omega (arith, waiting-more))
 
-    pub built : Built ts (inserted g co false ts) s (storedAll (ts .count) xs s) a held (with-strands (new g co) (map view xs))
+    pub built : Built ts (inserted g co false ts) s (stored-each (ts .count) xs s) a held (with-strands (new g co) (map view xs))
     built = record {
       count = inserted-count ts s a g co false sound room;
       tables-sound = inserted-sound ts s a g co false sound room;
@@ -76,7 +76,7 @@ module _ (ts : Tables) (s : Strands) (a : Answers) (held : List ℕ) (g : ℕ) (
       means =
           stored-all-view s (suc n) held n xs ts′ a (inserted-count ts s a g co false sound room) (omega arith) all
           ∙ ap₂ (λ (l : List Table) (t : Table). set l n t) (inserted-view ts s a g co false sound room no-answers no-strands)
-          (ap₂ (λ (t : Table) (l : List said-strand.Strand). with-strands t (l ++ map view xs)) (inserted-new ts s a g co false sound room no-answers no-strands) (ap (map (strandAt s)) no-strands))
-          ∙ ap (λ (k : ℕ). set (push (tables ts s a) (new g co)) k (with-strands (new g co) (map view xs))) (sym (span-length (tableAt ts s a) 0 n))
+          (ap₂ (λ (t : Table) (l : List said-strand.Strand). with-strands t (l ++ map view xs)) (inserted-new ts s a g co false sound room no-answers no-strands) (ap (map (strand-at s)) no-strands))
+          ∙ ap (λ (k : ℕ). set (push (tables ts s a) (new g co)) k (with-strands (new g co) (map view xs))) (sym (span-length (held-table ts s a) 0 n))
           ∙ set-append-seam (tables ts s a) (new g co) [] (with-strands (new g co) (map view xs));
     }

@@ -16,9 +16,9 @@ use Rattle.definitions.specs.Stack.{StackEntry, with-active, no-caller, caller,
 use Rattle.definitions.specs.Strand as said-strand
 use Rattle.stores.specs.declared.Strands.{Strands}
 use Rattle.stores.specs.declared.Stack.{Stack}
-use Rattle.stores.specs.View.{strandAt, activeAt, entryAt, entries, entered, activePlaces}
+use Rattle.stores.specs.View.{strand-at, active-strand-at, entry-at, entries, entered, active-places}
 use Rattle.stores.specs.Sound.{SoundStack}
-use Rattle.stores.specs.Entries.{setIf, addIf, placeIf, hasCaller, callerPlace, callerWritten, topWritten, pushed, popped, callerTaken, activated}
+use Rattle.stores.specs.Entries.{set-if, add-if, place-if, has-caller, caller-place, caller-written, top-written, pushed, popped, caller-taken, activated}
 use Rattle.stores.proofs.EntryCases.{some-caller, some-top}
 use Rattle.stores.proofs.EntryViews.{entries-same}
 
@@ -38,49 +38,49 @@ module _ (k : Stack) (s : Strands) (sound : SoundStack k) (two : 2 ≤ k .depth)
   abbrev p : ℕ
   p = getD (k .active) j 0
 
-  has : hasCaller (k .depth) ≡ true
+  has : has-caller (k .depth) ≡ true
   has = some-caller (k .depth) two (sound .few)
 
-  pub caller-place-is : callerPlace (k .depth) (k .active) ≡ getD (k .active) (k .depth - 2) 0
-  caller-place-is = ap (λ (b : Bool). placeIf b p) has
+  pub caller-place-is : caller-place (k .depth) (k .active) ≡ getD (k .active) (k .depth - 2) 0
+  caller-place-is = ap (λ (b : Bool). place-if b p) has
 
   abbrev k′ : Stack
   k′ = record { depth = k .depth - 1; table = k .table; clock = k .clock; positive = k .positive; negative = k .negative; active = set (k .active) j 256 }
 
-  taken-is : callerTaken k ≡ k′
-  taken-is = ap (λ (b : Bool). record { depth = k .depth - 1; table = k .table; clock = k .clock; positive = k .positive; negative = k .negative; active = setIf b j 256 (k .active) }) has
+  taken-is : caller-taken k ≡ k′
+  taken-is = ap (λ (b : Bool). record { depth = k .depth - 1; table = k .table; clock = k .clock; positive = k .positive; negative = k .negative; active = set-if b j 256 (k .active) }) has
 
-  whole : entered k s ≡ entryAt k s (suc j) ∷ entryAt k s j ∷ entries k s j
+  whole : entered k s ≡ entry-at k s (suc j) ∷ entry-at k s j ∷ entries k s j
   whole = let e : k .depth ≡ suc (suc j) = omega arith in ap (entries k s) e
 
-  module _ (some-strand : callerPlace (k .depth) (k .active) ≡ 256 → ⊥) where
-    is-some : activeAt s p ≡ some (strandAt s p)
-    is-some = ap (λ (b : Bool). elim b as (λ (c : Bool). Option said-strand.Strand) [ true ↦ none | false ↦ some (strandAt s p) ]) (ne-eqb p 256 (λ e. some-strand (caller-place-is ∙ e)))
+  module _ (some-strand : caller-place (k .depth) (k .active) ≡ 256 → ⊥) where
+    is-some : active-strand-at s p ≡ some (strand-at s p)
+    is-some = ap (λ (b : Bool). elim b as (λ (c : Bool). Option said-strand.Strand) [ true ↦ none | false ↦ some (strand-at s p) ]) (ne-eqb p 256 (λ e. some-strand (caller-place-is ∙ e)))
 
-    popped-top : entered (popped k) s ≡ entryAt k s j ∷ entries k s j
-    popped-top = let e : k .depth - 1 ≡ suc j = omega arith in ap (entries (popped k) s) e ∙ ap (λ (es : List StackEntry). entryAt k s j ∷ es) (entries-same k (popped k) s s j (λ i h. refl))
+    popped-top : entered (popped k) s ≡ entry-at k s j ∷ entries k s j
+    popped-top = let e : k .depth - 1 ≡ suc j = omega arith in ap (entries (popped k) s) e ∙ ap (λ (es : List StackEntry). entry-at k s j ∷ es) (entries-same k (popped k) s s j (λ i h. refl))
 
-    taken-top : entered (callerTaken k) s ≡ with-active (entryAt k s j) none ∷ entries k s j
+    taken-top : entered (caller-taken k) s ≡ with-active (entry-at k s j) none ∷ entries k s j
     taken-top =
         let e : k .depth - 1 ≡ suc j = omega arith in
         ap (λ (r : Stack). entered r s) taken-is ∙ ap (entries k′ s) e
-        ∙ ap₂ (λ (x : Option said-strand.Strand) (es : List StackEntry). with-active (entryAt k s j) x ∷ es)
-        (ap (activeAt s) (getD-set-same (k .active) j 256 0 (omega (arith, sound .few, sound .long-active))))
-        (entries-same k k′ s s j (λ i h. ap (λ (q : ℕ). with-active (entryAt k s i) (activeAt s q)) (getD-set-other (k .active) j i 256 0 (λ e. omega arith))))
+        ∙ ap₂ (λ (x : Option said-strand.Strand) (es : List StackEntry). with-active (entry-at k s j) x ∷ es)
+        (ap (active-strand-at s) (getD-set-same (k .active) j 256 0 (omega (arith, sound .few, sound .long-active))))
+        (entries-same k k′ s s j (λ i h. ap (λ (q : ℕ). with-active (entry-at k s i) (active-strand-at s q)) (getD-set-other (k .active) j i 256 0 (λ e. omega arith))))
 
-    pub borrow-caller-view : pop-and-borrow-caller-strand (entered k s) ≡ go (caller (strandAt s (callerPlace (k .depth) (k .active))) (entered (popped k) s))
+    pub borrow-caller-view : pop-and-borrow-caller-strand (entered k s) ≡ go (caller (strand-at s (caller-place (k .depth) (k .active))) (entered (popped k) s))
     borrow-caller-view =
         ap pop-and-borrow-caller-strand whole
-        ∙ ap (λ (o : Option said-strand.Strand). unwrap o >>= λ x. go (caller x (entryAt k s j ∷ entries k s j))) is-some
-        ∙ ap₂ (λ (x : said-strand.Strand) (es : List StackEntry). go (caller x es)) (ap (strandAt s) (sym caller-place-is)) (sym popped-top)
+        ∙ ap (λ (o : Option said-strand.Strand). unwrap o >>= λ x. go (caller x (entry-at k s j ∷ entries k s j))) is-some
+        ∙ ap₂ (λ (x : said-strand.Strand) (es : List StackEntry). go (caller x es)) (ap (strand-at s) (sym caller-place-is)) (sym popped-top)
 
-    pub take-caller-view : pop-and-take-caller-strand (entered k s) ≡ go (caller (strandAt s (callerPlace (k .depth) (k .active))) (entered (callerTaken k) s))
+    pub take-caller-view : pop-and-take-caller-strand (entered k s) ≡ go (caller (strand-at s (caller-place (k .depth) (k .active))) (entered (caller-taken k) s))
     take-caller-view =
         ap pop-and-take-caller-strand whole
-        ∙ ap (λ (o : Option said-strand.Strand). unwrap o >>= λ x. go (caller x (with-active (entryAt k s j) none ∷ entries k s j))) is-some
-        ∙ ap₂ (λ (x : said-strand.Strand) (es : List StackEntry). go (caller x es)) (ap (strandAt s) (sym caller-place-is)) (sym taken-top)
+        ∙ ap (λ (o : Option said-strand.Strand). unwrap o >>= λ x. go (caller x (with-active (entry-at k s j) none ∷ entries k s j))) is-some
+        ∙ ap₂ (λ (x : said-strand.Strand) (es : List StackEntry). go (caller x es)) (ap (strand-at s) (sym caller-place-is)) (sym taken-top)
 
-  pub take-caller-sound : SoundStack (callerTaken k)
+  pub take-caller-sound : SoundStack (caller-taken k)
   take-caller-sound = subst SoundStack (sym taken-is) (record {
     few = omega (arith, sound .few);
     long-table = sound .long-table;
@@ -98,48 +98,48 @@ module _ (k : Stack) (s : Strands) (sound : SoundStack k) (two : 2 ≤ k .depth)
           omega (arith, getD-set-other (k .active) j i 256 0 n, sound .places i (omega arith))
 
 -- THE PLACES THAT THE ENTRIES HOLD
-pub places-same : (l m : List ℕ) (n : ℕ) → ((i : ℕ) → i < n → getD m i 0 ≡ getD l i 0) → activePlaces m n ≡ activePlaces l n
+pub places-same : (l m : List ℕ) (n : ℕ) → ((i : ℕ) → i < n → getD m i 0 ≡ getD l i 0) → active-places m n ≡ active-places l n
 places-same l m zero h = refl
 places-same l m (suc n) h =
     ap₂ (λ (x : ℕ) (r : List ℕ). elim (eqb x 256) [ true ↦ r | false ↦ x ∷ r ]) (h n (omega arith)) (places-same l m n (λ i k. h i (omega arith)))
 
-place-none : (l : List ℕ) (n : ℕ) → getD l n 0 ≡ 256 → activePlaces l (suc n) ≡ activePlaces l n
-place-none l n e = ap (λ (b : Bool). elim b as (λ (c : Bool). List ℕ) [ true ↦ activePlaces l n | false ↦ getD l n 0 ∷ activePlaces l n ]) (eq-eqb (getD l n 0) 256 e)
+place-none : (l : List ℕ) (n : ℕ) → getD l n 0 ≡ 256 → active-places l (suc n) ≡ active-places l n
+place-none l n e = ap (λ (b : Bool). elim b as (λ (c : Bool). List ℕ) [ true ↦ active-places l n | false ↦ getD l n 0 ∷ active-places l n ]) (eq-eqb (getD l n 0) 256 e)
 
-place-some : (l : List ℕ) (n : ℕ) → (getD l n 0 ≡ 256 → ⊥) → activePlaces l (suc n) ≡ getD l n 0 ∷ activePlaces l n
-place-some l n d = ap (λ (b : Bool). elim b as (λ (c : Bool). List ℕ) [ true ↦ activePlaces l n | false ↦ getD l n 0 ∷ activePlaces l n ]) (ne-eqb (getD l n 0) 256 d)
+place-some : (l : List ℕ) (n : ℕ) → (getD l n 0 ≡ 256 → ⊥) → active-places l (suc n) ≡ getD l n 0 ∷ active-places l n
+place-some l n d = ap (λ (b : Bool). elim b as (λ (c : Bool). List ℕ) [ true ↦ active-places l n | false ↦ getD l n 0 ∷ active-places l n ]) (ne-eqb (getD l n 0) 256 d)
 
 -- as many as the definitions count
-pub active-is : (k : Stack) (s : Strands) (n : ℕ) → active (entries k s n) ≡ length (activePlaces (k .active) n)
+pub active-is : (k : Stack) (s : Strands) (n : ℕ) → active (entries k s n) ≡ length (active-places (k .active) n)
 active-is k s zero = refl
 active-is k s (suc n) = at (eqb (getD (k .active) n 0) 256) (active-is k s n)
   where
-    at : (b : Bool) → active (entries k s n) ≡ length (activePlaces (k .active) n)
-        → active-count (elim b as (λ (c : Bool). Option said-strand.Strand) [ true ↦ none | false ↦ some (strandAt s (getD (k .active) n 0)) ]) + active (entries k s n)
-        ≡ length {A = ℕ} (elim b as (λ (c : Bool). List ℕ) [ true ↦ activePlaces (k .active) n | false ↦ getD (k .active) n 0 ∷ activePlaces (k .active) n ])
+    at : (b : Bool) → active (entries k s n) ≡ length (active-places (k .active) n)
+        → active-count (elim b as (λ (c : Bool). Option said-strand.Strand) [ true ↦ none | false ↦ some (strand-at s (getD (k .active) n 0)) ]) + active (entries k s n)
+        ≡ length {A = ℕ} (elim b as (λ (c : Bool). List ℕ) [ true ↦ active-places (k .active) n | false ↦ getD (k .active) n 0 ∷ active-places (k .active) n ])
     at true e = omega arith
     at false e = omega arith
 
 -- a push holds nothing more
-pub push-places : (k : Stack) (t time most : ℕ) → SoundStack k → k .depth < 64 → activePlaces (pushed t time most k .active) (pushed t time most k .depth) ≡ activePlaces (k .active) (k .depth)
+pub push-places : (k : Stack) (t time most : ℕ) → SoundStack k → k .depth < 64 → active-places (pushed t time most k .active) (pushed t time most k .depth) ≡ active-places (k .active) (k .depth)
 push-places k t time most sound room =
     let l : List ℕ = set (k .active) (k .depth) 256 in
-    ap₂ (λ (m : List ℕ) (n : ℕ). activePlaces m n) (ap (λ (b : Bool). setIf b (k .depth) 256 (k .active)) (lt-ltb (k .depth) 64 room)) (ap (λ (b : Bool). addIf b (k .depth)) (lt-ltb (k .depth) 64 room) ∙ add-one (k .depth))
+    ap₂ (λ (m : List ℕ) (n : ℕ). active-places m n) (ap (λ (b : Bool). set-if b (k .depth) 256 (k .active)) (lt-ltb (k .depth) 64 room)) (ap (λ (b : Bool). add-if b (k .depth)) (lt-ltb (k .depth) 64 room) ∙ add-one (k .depth))
     ∙ place-none l (k .depth) (getD-set-same (k .active) (k .depth) 256 0 (omega (arith, sound .long-active)))
     ∙ places-same (k .active) l (k .depth) (λ i h. getD-set-other (k .active) (k .depth) i 256 0 (λ e. omega arith))
 
 -- a pop of an entry that holds nothing
-pub pop-places : (k : Stack) → 1 ≤ k .depth → getD (k .active) (k .depth - 1) 0 ≡ 256 → activePlaces (k .active) (k .depth) ≡ activePlaces (popped k .active) (popped k .depth)
-pop-places k h e = let d : k .depth ≡ suc (k .depth - 1) = omega arith in ap (activePlaces (k .active)) d ∙ place-none (k .active) (k .depth - 1) e
+pub pop-places : (k : Stack) → 1 ≤ k .depth → getD (k .active) (k .depth - 1) 0 ≡ 256 → active-places (k .active) (k .depth) ≡ active-places (popped k .active) (popped k .depth)
+pop-places k h e = let d : k .depth ≡ suc (k .depth - 1) = omega arith in ap (active-places (k .active)) d ∙ place-none (k .active) (k .depth - 1) e
 
 module _ (k : Stack) (sound : SoundStack k) (h : 1 ≤ k .depth) where
   abbrev top : ℕ
   top = k .depth - 1
 
-  written : (x : ℕ) → topWritten (k .depth) x (k .active) ≡ set (k .active) (k .depth - 1) x
-  written x = ap (λ (b : Bool). setIf b top x (k .active)) (some-top (k .depth) (λ e. omega arith) (omega (arith, sound .few)))
+  written : (x : ℕ) → top-written (k .depth) x (k .active) ≡ set (k .active) (k .depth - 1) x
+  written x = ap (λ (b : Bool). set-if b top x (k .active)) (some-top (k .depth) (λ e. omega arith) (omega (arith, sound .few)))
 
-  beneath : (x : ℕ) → activePlaces (set (k .active) top x) top ≡ activePlaces (k .active) top
+  beneath : (x : ℕ) → active-places (set (k .active) top x) top ≡ active-places (k .active) top
   beneath x = places-same (k .active) (set (k .active) top x) top (λ i a. getD-set-other (k .active) top i x 0 (λ e. omega arith))
 
   there : (x : ℕ) → getD (set (k .active) top x) top 0 ≡ x
@@ -150,32 +150,32 @@ module _ (k : Stack) (sound : SoundStack k) (h : 1 ≤ k .depth) where
 
   -- the top holds a place that it didn't
   pub activate-places : (q : ℕ) → (q ≡ 256 → ⊥) → getD (k .active) (k .depth - 1) 0 ≡ 256
-      → activePlaces (activated q k .active) (activated q k .depth) ≡ q ∷ activePlaces (k .active) (k .depth)
+      → active-places (activated q k .active) (activated q k .depth) ≡ q ∷ active-places (k .active) (k .depth)
   activate-places q d e =
-      ap₂ (λ (l : List ℕ) (n : ℕ). activePlaces l n) (written q) depth-is
+      ap₂ (λ (l : List ℕ) (n : ℕ). active-places l n) (written q) depth-is
       ∙ place-some (set (k .active) top q) top (λ i. d (sym (there q) ∙ i))
-      ∙ ap₂ (λ (x : ℕ) (r : List ℕ). x ∷ r) (there q) (beneath q ∙ sym (place-none (k .active) top e) ∙ ap (activePlaces (k .active)) (sym depth-is))
+      ∙ ap₂ (λ (x : ℕ) (r : List ℕ). x ∷ r) (there q) (beneath q ∙ sym (place-none (k .active) top e) ∙ ap (active-places (k .active)) (sym depth-is))
 
   -- or no longer the one that it held
   pub deactivate-places : (getD (k .active) (k .depth - 1) 0 ≡ 256 → ⊥)
-      → activePlaces (k .active) (k .depth) ≡ getD (k .active) (k .depth - 1) 0 ∷ activePlaces (activated 256 k .active) (activated 256 k .depth)
+      → active-places (k .active) (k .depth) ≡ getD (k .active) (k .depth - 1) 0 ∷ active-places (activated 256 k .active) (activated 256 k .depth)
   deactivate-places d =
-      ap (activePlaces (k .active)) depth-is ∙ place-some (k .active) top d
+      ap (active-places (k .active)) depth-is ∙ place-some (k .active) top d
       ∙ ap (λ (r : List ℕ). getD (k .active) top 0 ∷ r)
-      (sym (ap₂ (λ (l : List ℕ) (n : ℕ). activePlaces l n) (written 256) depth-is ∙ place-none (set (k .active) top 256) top (there 256) ∙ beneath 256))
+      (sym (ap₂ (λ (l : List ℕ) (n : ℕ). active-places l n) (written 256) depth-is ∙ place-none (set (k .active) top 256) top (there 256) ∙ beneath 256))
 
 -- the caller's strand is taken
-pub take-caller-places : (k : Stack) → SoundStack k → 2 ≤ k .depth → getD (k .active) (k .depth - 1) 0 ≡ 256 → (callerPlace (k .depth) (k .active) ≡ 256 → ⊥)
-    → activePlaces (k .active) (k .depth) ≡ callerPlace (k .depth) (k .active) ∷ activePlaces (callerTaken k .active) (callerTaken k .depth)
+pub take-caller-places : (k : Stack) → SoundStack k → 2 ≤ k .depth → getD (k .active) (k .depth - 1) 0 ≡ 256 → (caller-place (k .depth) (k .active) ≡ 256 → ⊥)
+    → active-places (k .active) (k .depth) ≡ caller-place (k .depth) (k .active) ∷ active-places (caller-taken k .active) (caller-taken k .depth)
 take-caller-places k sound two e d =
     let a : k .depth ≡ suc (k .depth - 1) = omega arith in
     let b : k .depth - 1 ≡ suc (k .depth - 2) = omega arith in
-    let has : hasCaller (k .depth) ≡ true = some-caller (k .depth) two (sound .few) in
-    let at : callerPlace (k .depth) (k .active) ≡ getD (k .active) (k .depth - 2) 0 = ap (λ (c : Bool). placeIf c (getD (k .active) (k .depth - 2) 0)) has in
-    let l : callerWritten (k .depth) (k .active) ≡ set (k .active) (k .depth - 2) 256 = ap (λ (c : Bool). setIf c (k .depth - 2) 256 (k .active)) has in
-    ap (activePlaces (k .active)) a ∙ place-none (k .active) (k .depth - 1) e ∙ ap (activePlaces (k .active)) b
+    let has : has-caller (k .depth) ≡ true = some-caller (k .depth) two (sound .few) in
+    let at : caller-place (k .depth) (k .active) ≡ getD (k .active) (k .depth - 2) 0 = ap (λ (c : Bool). place-if c (getD (k .active) (k .depth - 2) 0)) has in
+    let l : caller-written (k .depth) (k .active) ≡ set (k .active) (k .depth - 2) 256 = ap (λ (c : Bool). set-if c (k .depth - 2) 256 (k .active)) has in
+    ap (active-places (k .active)) a ∙ place-none (k .active) (k .depth - 1) e ∙ ap (active-places (k .active)) b
     ∙ place-some (k .active) (k .depth - 2) (λ z. d (at ∙ z))
     ∙ ap₂ (λ (x : ℕ) (r : List ℕ). x ∷ r) (sym at)
-    (sym (ap₂ (λ (m : List ℕ) (n : ℕ). activePlaces m n) l b
+    (sym (ap₂ (λ (m : List ℕ) (n : ℕ). active-places m n) l b
     ∙ place-none (set (k .active) (k .depth - 2) 256) (k .depth - 2) (getD-set-same (k .active) (k .depth - 2) 256 0 (omega (arith, sound .few, sound .long-active)))
     ∙ places-same (k .active) (set (k .active) (k .depth - 2) 256) (k .depth - 2) (λ j h. getD-set-other (k .active) (k .depth - 2) j 256 0 (λ z. omega arith))))

@@ -1,5 +1,5 @@
 -- The searches: `first_of` over the tables of the entries is `is_active`, over the goals of the tables `index_of`; `coinductive_from` is the
--- definitions' test of the entries up to the top. From the definitions of `firstAt` and `allFrom`.
+-- definitions' test of the entries up to the top. From the definitions of `first-at` and `all-from`.
 use Prim.Native.Nat.{ℕ, zero, suc, _+_, _-_, _≤_, _<_}
 use native.Mathlib.Omega.{arith}
 use mathlib.Core.Path.{_≡_, refl, sym, ap, ap₂, _∙_}
@@ -20,28 +20,28 @@ use Rattle.stores.specs.declared.Answers.{Answers}
 use Rattle.stores.specs.declared.Tables.{Tables}
 use Rattle.stores.specs.declared.Stack.{Stack}
 use Rattle.book.specs.View.{span}
-use Rattle.stores.specs.View.{flag, tableAt, tables, entries, entered}
-use Rattle.stores.specs.Entries.{firstAt, allFrom, within, coinductiveAt}
+use Rattle.stores.specs.View.{flag, held-table, tables, entries, entered}
+use Rattle.stores.specs.Entries.{first-at, all-from, within, coinductive-at}
 use Rattle.stores.proofs.TableViews.{table-at-is}
-use Rattle.stores.proofs.Spans.{firstIf, later, span-at}
+use Rattle.stores.proofs.Spans.{first-if, later, span-at}
 
 abbrev choose : Bool → (m n : ℕ) → ℕ
 choose b m n = elim b as (λ (c : Bool). ℕ) [ true ↦ m | false ↦ n ]
 
 -- THE FIRST, where one more is looked at
 module _ (test : ℕ → Bool) where
-  pub first-bound : (i n : ℕ) → (i ≤ firstAt test i n) × (firstAt test i n ≤ i + n)
+  pub first-bound : (i n : ℕ) → (i ≤ first-at test i n) × (first-at test i n ≤ i + n)
   first-bound i zero = (omega arith, omega arith)
   first-bound i (suc n) = at (test i) (first-bound (suc i) n)
     where
-      at : (b : Bool) → (suc i ≤ firstAt test (suc i) n) × (firstAt test (suc i) n ≤ suc i + n)
-          → (i ≤ choose b i (firstAt test (suc i) n)) × (choose b i (firstAt test (suc i) n) ≤ i + suc n)
+      at : (b : Bool) → (suc i ≤ first-at test (suc i) n) × (first-at test (suc i) n ≤ suc i + n)
+          → (i ≤ choose b i (first-at test (suc i) n)) × (choose b i (first-at test (suc i) n) ≤ i + suc n)
       at true h = (omega arith, omega arith)
       at false h = (omega arith, omega arith)
 
   -- it stands among the first n, or is looked for at n
-  first-more : (i n : ℕ) → (firstAt test i n < i + n → firstAt test i (suc n) ≡ firstAt test i n)
-      × (firstAt test i n ≡ i + n → firstAt test i (suc n) ≡ choose (test (i + n)) (i + n) (suc (i + n)))
+  first-more : (i n : ℕ) → (first-at test i n < i + n → first-at test i (suc n) ≡ first-at test i n)
+      × (first-at test i n ≡ i + n → first-at test i (suc n) ≡ choose (test (i + n)) (i + n) (suc (i + n)))
   first-more i zero = (
     λ h. absurd (omega arith),
     λ h. let e : i ≡ i + 0 = omega arith in ap (λ (j : ℕ). choose (test j) j (suc j)) e,
@@ -49,10 +49,10 @@ module _ (test : ℕ → Bool) where
   first-more i (suc n) = at (test i) refl (first-more (suc i) n)
     where
       at : (b : Bool) → test i ≡ b
-          → (firstAt test (suc i) n < suc i + n → firstAt test (suc i) (suc n) ≡ firstAt test (suc i) n)
-          × (firstAt test (suc i) n ≡ suc i + n → firstAt test (suc i) (suc n) ≡ choose (test (suc i + n)) (suc i + n) (suc (suc i + n)))
-          → (choose b i (firstAt test (suc i) n) < i + suc n → choose b i (firstAt test (suc i) (suc n)) ≡ choose b i (firstAt test (suc i) n))
-          × (choose b i (firstAt test (suc i) n) ≡ i + suc n → choose b i (firstAt test (suc i) (suc n)) ≡ choose (test (i + suc n)) (i + suc n) (suc (i + suc n)))
+          → (first-at test (suc i) n < suc i + n → first-at test (suc i) (suc n) ≡ first-at test (suc i) n)
+          × (first-at test (suc i) n ≡ suc i + n → first-at test (suc i) (suc n) ≡ choose (test (suc i + n)) (suc i + n) (suc (suc i + n)))
+          → (choose b i (first-at test (suc i) n) < i + suc n → choose b i (first-at test (suc i) (suc n)) ≡ choose b i (first-at test (suc i) n))
+          × (choose b i (first-at test (suc i) n) ≡ i + suc n → choose b i (first-at test (suc i) (suc n)) ≡ choose (test (i + suc n)) (i + suc n) (suc (i + suc n)))
       at true e more = (λ h. refl, λ h. absurd (omega arith))
       at false e more =
           let s : suc i + n ≡ i + suc n = omega arith in
@@ -76,72 +76,72 @@ module _ (k : Stack) (s : Strands) (t : ℕ) where
   abbrev on : ℕ → Bool
   on i = eqb (getD (k .table) i 0) t
 
-  active-from : (n : ℕ) → is-active t (entries k s n) ≡ firstIf (ltb (firstAt on 0 n) n) (n - 1 - firstAt on 0 n)
+  active-from : (n : ℕ) → is-active t (entries k s n) ≡ first-if (ltb (first-at on 0 n) n) (n - 1 - first-at on 0 n)
   active-from zero = refl
-  active-from (suc n) = at (ltb (firstAt on 0 n) n) refl (active-from n)
+  active-from (suc n) = at (ltb (first-at on 0 n) n) refl (active-from n)
     where
-      next : (b : Bool) → on n ≡ b → firstAt on 0 n ≡ n
-          → on-top b ≡ (firstIf (ltb (firstAt on 0 (suc n)) (suc n)) (suc n - 1 - firstAt on 0 (suc n)))
+      next : (b : Bool) → on n ≡ b → first-at on 0 n ≡ n
+          → on-top b ≡ (first-if (ltb (first-at on 0 (suc n)) (suc n)) (suc n - 1 - first-at on 0 (suc n)))
       next b e f =
           let z : 0 + n ≡ n = omega arith in
-          let m : firstAt on 0 (suc n) ≡ choose b n (suc n) = first-more on 0 n .1 (f ∙ sym z) ∙ ap (λ (j : ℕ). choose (on j) j (suc j)) z ∙ ap (λ (c : Bool). choose c n (suc n)) e in
-          found b ∙ sym (ap (λ (j : ℕ). firstIf (ltb j (suc n)) (suc n - 1 - j)) m)
+          let m : first-at on 0 (suc n) ≡ choose b n (suc n) = first-more on 0 n .1 (f ∙ sym z) ∙ ap (λ (j : ℕ). choose (on j) j (suc j)) z ∙ ap (λ (c : Bool). choose c n (suc n)) e in
+          found b ∙ sym (ap (λ (j : ℕ). first-if (ltb j (suc n)) (suc n - 1 - j)) m)
         where
-          found : (c : Bool) → on-top c ≡ (firstIf (ltb (choose c n (suc n)) (suc n)) (suc n - 1 - choose c n (suc n)))
-          found true = let z : 0 ≡ suc n - 1 - n = omega arith in ap some z ∙ sym (ap (λ (b : Bool). firstIf b (suc n - 1 - n)) (lt-ltb n (suc n) (omega arith)))
-          found false = sym (ap (λ (b : Bool). firstIf b (suc n - 1 - suc n)) (le-ltb (suc n) (suc n) (omega arith)))
+          found : (c : Bool) → on-top c ≡ (first-if (ltb (choose c n (suc n)) (suc n)) (suc n - 1 - choose c n (suc n)))
+          found true = let z : 0 ≡ suc n - 1 - n = omega arith in ap some z ∙ sym (ap (λ (b : Bool). first-if b (suc n - 1 - n)) (lt-ltb n (suc n) (omega arith)))
+          found false = sym (ap (λ (b : Bool). first-if b (suc n - 1 - suc n)) (le-ltb (suc n) (suc n) (omega arith)))
 
-      at : (b : Bool) → ltb (firstAt on 0 n) n ≡ b → is-active t (entries k s n) ≡ firstIf (ltb (firstAt on 0 n) n) (n - 1 - firstAt on 0 n)
-          → is-active t (entries k s (suc n)) ≡ firstIf (ltb (firstAt on 0 (suc n)) (suc n)) (suc n - 1 - firstAt on 0 (suc n))
+      at : (b : Bool) → ltb (first-at on 0 n) n ≡ b → is-active t (entries k s n) ≡ first-if (ltb (first-at on 0 n) n) (n - 1 - first-at on 0 n)
+          → is-active t (entries k s (suc n)) ≡ first-if (ltb (first-at on 0 (suc n)) (suc n)) (suc n - 1 - first-at on 0 (suc n))
       at true e below =
-          let h : firstAt on 0 n < n = ltb-true (firstAt on 0 n) n e in
-          let m : firstAt on 0 (suc n) ≡ firstAt on 0 n = first-more on 0 n .0 (omega arith) in
-          let d : suc (n - 1 - firstAt on 0 n) ≡ suc n - 1 - firstAt on 0 (suc n) = omega (arith, m) in
-          let b : ltb (firstAt on 0 (suc n)) (suc n) ≡ true = lt-ltb (firstAt on 0 (suc n)) (suc n) (omega (arith, m)) in
-          beneath-some (is-active t (entries k s n)) (on-top (on n)) (n - 1 - firstAt on 0 n) (below ∙ ap (λ (c : Bool). firstIf c (n - 1 - firstAt on 0 n)) e)
-          (firstIf (ltb (firstAt on 0 (suc n)) (suc n)) (suc n - 1 - firstAt on 0 (suc n))) (ap some d ∙ sym (ap (λ (c : Bool). firstIf c (suc n - 1 - firstAt on 0 (suc n))) b))
+          let h : first-at on 0 n < n = ltb-true (first-at on 0 n) n e in
+          let m : first-at on 0 (suc n) ≡ first-at on 0 n = first-more on 0 n .0 (omega arith) in
+          let d : suc (n - 1 - first-at on 0 n) ≡ suc n - 1 - first-at on 0 (suc n) = omega (arith, m) in
+          let b : ltb (first-at on 0 (suc n)) (suc n) ≡ true = lt-ltb (first-at on 0 (suc n)) (suc n) (omega (arith, m)) in
+          beneath-some (is-active t (entries k s n)) (on-top (on n)) (n - 1 - first-at on 0 n) (below ∙ ap (λ (c : Bool). first-if c (n - 1 - first-at on 0 n)) e)
+          (first-if (ltb (first-at on 0 (suc n)) (suc n)) (suc n - 1 - first-at on 0 (suc n))) (ap some d ∙ sym (ap (λ (c : Bool). first-if c (suc n - 1 - first-at on 0 (suc n))) b))
       at false e below =
-          let h : n ≤ firstAt on 0 n = ltb-false (firstAt on 0 n) n e in
-          beneath-none (is-active t (entries k s n)) (on-top (on n)) (below ∙ ap (λ (c : Bool). firstIf c (n - 1 - firstAt on 0 n)) e)
-          (firstIf (ltb (firstAt on 0 (suc n)) (suc n)) (suc n - 1 - firstAt on 0 (suc n))) (next (on n) refl (omega (arith, first-bound on 0 n)))
+          let h : n ≤ first-at on 0 n = ltb-false (first-at on 0 n) n e in
+          beneath-none (is-active t (entries k s n)) (on-top (on n)) (below ∙ ap (λ (c : Bool). first-if c (n - 1 - first-at on 0 n)) e)
+          (first-if (ltb (first-at on 0 (suc n)) (suc n)) (suc n - 1 - first-at on 0 (suc n))) (next (on n) refl (omega (arith, first-bound on 0 n)))
 
   within-is : k .depth ≤ 64 → within (k .depth) ≡ k .depth
   within-is h = omega arith
 
   -- `is_active` of the definitions, by what `first_of` finds among the entries' tables
-  pub is-active-view : k .depth ≤ 64 → (r : ℕ) → r ≡ firstAt on 0 (within (k .depth)) → is-active t (entered k s) ≡ firstIf (ltb r (k .depth)) (k .depth - 1 - r)
-  is-active-view h r e = active-from (k .depth) ∙ ap (λ (i : ℕ). firstIf (ltb i (k .depth)) (k .depth - 1 - i)) (sym (e ∙ ap (firstAt on 0) (within-is h)))
+  pub is-active-view : k .depth ≤ 64 → (r : ℕ) → r ≡ first-at on 0 (within (k .depth)) → is-active t (entered k s) ≡ first-if (ltb r (k .depth)) (k .depth - 1 - r)
+  is-active-view h r e = active-from (k .depth) ∙ ap (λ (i : ℕ). first-if (ltb i (k .depth)) (k .depth - 1 - i)) (sym (e ∙ ap (first-at on 0) (within-is h)))
 
 -- INDEX_OF
 module _ {A : Type 0} (f : ℕ → A) (test : A → Bool) where
-  position-from : (i n : ℕ) → position test (span f i n) ≡ firstIf (ltb (firstAt (λ j. test (f j)) i n) (i + n)) (firstAt (λ j. test (f j)) i n - i)
-  position-from i zero = sym (ap (λ (b : Bool). firstIf b (i - i)) (le-ltb i (i + 0) (omega arith)))
+  position-from : (i n : ℕ) → position test (span f i n) ≡ first-if (ltb (first-at (λ j. test (f j)) i n) (i + n)) (first-at (λ j. test (f j)) i n - i)
+  position-from i zero = sym (ap (λ (b : Bool). first-if b (i - i)) (le-ltb i (i + 0) (omega arith)))
   position-from i (suc n) = at (test (f i)) (position-from (suc i) n)
     where
-      at : (b : Bool) → position test (span f (suc i) n) ≡ firstIf (ltb (firstAt (λ j. test (f j)) (suc i) n) (suc i + n)) (firstAt (λ j. test (f j)) (suc i) n - suc i)
+      at : (b : Bool) → position test (span f (suc i) n) ≡ first-if (ltb (first-at (λ j. test (f j)) (suc i) n) (suc i + n)) (first-at (λ j. test (f j)) (suc i) n - suc i)
           → _≡_ {A = Option ℕ} (elim b [ true ↦ some 0 | false ↦ later (position test (span f (suc i) n)) ])
-          (firstIf (ltb (choose b i (firstAt (λ j. test (f j)) (suc i) n)) (i + suc n)) (choose b i (firstAt (λ j. test (f j)) (suc i) n) - i))
-      at true e = let z : 0 ≡ i - i = omega arith in ap some z ∙ sym (ap (λ (b : Bool). firstIf b (i - i)) (lt-ltb i (i + suc n) (omega arith)))
+          (first-if (ltb (choose b i (first-at (λ j. test (f j)) (suc i) n)) (i + suc n)) (choose b i (first-at (λ j. test (f j)) (suc i) n) - i))
+      at true e = let z : 0 ≡ i - i = omega arith in ap some z ∙ sym (ap (λ (b : Bool). first-if b (i - i)) (lt-ltb i (i + suc n) (omega arith)))
       at false e =
           let s : suc i + n ≡ i + suc n = omega arith in
-          let l : suc i ≤ firstAt (λ j. test (f j)) (suc i) n = first-bound (λ j. test (f j)) (suc i) n .0 in
-          ap later e ∙ ap (λ (m : ℕ). later (firstIf (ltb (firstAt (λ j. test (f j)) (suc i) n) m) (firstAt (λ j. test (f j)) (suc i) n - suc i))) s
-          ∙ shift (ltb (firstAt (λ j. test (f j)) (suc i) n) (i + suc n)) (firstAt (λ j. test (f j)) (suc i) n) l
+          let l : suc i ≤ first-at (λ j. test (f j)) (suc i) n = first-bound (λ j. test (f j)) (suc i) n .0 in
+          ap later e ∙ ap (λ (m : ℕ). later (first-if (ltb (first-at (λ j. test (f j)) (suc i) n) m) (first-at (λ j. test (f j)) (suc i) n - suc i))) s
+          ∙ shift (ltb (first-at (λ j. test (f j)) (suc i) n) (i + suc n)) (first-at (λ j. test (f j)) (suc i) n) l
         where
-          shift : (b : Bool) (r : ℕ) → suc i ≤ r → later (firstIf b (r - suc i)) ≡ firstIf b (r - i)
+          shift : (b : Bool) (r : ℕ) → suc i ≤ r → later (first-if b (r - suc i)) ≡ first-if b (r - i)
           shift true r h = let e : suc (r - suc i) ≡ r - i = omega arith in ap some e
           shift false r h = refl
 
 -- `index_of` of the definitions, by what `first_of` finds among the tables' goals
-pub index-of-view : (ts : Tables) (s : Strands) (a : Answers) (goal r : ℕ) → ts .count ≤ 64 → r ≡ firstAt (λ i. eqb (getD (ts .goal) i 0) goal) 0 (within (ts .count))
-    → index-of goal (tables ts s a) ≡ firstIf (ltb r (ts .count)) r
+pub index-of-view : (ts : Tables) (s : Strands) (a : Answers) (goal r : ℕ) → ts .count ≤ 64 → r ≡ first-at (λ i. eqb (getD (ts .goal) i 0) goal) 0 (within (ts .count))
+    → index-of goal (tables ts s a) ≡ first-if (ltb r (ts .count)) r
 index-of-view ts s a goal r few e =
     let w : within (ts .count) ≡ ts .count = omega arith in
     let z : 0 + ts .count ≡ ts .count = omega arith in
-    let i : firstAt (λ j. eqb (getD (ts .goal) j 0) goal) 0 (ts .count) ≡ r = sym (e ∙ ap (firstAt (λ j. eqb (getD (ts .goal) j 0) goal) 0) w) in
+    let i : first-at (λ j. eqb (getD (ts .goal) j 0) goal) 0 (ts .count) ≡ r = sym (e ∙ ap (first-at (λ j. eqb (getD (ts .goal) j 0) goal) 0) w) in
     let y : r - 0 ≡ r = omega arith in
-    position-from (tableAt ts s a) (λ t. eqb (t .table-goal) goal) 0 (ts .count)
-    ∙ ap₂ (λ (m n : ℕ). firstIf (ltb m n) (m - 0)) i z ∙ ap (firstIf (ltb r (ts .count))) y
+    position-from (held-table ts s a) (λ t. eqb (t .table-goal) goal) 0 (ts .count)
+    ∙ ap₂ (λ (m n : ℕ). first-if (ltb m n) (m - 0)) i z ∙ ap (first-if (ltb r (ts .count))) y
 
 -- THE COINDUCTIVE TEST
 and-comm : (b c : Bool) → b && c ≡ c && b
@@ -154,24 +154,24 @@ and-assoc : (b c d : Bool) → b && (c && d) ≡ (b && c) && d
 and-assoc true c d = refl
 and-assoc false c d = refl
 
-all-snoc : (test : ℕ → Bool) (i n : ℕ) → allFrom test i (suc n) ≡ test (i + n) && allFrom test i n
+all-snoc : (test : ℕ → Bool) (i n : ℕ) → all-from test i (suc n) ≡ test (i + n) && all-from test i n
 all-snoc test i zero = let e : i ≡ i + 0 = omega arith in ap (λ (j : ℕ). test j && true) e
 all-snoc test i (suc n) =
     let e : suc i + n ≡ i + suc n = omega arith in
-    ap (λ (b : Bool). test i && b) (all-snoc test (suc i) n ∙ ap (λ (j : ℕ). test j && allFrom test (suc i) n) e)
-    ∙ and-assoc (test i) (test (i + suc n)) (allFrom test (suc i) n)
-    ∙ ap (λ (b : Bool). b && allFrom test (suc i) n) (and-comm (test i) (test (i + suc n)))
-    ∙ sym (and-assoc (test (i + suc n)) (test i) (allFrom test (suc i) n))
+    ap (λ (b : Bool). test i && b) (all-snoc test (suc i) n ∙ ap (λ (j : ℕ). test j && all-from test (suc i) n) e)
+    ∙ and-assoc (test i) (test (i + suc n)) (all-from test (suc i) n)
+    ∙ ap (λ (b : Bool). b && all-from test (suc i) n) (and-comm (test i) (test (i + suc n)))
+    ∙ sym (and-assoc (test (i + suc n)) (test i) (all-from test (suc i) n))
 
 module _ (k : Stack) (s : Strands) (ts : Tables) (a : Answers) (f : Forest) (is : f .tables ≡ tables ts s a) (few : ts .count ≤ 64) where
   abbrev test : ℕ → Bool
-  test = coinductiveAt (k .table) (ts .coinductive)
+  test = coinductive-at (k .table) (ts .coinductive)
 
   flag-is : (i : ℕ) → getD (k .table) i 0 < ts .count → flag (getD (ts .coinductive) (getD (k .table) i 0) 0) ≡ test i
   flag-is i h = sym (ap (λ (b : Bool). b && flag (getD (ts .coinductive) (getD (k .table) i 0) 0)) (lt-ltb (getD (k .table) i 0) 64 (omega arith)))
 
   up-to-top : (n m : ℕ) → m ≤ n → ((i : ℕ) → i < n → getD (k .table) i 0 < ts .count)
-      → coinductive-entries f (take m (entries k s n)) ≡ go (allFrom test (n - m) m)
+      → coinductive-entries f (take m (entries k s n)) ≡ go (all-from test (n - m) m)
   up-to-top n zero h made = nothing n
     where
       nothing : (j : ℕ) → coinductive-entries f (take 0 (entries k s j)) ≡ go true
@@ -182,16 +182,16 @@ module _ (k : Stack) (s : Strands) (ts : Tables) (a : Answers) (f : Forest) (is 
       let e : (n - m) + m ≡ n = omega arith in
       let z : suc n - suc m ≡ n - m = omega arith in
       ap₂ (λ (x : Stops Table) (y : Stops Bool). x >>= λ t. y >>= λ o. go (t .coinductive-goal && o)) (table-at-is ts s a f is (getD (k .table) n 0) (made n (omega arith))) (up-to-top n m (omega arith) (λ i j. made i (omega arith)))
-      ∙ ap (λ (b : Bool). go (b && allFrom test (n - m) m)) (flag-is n (made n (omega arith)))
-      ∙ ap go (ap (λ (j : ℕ). test j && allFrom test (n - m) m) (sym e) ∙ sym (all-snoc test (n - m) m) ∙ ap (λ (j : ℕ). allFrom test j (suc m)) (sym z))
+      ∙ ap (λ (b : Bool). go (b && all-from test (n - m) m)) (flag-is n (made n (omega arith)))
+      ∙ ap go (ap (λ (j : ℕ). test j && all-from test (n - m) m) (sym e) ∙ sym (all-snoc test (n - m) m) ∙ ap (λ (j : ℕ). all-from test j (suc m)) (sym z))
 
   -- the entries from one up to the top, by what `coinductive_from` says
   pub coinductive-from-view : k .depth ≤ 64 → ((i : ℕ) → i < k .depth → getD (k .table) i 0 < ts .count) → (from : ℕ) → from < k .depth
-      → (r : Bool) → r ≡ allFrom (coinductiveAt (k .table) (ts .coinductive)) from (within (k .depth) - from)
+      → (r : Bool) → r ≡ all-from (coinductive-at (k .table) (ts .coinductive)) from (within (k .depth) - from)
       → coinductive-entries f (top-of-stack-from (k .depth - 1 - from) (entered k s)) ≡ go r
   coinductive-from-view small made from h r e =
       let m : suc (k .depth - 1 - from) ≡ k .depth - from = omega arith in
       let w : within (k .depth) - from ≡ k .depth - from = omega arith in
       let b : k .depth - (k .depth - from) ≡ from = omega arith in
       ap (λ (n : ℕ). coinductive-entries f (take n (entered k s))) m ∙ up-to-top (k .depth) (k .depth - from) (omega arith) made
-      ∙ ap go (ap (λ (j : ℕ). allFrom test j (k .depth - from)) b ∙ ap (allFrom test from) (sym w) ∙ sym e)
+      ∙ ap go (ap (λ (j : ℕ). all-from test j (k .depth - from)) b ∙ ap (all-from test from) (sym w) ∙ sym e)

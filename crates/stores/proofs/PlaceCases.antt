@@ -7,19 +7,19 @@ use mathlib.Core.List.{List, _∷_}
 use lib.ListN.{length, getD}
 use lib.Dec.{ltb}
 use borrow.Author.Tests.{lt-ltb, le-ltb, ltb-true, ltb-false}
-use Rattle.rings.specs.Rings.{ringOf, RingTookAt}
+use Rattle.rings.specs.Rings.{ring-of, RingTookAt}
 use Rattle.stores.specs.declared.Places.{Places}
 use Rattle.stores.specs.View.{free, ring}
 use Rattle.stores.specs.Sound.{waiting, SoundPlaces}
-use Rattle.stores.specs.Placing.{places, popped, fresh, freedIf, freePlaceIf, anyFree, anyFresh, freed, freePlace, TookPlace}
+use Rattle.stores.specs.Placing.{places, popped, fresh, freed-if, free-place-if, any-free, any-fresh, freed, free-place, TookPlace}
 use Rattle.stores.proofs.PlaceViews.{length-ring, popped-sound, popped-other, fresh-sound, taken-used}
 
 module _ (next tail len : List ℕ) (top : ℕ) where
   abbrev p : Places
   p = places next tail len top
 
-  took-at : (a b : Bool) → anyFree p ≡ a → anyFresh p ≡ b → (next′ len′ : List ℕ) (top′ r : ℕ)
-      → r ≡ freePlaceIf a b p → next′ ≡ freedIf a b p .next → tail ≡ freedIf a b p .tail → len′ ≡ freedIf a b p .len → top′ ≡ freedIf a b p .top
+  took-at : (a b : Bool) → any-free p ≡ a → any-fresh p ≡ b → (next′ len′ : List ℕ) (top′ r : ℕ)
+      → r ≡ free-place-if a b p → next′ ≡ freed-if a b p .next → tail ≡ freed-if a b p .tail → len′ ≡ freed-if a b p .len → top′ ≡ freed-if a b p .top
       → TookPlace next tail len top next′ len′ top′ r
   took-at a b ea eb next′ len′ top′ r er en et el em = record {
     is = rw (ea, eb) er;
@@ -30,10 +30,10 @@ module _ (next tail len : List ℕ) (top : ℕ) where
   }
 
   pub took-free : 0 < getD len 64 0 → (next′ len′ : List ℕ) (r : ℕ)
-      → RingTookAt next tail len 64 (ringOf next tail len 64) 0 (getD tail 64 0) next′ tail len′ r → TookPlace next tail len top next′ len′ top r
+      → RingTookAt next tail len 64 (ring-of next tail len 64) 0 (getD tail 64 0) next′ tail len′ r → TookPlace next tail len top next′ len′ top r
   took-free h next′ len′ r did =
       let has : 0 < length (ring p free) = omega (arith, length-ring p free) in
-      took-at true (anyFresh p) (lt-ltb 0 (getD len 64 0) h) refl next′ len′ top r (did .place has) (did .links has) refl (did .size has) refl
+      took-at true (any-fresh p) (lt-ltb 0 (getD len 64 0) h) refl next′ len′ top r (did .place has) (did .links has) refl (did .size has) refl
 
   pub took-fresh : getD len 64 0 ≤ 0 → top < 256 → TookPlace next tail len top next len (top + 1) top
   took-fresh h k = took-at false true (le-ltb 0 (getD len 64 0) h) (lt-ltb top 256 k) next len (top + 1) top refl refl refl refl refl
@@ -59,8 +59,8 @@ module _ (p : Places) (n : ℕ) (held : List ℕ) (sound : SoundPlaces p n held)
   freed-fresh : p .top < 256 → Freed p n held (fresh p) (p .top)
   freed-fresh h = record { small = h; sound = fresh-sound p n held sound h; same = λ u k. refl }
 
-  by-tests : (a b : Bool) → anyFree p ≡ a → anyFresh p ≡ b
-      → (freePlaceIf a b p < 256 → Freed p n held (freedIf a b p) (freePlaceIf a b p)) × (256 ≤ freePlaceIf a b p → waiting p n + length held ≡ 256)
+  by-tests : (a b : Bool) → any-free p ≡ a → any-fresh p ≡ b
+      → (free-place-if a b p < 256 → Freed p n held (freed-if a b p) (free-place-if a b p)) × (256 ≤ free-place-if a b p → waiting p n + length held ≡ 256)
   by-tests true b ea eb =
       let has : 0 < length (ring p free) = omega (arith, length-ring p free, ltb-true 0 (getD (p .len) free 0) ea) in
       (λ h. freed-pop has, λ h. absurd (omega (arith, freed-pop has .small)))
@@ -71,26 +71,26 @@ module _ (p : Places) (n : ℕ) (held : List ℕ) (sound : SoundPlaces p n held)
       let e : length (ring p free) ≡ 0 = omega (arith, length-ring p free, ltb-false 0 (getD (p .len) free 0) ea) in
       (λ k. absurd (omega arith), λ k. omega (arith, sound .all, ltb-false (p .top) 256 eb, sound .rings .room))
 
-  pub freed-sound : freePlace p < 256 → Freed p n held (freed p) (freePlace p)
-  freed-sound = by-tests (anyFree p) (anyFresh p) refl refl .0
+  pub freed-sound : free-place p < 256 → Freed p n held (freed p) (free-place p)
+  freed-sound = by-tests (any-free p) (any-fresh p) refl refl .0
 
   -- none is found where exactly 256 places wait or are held
-  pub freed-none : 256 ≤ freePlace p → waiting p n + length held ≡ 256
-  freed-none = by-tests (anyFree p) (anyFresh p) refl refl .1
+  pub freed-none : 256 ≤ free-place p → waiting p n + length held ≡ 256
+  freed-none = by-tests (any-free p) (any-fresh p) refl refl .1
 
   -- and one is found below that
-  pub freed-room : waiting p n + length held < 256 → freePlace p < 256
-  freed-room h = go (ltb (freePlace p) 256) refl
+  pub freed-room : waiting p n + length held < 256 → free-place p < 256
+  freed-room h = go (ltb (free-place p) 256) refl
     where
-      go : (b : Bool) → ltb (freePlace p) 256 ≡ b → freePlace p < 256
-      go true e = ltb-true (freePlace p) 256 e
-      go false e = absurd (omega (arith, freed-none (ltb-false (freePlace p) 256 e)))
+      go : (b : Bool) → ltb (free-place p) 256 ≡ b → free-place p < 256
+      go true e = ltb-true (free-place p) 256 e
+      go false e = absurd (omega (arith, freed-none (ltb-false (free-place p) 256 e)))
 
-  still : (a b : Bool) → anyFree p ≡ a → anyFresh p ≡ b → 256 ≤ freePlaceIf a b p → freedIf a b p ≡ p
+  still : (a b : Bool) → any-free p ≡ a → any-fresh p ≡ b → 256 ≤ free-place-if a b p → freed-if a b p ≡ p
   still true b ea eb h = absurd (omega (arith, freed-pop (omega (arith, length-ring p free, ltb-true 0 (getD (p .len) free 0) ea)) .small))
   still false true ea eb h = absurd (omega (arith, ltb-true (p .top) 256 eb))
   still false false ea eb h = refl
 
   -- and then nothing has changed
-  pub freed-still : 256 ≤ freePlace p → freed p ≡ p
-  freed-still = still (anyFree p) (anyFresh p) refl refl
+  pub freed-still : 256 ≤ free-place p → freed p ≡ p
+  freed-still = still (any-free p) (any-fresh p) refl refl

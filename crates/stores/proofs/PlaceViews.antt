@@ -17,7 +17,7 @@ use Rattle.rings.proofs.RingViews.{ring-enqueue-own, ring-enqueue-other, ring-e
 use Rattle.stores.specs.declared.Places.{Places}
 use Rattle.stores.specs.View.{free, ring}
 use Rattle.stores.specs.Sound.{waiting, SoundPlaces}
-use Rattle.stores.specs.Placing.{enqueued, before, takenAt, popped, fresh}
+use Rattle.stores.specs.Placing.{enqueued, before, taken-at, popped, fresh}
 use Rattle.stores.proofs.Held.{times-at}
 use Rattle.stores.proofs.Waiting.{is-or-not, waiting-same, waiting-one}
 
@@ -90,7 +90,7 @@ module _ (p : Places) (n : ℕ) (held : List ℕ) (t j : ℕ) (sound : SoundPlac
   q = getD (ring p t) j 0
 
   abbrev p′ : Places
-  p′ = takenAt t j p
+  p′ = taken-at t j p
 
   did : RingTookAt (p .next) (p .tail) (p .len) t (ring p t) j (before t j p) (p′ .next) (p′ .tail) (p′ .len) q
   did = record {
@@ -101,10 +101,10 @@ module _ (p : Places) (n : ℕ) (held : List ℕ) (t j : ℕ) (sound : SoundPlac
     size = λ h. refl;
   }
 
-  pub taken-own : ring (takenAt t j p) t ≡ turned j (ring p t)
+  pub taken-own : ring (taken-at t j p) t ≡ turned j (ring p t)
   taken-own = ring-take-own (p .next) (p .tail) (p .len) (p .top) (sound .rings) t j there small (p′ .next) (p′ .tail) (p′ .len) q did
 
-  pub taken-other : (u : ℕ) → (u ≡ t → ⊥) → ring (takenAt t j p) u ≡ ring p u
+  pub taken-other : (u : ℕ) → (u ≡ t → ⊥) → ring (taken-at t j p) u ≡ ring p u
   taken-other u d = ring-take-other (p .next) (p .tail) (p .len) (p .top) (sound .rings) t j there small (p′ .next) (p′ .tail) (p′ .len) q did u d
 
   pub taken-used : getD (ring p t) j 0 < p .top
@@ -157,24 +157,24 @@ module _ (p : Places) (n : ℕ) (held : List ℕ) (t j : ℕ) (sound : SoundPlac
 
 -- from a table's ring
 pub taken-sound : (p : Places) (n : ℕ) (held : List ℕ) (t j : ℕ) → t < n → (sound : SoundPlaces p n held) → j < length (ring p t)
-    → SoundPlaces (takenAt t j p) n (getD (ring p t) j 0 ∷ held)
+    → SoundPlaces (taken-at t j p) n (getD (ring p t) j 0 ∷ held)
 taken-sound p n held t j h sound there =
     let small : t < 256 = omega (arith, sound .few) in
     let apart : free ≡ t → ⊥ = λ e. omega (arith, sound .few) in
-    let w : waiting (takenAt t j p) n + length (ring p t) ≡ waiting p n + length (ring (takenAt t j p) t) =
-    waiting-one p (takenAt t j p) n t h (λ u k d. ap length (taken-other p n held t j sound small there u d)) in
+    let w : waiting (taken-at t j p) n + length (ring p t) ≡ waiting p n + length (ring (taken-at t j p) t) =
+    waiting-one p (taken-at t j p) n t h (λ u k d. ap length (taken-other p n held t j sound small there u d)) in
     hold p n held t j sound small there (λ u k d e. omega arith)
     (omega (arith, w, shorter p n held t j sound small there, ap length (taken-other p n held t j sound small there free apart)))
 
 -- POP: the first of the free places
-popped-is : (p : Places) → takenAt free 0 p ≡ popped free p
+popped-is : (p : Places) → taken-at free 0 p ≡ popped free p
 popped-is p = ap (λ (l : List ℕ). record { next = popped free p .next; tail = l; len = popped free p .len; top = p .top }) (set-getD (p .tail) free 0)
 
 pub popped-sound : (p : Places) (n : ℕ) (held : List ℕ) → SoundPlaces p n held → 0 < length (ring p free)
     → SoundPlaces (popped free p) n (getD (ring p free) 0 0 ∷ held)
 popped-sound p n held sound there =
-    let w : waiting (takenAt free 0 p) n ≡ waiting p n =
-    waiting-same p (takenAt free 0 p) n (λ u k. ap length (taken-other p n held free 0 sound (omega arith) there u (λ e. omega (arith, sound .few)))) in
+    let w : waiting (taken-at free 0 p) n ≡ waiting p n =
+    waiting-same p (taken-at free 0 p) n (λ u k. ap length (taken-other p n held free 0 sound (omega arith) there u (λ e. omega (arith, sound .few)))) in
     subst (λ (r : Places). SoundPlaces r n (getD (ring p free) 0 0 ∷ held)) (popped-is p)
     (hold p n held free 0 sound (omega arith) there (λ u k d e. d e) (omega (arith, w, shorter p n held free 0 sound (omega arith) there)))
 

@@ -11,30 +11,30 @@ use Rattle.strands.specs.declared.Answer.{Answer}
 use Rattle.stores.specs.declared.Places.{Places}
 use Rattle.stores.specs.declared.answering.PushAnswer.{PushAnswer}
 use Rattle.stores.specs.declared.answering.PushAnswer.the-variants.{Stop, New}
-use Rattle.stores.specs.View.{noAnswer}
-use Rattle.stores.specs.Placing.{places, freePlace, takenPlace, TookPlace}
-use Rattle.stores.specs.Answering.{sameAt, repeatedOf, newIf, outcomeIf, roomIf, pushedIf, samePlace, AnswerPushed}
+use Rattle.stores.specs.View.{unread-answer}
+use Rattle.stores.specs.Placing.{places, free-place, taken-place, TookPlace}
+use Rattle.stores.specs.Answering.{same-at, repeated-of, new-if, outcome-if, room-if, pushed-if, same-place, AnswerPushed}
 use Rattle.stores.proofs.PlaceMoves.{freed-is, freed-enqueued-is}
 
-module _ (answers : List Answer) (next tail len : List ℕ) (top t : ℕ) (x : Answer) (r : ℕ) (same : r ≡ takenPlace (sameAt x answers) t (places next tail len 0)) where
+module _ (answers : List Answer) (next tail len : List ℕ) (top t : ℕ) (x : Answer) (r : ℕ) (same : r ≡ taken-place (same-at x answers) t (places next tail len 0)) where
   abbrev p : Places
   p = places next tail len top
 
-  pushed-by : (found room : Bool) → ltb (samePlace answers t x p) 256 ≡ found → ltb (freePlace p) 256 ≡ room → (next′ tail′ len′ : List ℕ) (top′ : ℕ) (o : PushAnswer)
-      → o ≡ outcomeIf found (repeatedOf (getD answers (samePlace answers t x p) noAnswer .ambiguous) (x .ambiguous)) (newIf room (freePlace p))
-      → places next′ tail′ len′ top′ ≡ pushedIf found p (roomIf room t p) → AnswerPushed answers next tail len top t x next′ tail′ len′ top′ o
+  pushed-by : (found room : Bool) → ltb (same-place answers t x p) 256 ≡ found → ltb (free-place p) 256 ≡ room → (next′ tail′ len′ : List ℕ) (top′ : ℕ) (o : PushAnswer)
+      → o ≡ outcome-if found (repeated-of (getD answers (same-place answers t x p) unread-answer .ambiguous) (x .ambiguous)) (new-if room (free-place p))
+      → places next′ tail′ len′ top′ ≡ pushed-if found p (room-if room t p) → AnswerPushed answers next tail len top t x next′ tail′ len′ top′ o
   pushed-by found room ef er next′ tail′ len′ top′ o eo ep = record {
-    is = eo ∙ sym (ap₂ (λ (b c : Bool). outcomeIf b (repeatedOf (getD answers (samePlace answers t x p) noAnswer .ambiguous) (x .ambiguous)) (newIf c (freePlace p))) ef er);
-    left = ep ∙ sym (ap₂ (λ (b c : Bool). pushedIf b p (roomIf c t p)) ef er);
+    is = eo ∙ sym (ap₂ (λ (b c : Bool). outcome-if b (repeated-of (getD answers (same-place answers t x p) unread-answer .ambiguous) (x .ambiguous)) (new-if c (free-place p))) ef er);
+    left = ep ∙ sym (ap₂ (λ (b c : Bool). pushed-if b p (room-if c t p)) ef er);
   }
 
-  pub push-found : r < 256 → (o : PushAnswer) → o ≡ repeatedOf (getD answers r noAnswer .ambiguous) (x .ambiguous) → AnswerPushed answers next tail len top t x next tail len top o
+  pub push-found : r < 256 → (o : PushAnswer) → o ≡ repeated-of (getD answers r unread-answer .ambiguous) (x .ambiguous) → AnswerPushed answers next tail len top t x next tail len top o
   push-found h o e =
-      pushed-by true (ltb (freePlace p) 256) (ap (λ (k : ℕ). ltb k 256) (sym same) ∙ lt-ltb r 256 h) refl next tail len top o
-      (e ∙ ap (λ (k : ℕ). repeatedOf (getD answers k noAnswer .ambiguous) (x .ambiguous)) same) refl
+      pushed-by true (ltb (free-place p) 256) (ap (λ (k : ℕ). ltb k 256) (sym same) ∙ lt-ltb r 256 h) refl next tail len top o
+      (e ∙ ap (λ (k : ℕ). repeated-of (getD answers k unread-answer .ambiguous) (x .ambiguous)) same) refl
 
   module _ (h : 256 ≤ r) (next′ len′ : List ℕ) (top′ q : ℕ) (took : TookPlace next tail len top next′ len′ top′ q) where
-    not-found : ltb (samePlace answers t x p) 256 ≡ false
+    not-found : ltb (same-place answers t x p) 256 ≡ false
     not-found = ap (λ (k : ℕ). ltb k 256) (sym same) ∙ le-ltb r 256 h
 
     pub push-full : 256 ≤ q → AnswerPushed answers next tail len top t x next′ tail len′ top′ (Stop 23)

@@ -12,25 +12,25 @@ use lib.Seq.{drop-cons}
 use lib.Dec.{ltb}
 use borrow.Author.Tests.{lt-ltb, le-ltb, ltb-true, ltb-false}
 use Rattle.definitions.specs.Lists.{push, position, rotate-left, total}
-use Rattle.rings.specs.Lists.{stop, firstIndex, times, turned}
+use Rattle.rings.specs.Lists.{stop, first-index, times, turned}
 use Rattle.rings.proofs.Counts.{All, map-append, times-self}
 use Rattle.book.specs.View.{span}
 use Rattle.book.proofs.Spans.{span-ext, span-snoc}
 
 -- where a search ends: at i, or nowhere
-abbrev pub firstIf : Bool → ℕ → Option ℕ
-firstIf true i = some i
-firstIf false i = none
+abbrev pub first-if : Bool → ℕ → Option ℕ
+first-if true i = some i
+first-if false i = none
 
 abbrev pub later : Option ℕ → Option ℕ
 later o = elim o [ none ↦ none | some i ↦ some (suc i) ]
 
-position-step : (b : Bool) (n i : ℕ) (o : Option ℕ) → o ≡ firstIf (ltb i n) i
-    → elim b [ true ↦ some 0 | false ↦ later o ] ≡ firstIf (ltb (stop b i) (suc n)) (stop b i)
-position-step true n i o e = ap (λ (b : Bool). firstIf b 0) (sym (lt-ltb 0 (suc n) (omega arith)))
+position-step : (b : Bool) (n i : ℕ) (o : Option ℕ) → o ≡ first-if (ltb i n) i
+    → elim b [ true ↦ some 0 | false ↦ later o ] ≡ first-if (ltb (stop b i) (suc n)) (stop b i)
+position-step true n i o e = ap (λ (b : Bool). first-if b 0) (sym (lt-ltb 0 (suc n) (omega arith)))
 position-step false n i o e = ap later e ∙ go (ltb i n) refl
   where
-    go : (c : Bool) → ltb i n ≡ c → later (firstIf (ltb i n) i) ≡ firstIf (ltb (suc i) (suc n)) (suc i)
+    go : (c : Bool) → ltb i n ≡ c → later (first-if (ltb i n) i) ≡ first-if (ltb (suc i) (suc n)) (suc i)
     go true d = rw (d, lt-ltb (suc i) (suc n) (omega (arith, ltb-true i n d))) refl
     go false d = rw (d, le-ltb (suc i) (suc n) (omega (arith, ltb-false i n d))) refl
 
@@ -81,15 +81,15 @@ module _ {A : Type 0} where
   total-push f (y ∷ l) x = omega (arith, total-push f l x)
 
   -- THE SEARCH
-  pub position-is : (test : A → Bool) (l : List A) → position test l ≡ firstIf (ltb (firstIndex test l) (length l)) (firstIndex test l)
+  pub position-is : (test : A → Bool) (l : List A) → position test l ≡ first-if (ltb (first-index test l) (length l)) (first-index test l)
   position-is test [] = refl
-  position-is test (x ∷ l) = position-step (test x) (length l) (firstIndex test l) (position test l) (position-is test l)
+  position-is test (x ∷ l) = position-step (test x) (length l) (first-index test l) (position test l) (position-is test l)
 
-  pub first-map : {B : Type 0} (test : B → Bool) (f : A → B) (l : List A) → firstIndex test (map f l) ≡ firstIndex (λ x. test (f x)) l
+  pub first-map : {B : Type 0} (test : B → Bool) (f : A → B) (l : List A) → first-index test (map f l) ≡ first-index (λ x. test (f x)) l
   first-map test f [] = refl
   first-map test f (x ∷ l) = ap (stop (test (f x))) (first-map test f l)
 
-  pub first-cong : (f g : A → Bool) (l : List A) → All (λ x. f x ≡ g x) l → firstIndex f l ≡ firstIndex g l
+  pub first-cong : (f g : A → Bool) (l : List A) → All (λ x. f x ≡ g x) l → first-index f l ≡ first-index g l
   first-cong f g [] a = refl
   first-cong f g (x ∷ l) a = ap₂ (λ (b : Bool) (n : ℕ). stop b n) (a .0) (first-cong f g l (a .1))
 

@@ -14,10 +14,10 @@ use Rattle.strands.specs.declared.Strand.{Strand}
 use Rattle.strands.specs.View.{Sound}
 use Rattle.stores.specs.declared.Places.{Places}
 use Rattle.stores.specs.declared.Strands.{Strands}
-use Rattle.stores.specs.View.{free, ring, noStrand}
-use Rattle.stores.specs.Sound.{SoundPlaces, InUse, SoundStrands, flagOf}
-use Rattle.stores.specs.Placing.{enqueued, takenAt, freed, freePlace, movedTo}
-use Rattle.stores.specs.Storing.{with-places, written, enqueuedStrand, given, cleared, freedStrands, Ready}
+use Rattle.stores.specs.View.{free, ring, unread-strand}
+use Rattle.stores.specs.Sound.{SoundPlaces, InUse, SoundStrands, flag-number}
+use Rattle.stores.specs.Placing.{enqueued, taken-at, freed, free-place, moved-to}
+use Rattle.stores.specs.Storing.{with-places, written, enqueued-strand, given, cleared, freed-strands, Ready}
 use Rattle.stores.proofs.Held.{Alike, times-at, times-cases}
 use Rattle.stores.proofs.Waiting.{is-or-not, sound-alike, sound-grown}
 use Rattle.stores.proofs.PlaceViews.{enqueued-own, enqueued-other, enqueued-sound, given-sound, given-other, taken-own, taken-other, taken-sound}
@@ -75,24 +75,24 @@ module _ (s : Strands) (n : ℕ) (held : List ℕ) (q : ℕ) (ready : Ready s n 
 
   use-here : Sound x → InUse (written q x s) q
   use-here sound =
-      let a : getD (set (s .strands) q x) q noStrand ≡ x = getD-set-same (s .strands) q x noStrand (omega (arith, within, ready .long)) in
+      let a : getD (set (s .strands) q x) q unread-strand ≡ x = getD-set-same (s .strands) q x unread-strand (omega (arith, within, ready .long)) in
       let b : getD (set (s .time) q (x .«last_pursued_time»)) q 0 ≡ x .«last_pursued_time» =
       getD-set-same (s .time) q (x .«last_pursued_time») 0 (omega (arith, within, ready .long-time)) in
-      let c : getD (set (s .ambiguous) q (flagOf (x .ambiguous))) q 0 ≡ flagOf (x .ambiguous) =
-      getD-set-same (s .ambiguous) q (flagOf (x .ambiguous)) 0 (omega (arith, within, ready .long-ambiguous)) in
+      let c : getD (set (s .ambiguous) q (flag-number (x .ambiguous))) q 0 ≡ flag-number (x .ambiguous) =
+      getD-set-same (s .ambiguous) q (flag-number (x .ambiguous)) 0 (omega (arith, within, ready .long-ambiguous)) in
       record {
         sound = subst Sound (sym a) sound;
         time = b ∙ ap (λ (y : Strand). y .«last_pursued_time») (sym a);
-        ambiguous = c ∙ ap (λ (y : Strand). flagOf (y .ambiguous)) (sym a);
+        ambiguous = c ∙ ap (λ (y : Strand). flag-number (y .ambiguous)) (sym a);
       }
 
   use-there : (u : ℕ) → (u ≡ q → ⊥) → InUse s u → InUse (written q x s) u
   use-there u d i =
-      let a : getD (set (s .strands) q x) u noStrand ≡ getD (s .strands) u noStrand = getD-set-other (s .strands) q u x noStrand d in
+      let a : getD (set (s .strands) q x) u unread-strand ≡ getD (s .strands) u unread-strand = getD-set-other (s .strands) q u x unread-strand d in
       record {
         sound = subst Sound (sym a) (i .sound);
         time = getD-set-other (s .time) q u (x .«last_pursued_time») 0 d ∙ i .time ∙ ap (λ (y : Strand). y .«last_pursued_time») (sym a);
-        ambiguous = getD-set-other (s .ambiguous) q u (flagOf (x .ambiguous)) 0 d ∙ i .ambiguous ∙ ap (λ (y : Strand). flagOf (y .ambiguous)) (sym a);
+        ambiguous = getD-set-other (s .ambiguous) q u (flag-number (x .ambiguous)) 0 d ∙ i .ambiguous ∙ ap (λ (y : Strand). flag-number (y .ambiguous)) (sym a);
       }
 
   waits-away : (t u : ℕ) → 1 ≤ times u (ring (s .places) t) → u ≡ q → ⊥
@@ -104,7 +104,7 @@ module _ (s : Strands) (n : ℕ) (held : List ℕ) (q : ℕ) (ready : Ready s n 
     places = ready .places;
     long = length-set (s .strands) q x ∙ ready .long;
     long-time = length-set (s .time) q (x .«last_pursued_time») ∙ ready .long-time;
-    long-ambiguous = length-set (s .ambiguous) q (flagOf (x .ambiguous)) ∙ ready .long-ambiguous;
+    long-ambiguous = length-set (s .ambiguous) q (flag-number (x .ambiguous)) ∙ ready .long-ambiguous;
     queued = λ t u h k. use-there u (waits-away t u k) (ready .queued t u h k);
     in-hand = λ u k. is-or-not q (λ v. 1 ≤ times v (q ∷ held) → InUse (written q x s) v)
         (λ i. use-here sound)
@@ -123,8 +123,8 @@ held-ready s n held q sound = record {
 }
 
 -- TAKE A PLACE
-pub freed-ready : (s : Strands) (n : ℕ) (held : List ℕ) → SoundStrands s n held → freePlace (s .places) < 256
-    → Ready (freedStrands s) n held (freePlace (s .places))
+pub freed-ready : (s : Strands) (n : ℕ) (held : List ℕ) → SoundStrands s n held → free-place (s .places) < 256
+    → Ready (freed-strands s) n held (free-place (s .places))
 freed-ready s n held sound h =
     let f = freed-sound (s .places) n held (sound .places) h in
     record {
@@ -137,7 +137,7 @@ freed-ready s n held sound h =
     }
 
 -- ENQUEUE
-pub enqueue-sound : (s : Strands) (n : ℕ) (held : List ℕ) (t q : ℕ) → t < n → SoundStrands s n (q ∷ held) → SoundStrands (enqueuedStrand t q s) n held
+pub enqueue-sound : (s : Strands) (n : ℕ) (held : List ℕ) (t q : ℕ) → t < n → SoundStrands s n (q ∷ held) → SoundStrands (enqueued-strand t q s) n held
 enqueue-sound s n held t q h sound =
     with-sound s n (q ∷ held) held (enqueued t q (s .places)) sound (enqueued-sound (s .places) n held q t h (sound .places))
     (λ u x k i. is-or-not t (λ v. v < n → 1 ≤ times x (ring (enqueued t q (s .places)) v) → InUse s x)
@@ -167,13 +167,13 @@ module _ (s : Strands) (n : ℕ) (held : List ℕ) (t j : ℕ) (h : t < n) (soun
   small : t < 256
   small = omega (arith, sound .places .few)
 
-  fewer : (x : ℕ) → times x (ring (takenAt t j (s .places)) t) ≤ times x (ring (s .places) t)
+  fewer : (x : ℕ) → times x (ring (taken-at t j (s .places)) t) ≤ times x (ring (s .places) t)
   fewer x = rw (taken-own (s .places) n held t j (sound .places) small there) (omega (arith, times-out x (ring (s .places) t) j there))
 
-  pub taken-at-sound : SoundStrands (with-places s (takenAt t j (s .places))) n (getD (ring (s .places) t) j 0 ∷ held)
+  pub taken-at-sound : SoundStrands (with-places s (taken-at t j (s .places))) n (getD (ring (s .places) t) j 0 ∷ held)
   taken-at-sound =
-      with-sound s n held (getD (ring (s .places) t) j 0 ∷ held) (takenAt t j (s .places)) sound (taken-sound (s .places) n held t j h (sound .places) there)
-      (λ u x k i. is-or-not t (λ v. v < n → 1 ≤ times x (ring (takenAt t j (s .places)) v) → InUse s x)
+      with-sound s n held (getD (ring (s .places) t) j 0 ∷ held) (taken-at t j (s .places)) sound (taken-sound (s .places) n held t j h (sound .places) there)
+      (λ u x k i. is-or-not t (λ v. v < n → 1 ≤ times x (ring (taken-at t j (s .places)) v) → InUse s x)
       (λ a b. sound .queued t x h (omega (arith, fewer x)))
       (λ v d a b. sound .queued v x a (rw (taken-other (s .places) n held t j (sound .places) small there v d) at b)) u k i)
       (λ x k. times-cases x (getD (ring (s .places) t) j 0) held k (InUse s x)
@@ -183,8 +183,8 @@ module _ (s : Strands) (n : ℕ) (held : List ℕ) (t j : ℕ) (h : t < n) (soun
 -- TAKE ALL of a table's strands: their places are free
 pub cleared-sound : (s : Strands) (n : ℕ) (held : List ℕ) (t : ℕ) → t < n → SoundStrands s n held → SoundStrands (cleared t s) n held
 cleared-sound s n held t h sound =
-    with-sound s n held held (movedTo t free (s .places)) sound (moved-sound (s .places) n held t h (sound .places))
-    (λ u x k i. is-or-not t (λ v. v < n → 1 ≤ times x (ring (movedTo t free (s .places)) v) → InUse s x)
+    with-sound s n held held (moved-to t free (s .places)) sound (moved-sound (s .places) n held t h (sound .places))
+    (λ u x k i. is-or-not t (λ v. v < n → 1 ≤ times x (ring (moved-to t free (s .places)) v) → InUse s x)
     (λ a b. absurd (omega (arith, ap (times x) (moved-own (s .places) n held t h (sound .places)))))
     (λ v d a b. sound .queued v x a (rw (moved-other (s .places) n held t h (sound .places) v (λ e. omega (arith, sound .places .few)) d) at b)) u k i)
     (λ x k. sound .in-hand x k)

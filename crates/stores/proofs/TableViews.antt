@@ -19,56 +19,56 @@ use Rattle.definitions.specs.Tables.{insert-table, Forest, with-tables, table-a
 use Rattle.stores.specs.declared.Strands.{Strands}
 use Rattle.stores.specs.declared.Answers.{Answers}
 use Rattle.stores.specs.declared.Tables.{Tables}
-use Rattle.stores.specs.View.{ring, flag, mode, tableAt, tables, strandAt, answerAt}
-use Rattle.stores.specs.Sound.{SoundTables, flagOf}
-use Rattle.stores.specs.Entries.{setIf, addIf, flagAt}
-use Rattle.stores.specs.Tabling.{goalIf, goalAt, inserted, moded}
+use Rattle.stores.specs.View.{ring, flag, mode, held-table, tables, strand-at, answer-at}
+use Rattle.stores.specs.Sound.{SoundTables, flag-number}
+use Rattle.stores.specs.Entries.{set-if, add-if, flag-at}
+use Rattle.stores.specs.Tabling.{goal-if, table-goal-at, inserted, moded}
 use Rattle.stores.proofs.Spans.{span-at, span-past, span-same, span-set, span-push}
 
-pub flag-of : (b : Bool) → flag (flagOf b) ≡ b
+pub flag-of : (b : Bool) → flag (flag-number b) ≡ b
 flag-of true = refl
 flag-of false = refl
 
 -- the tables that are made, and no other
-pub table-there : (ts : Tables) (s : Strands) (a : Answers) (t : ℕ) → t < ts .count → getElem? (tables ts s a) t ≡ some (tableAt ts s a t)
-table-there ts s a t h = span-at (tableAt ts s a) (ts .count) t h
+pub table-there : (ts : Tables) (s : Strands) (a : Answers) (t : ℕ) → t < ts .count → getElem? (tables ts s a) t ≡ some (held-table ts s a t)
+table-there ts s a t h = span-at (held-table ts s a) (ts .count) t h
 
 pub table-past : (ts : Tables) (s : Strands) (a : Answers) (t : ℕ) → ts .count ≤ t → getElem? (tables ts s a) t ≡ none
-table-past ts s a t h = span-past (tableAt ts s a) (ts .count) t h
+table-past ts s a t h = span-past (held-table ts s a) (ts .count) t h
 
 -- a forest with these tables: `tables[t]`, and the table changed
 module _ (ts : Tables) (s : Strands) (a : Answers) (f : Forest) (is : f .tables ≡ tables ts s a) (t : ℕ) (h : t < ts .count) where
-  pub table-at-is : table-at f t ≡ go (tableAt ts s a t)
+  pub table-at-is : table-at f t ≡ go (held-table ts s a t)
   table-at-is = ap (λ (l : List Table). unwrap (getElem? l t)) is ∙ ap unwrap (table-there ts s a t h)
 
-  pub change-is : (change : Table → Table) (after : List Table) → after ≡ set (tables ts s a) t (change (tableAt ts s a t)) → change-table f t change ≡ go (with-tables f after)
+  pub change-is : (change : Table → Table) (after : List Table) → after ≡ set (tables ts s a) t (change (held-table ts s a t)) → change-table f t change ≡ go (with-tables f after)
   change-is change after e =
       ap (λ (r : Stops Table). r >>= λ x. go (with-tables f (set (f .tables) t (change x)))) table-at-is
-      ∙ ap (λ (l : List Table). go (with-tables f (set l t (change (tableAt ts s a t))))) is ∙ ap (λ (l : List Table). go (with-tables f l)) (sym e)
+      ∙ ap (λ (l : List Table). go (with-tables f (set l t (change (held-table ts s a t))))) is ∙ ap (λ (l : List Table). go (with-tables f l)) (sym e)
 
 -- READ: what `flag_at` and `goal_at` say of a table that is made
 module _ (ts : Tables) (s : Strands) (a : Answers) (sound : SoundTables ts) (t : ℕ) (h : t < ts .count) where
   near : ltb t 64 ≡ true
   near = lt-ltb t 64 (omega (arith, sound .few))
 
-  pub flag-at-is : (l : List ℕ) → flagAt t l ≡ flag (getD l t 0)
+  pub flag-at-is : (l : List ℕ) → flag-at t l ≡ flag (getD l t 0)
   flag-at-is l = ap (λ (b : Bool). b && flag (getD l t 0)) near
 
-  pub floundered-view : flagAt t (ts .floundered) ≡ tableAt ts s a t .floundered
+  pub floundered-view : flag-at t (ts .floundered) ≡ held-table ts s a t .floundered
   floundered-view = flag-at-is (ts .floundered)
 
-  pub coinductive-view : flagAt t (ts .coinductive) ≡ tableAt ts s a t .coinductive-goal
+  pub coinductive-view : flag-at t (ts .coinductive) ≡ held-table ts s a t .coinductive-goal
   coinductive-view = flag-at-is (ts .coinductive)
 
-  pub mode-view : flagAt t (ts .complete) ≡ said.is-complete (tableAt ts s a t .answer-mode)
+  pub mode-view : flag-at t (ts .complete) ≡ said.is-complete (held-table ts s a t .answer-mode)
   mode-view = flag-at-is (ts .complete) ∙ by-flag (flag (getD (ts .complete) t 0))
     where
       by-flag : (b : Bool) → b ≡ said.is-complete (elim b [ true ↦ said.Complete | false ↦ said.Ambiguous ])
       by-flag true = refl
       by-flag false = refl
 
-  pub goal-view : goalAt t (ts .goal) ≡ tableAt ts s a t .table-goal
-  goal-view = ap (λ (b : Bool). goalIf b (getD (ts .goal) t 0)) near
+  pub goal-view : table-goal-at t (ts .goal) ≡ held-table ts s a t .table-goal
+  goal-view = ap (λ (b : Bool). goal-if b (getD (ts .goal) t 0)) near
 
 abbrev table-of : (goal coinductive floundered complete : ℕ) → List said.Answer → List said-strand.Strand → Table
 table-of g c f m rs ss = record { table-goal = g; coinductive-goal = flag c; floundered = flag f; answers = rs; strands = ss; answer-mode = mode m }
@@ -82,7 +82,7 @@ abbrev pub new-table : (goal : ℕ) → (coinductive floundered : Bool) → Tabl
 new-table g co true = mark-floundered (new g co)
 new-table g co false = new g co
 
-new-is : (g : ℕ) (co fl : Bool) → table-of g (flagOf co) (flagOf fl) 1 [] [] ≡ new-table g co fl
+new-is : (g : ℕ) (co fl : Bool) → table-of g (flag-number co) (flag-number fl) 1 [] [] ≡ new-table g co fl
 new-is g true true = refl
 new-is g true false = refl
 new-is g false true = refl
@@ -94,12 +94,12 @@ module _ (ts : Tables) (s : Strands) (a : Answers) (g : ℕ) (co fl : Bool) (sou
   n = ts .count
 
   abbrev ts′ : Tables
-  ts′ = record { count = suc n; goal = set (ts .goal) n g; coinductive = set (ts .coinductive) n (flagOf co); floundered = set (ts .floundered) n (flagOf fl); complete = set (ts .complete) n 1 }
+  ts′ = record { count = suc n; goal = set (ts .goal) n g; coinductive = set (ts .coinductive) n (flag-number co); floundered = set (ts .floundered) n (flag-number fl); complete = set (ts .complete) n 1 }
 
   inserted-is : inserted g co fl ts ≡ ts′
   inserted-is =
-      ap (λ (b : Bool). record { count = addIf b n; goal = setIf b n g (ts .goal); coinductive = setIf b n (flagOf co) (ts .coinductive); floundered = setIf b n (flagOf fl) (ts .floundered); complete = setIf b n 1 (ts .complete) }) (lt-ltb n 64 room)
-      ∙ ap (λ (m : ℕ). record { count = m; goal = set (ts .goal) n g; coinductive = set (ts .coinductive) n (flagOf co); floundered = set (ts .floundered) n (flagOf fl); complete = set (ts .complete) n 1 }) (add-one n)
+      ap (λ (b : Bool). record { count = add-if b n; goal = set-if b n g (ts .goal); coinductive = set-if b n (flag-number co) (ts .coinductive); floundered = set-if b n (flag-number fl) (ts .floundered); complete = set-if b n 1 (ts .complete) }) (lt-ltb n 64 room)
+      ∙ ap (λ (m : ℕ). record { count = m; goal = set (ts .goal) n g; coinductive = set (ts .coinductive) n (flag-number co); floundered = set (ts .floundered) n (flag-number fl); complete = set (ts .complete) n 1 }) (add-one n)
 
   pub inserted-count : inserted g co fl ts .count ≡ suc (ts .count)
   inserted-count = ap (λ (r : Tables). r .count) inserted-is
@@ -108,42 +108,42 @@ module _ (ts : Tables) (s : Strands) (a : Answers) (g : ℕ) (co fl : Bool) (sou
   inserted-sound = subst SoundTables (sym inserted-is) (record {
     few = omega arith;
     long-goal = length-set (ts .goal) n g ∙ sound .long-goal;
-    long-coinductive = length-set (ts .coinductive) n (flagOf co) ∙ sound .long-coinductive;
-    long-floundered = length-set (ts .floundered) n (flagOf fl) ∙ sound .long-floundered;
+    long-coinductive = length-set (ts .coinductive) n (flag-number co) ∙ sound .long-coinductive;
+    long-floundered = length-set (ts .floundered) n (flag-number fl) ∙ sound .long-floundered;
     long-complete = length-set (ts .complete) n 1 ∙ sound .long-complete;
   })
 
-  old-table : (u : ℕ) → u < n → tableAt ts′ s a u ≡ tableAt ts s a u
+  old-table : (u : ℕ) → u < n → held-table ts′ s a u ≡ held-table ts s a u
   old-table u h =
       let d : u ≡ n → ⊥ = λ e. omega arith in
       table-is (getD (ts′ .goal) u 0) (getD (ts .goal) u 0) (getD (ts′ .coinductive) u 0) (getD (ts .coinductive) u 0) (getD (ts′ .floundered) u 0) (getD (ts .floundered) u 0) (getD (ts′ .complete) u 0) (getD (ts .complete) u 0)
-      (map (answerAt a) (ring (a .places) u)) (map (answerAt a) (ring (a .places) u)) (map (strandAt s) (ring (s .places) u)) (map (strandAt s) (ring (s .places) u))
-      (getD-set-other (ts .goal) n u g 0 d) (getD-set-other (ts .coinductive) n u (flagOf co) 0 d) (getD-set-other (ts .floundered) n u (flagOf fl) 0 d) (getD-set-other (ts .complete) n u 1 0 d) refl refl
+      (map (answer-at a) (ring (a .places) u)) (map (answer-at a) (ring (a .places) u)) (map (strand-at s) (ring (s .places) u)) (map (strand-at s) (ring (s .places) u))
+      (getD-set-other (ts .goal) n u g 0 d) (getD-set-other (ts .coinductive) n u (flag-number co) 0 d) (getD-set-other (ts .floundered) n u (flag-number fl) 0 d) (getD-set-other (ts .complete) n u 1 0 d) refl refl
 
   module _ (no-answers : ring (a .places) n ≡ []) (no-strands : ring (s .places) n ≡ []) where
-    new-at : tableAt ts′ s a n ≡ new-table g co fl
+    new-at : held-table ts′ s a n ≡ new-table g co fl
     new-at =
-        table-is (getD (ts′ .goal) n 0) g (getD (ts′ .coinductive) n 0) (flagOf co) (getD (ts′ .floundered) n 0) (flagOf fl) (getD (ts′ .complete) n 0) 1
-        (map (answerAt a) (ring (a .places) n)) [] (map (strandAt s) (ring (s .places) n)) []
-        (getD-set-same (ts .goal) n g 0 (omega (arith, sound .long-goal))) (getD-set-same (ts .coinductive) n (flagOf co) 0 (omega (arith, sound .long-coinductive)))
-        (getD-set-same (ts .floundered) n (flagOf fl) 0 (omega (arith, sound .long-floundered))) (getD-set-same (ts .complete) n 1 0 (omega (arith, sound .long-complete)))
-        (ap (map (answerAt a)) no-answers) (ap (map (strandAt s)) no-strands)
+        table-is (getD (ts′ .goal) n 0) g (getD (ts′ .coinductive) n 0) (flag-number co) (getD (ts′ .floundered) n 0) (flag-number fl) (getD (ts′ .complete) n 0) 1
+        (map (answer-at a) (ring (a .places) n)) [] (map (strand-at s) (ring (s .places) n)) []
+        (getD-set-same (ts .goal) n g 0 (omega (arith, sound .long-goal))) (getD-set-same (ts .coinductive) n (flag-number co) 0 (omega (arith, sound .long-coinductive)))
+        (getD-set-same (ts .floundered) n (flag-number fl) 0 (omega (arith, sound .long-floundered))) (getD-set-same (ts .complete) n 1 0 (omega (arith, sound .long-complete)))
+        (ap (map (answer-at a)) no-answers) (ap (map (strand-at s)) no-strands)
         ∙ new-is g co fl
 
-    pub inserted-new : tableAt (inserted g co fl ts) s a (ts .count) ≡ new-table g co fl
-    inserted-new = ap (λ (r : Tables). tableAt r s a n) inserted-is ∙ new-at
+    pub inserted-new : held-table (inserted g co fl ts) s a (ts .count) ≡ new-table g co fl
+    inserted-new = ap (λ (r : Tables). held-table r s a n) inserted-is ∙ new-at
 
     -- the definitions' `insert` of a new table, which has neither answers nor strands yet
     pub inserted-view : tables (inserted g co fl ts) s a ≡ insert-table (new-table g co fl) (tables ts s a)
     inserted-view =
-        ap (λ (r : Tables). tables r s a) inserted-is ∙ span-push (tableAt ts′ s a) n
-        ∙ ap₂ (λ (l : List Table) (t : Table). insert-table t l) (span-same (tableAt ts s a) (tableAt ts′ s a) n old-table) new-at
+        ap (λ (r : Tables). tables r s a) inserted-is ∙ span-push (held-table ts′ s a) n
+        ∙ ap₂ (λ (l : List Table) (t : Table). insert-table t l) (span-same (held-table ts s a) (held-table ts′ s a) n old-table) new-at
 
 -- THE ANSWER MODE
 module _ (ts : Tables) (s : Strands) (a : Answers) (t : ℕ) (b : Bool) (sound : SoundTables ts) (h : t < ts .count) where
-  moded-is : moded t b ts ≡ record { count = ts .count; goal = ts .goal; coinductive = ts .coinductive; floundered = ts .floundered; complete = set (ts .complete) t (flagOf b) }
+  moded-is : moded t b ts ≡ record { count = ts .count; goal = ts .goal; coinductive = ts .coinductive; floundered = ts .floundered; complete = set (ts .complete) t (flag-number b) }
   moded-is =
-      ap (λ (c : Bool). record { count = ts .count; goal = ts .goal; coinductive = ts .coinductive; floundered = ts .floundered; complete = setIf c t (flagOf b) (ts .complete) })
+      ap (λ (c : Bool). record { count = ts .count; goal = ts .goal; coinductive = ts .coinductive; floundered = ts .floundered; complete = set-if c t (flag-number b) (ts .complete) })
       (lt-ltb t 64 (omega (arith, sound .few)))
 
   pub moded-sound : SoundTables (moded t b ts)
@@ -152,16 +152,16 @@ module _ (ts : Tables) (s : Strands) (a : Answers) (t : ℕ) (b : Bool) (sound :
     long-goal = sound .long-goal;
     long-coinductive = sound .long-coinductive;
     long-floundered = sound .long-floundered;
-    long-complete = length-set (ts .complete) t (flagOf b) ∙ sound .long-complete;
+    long-complete = length-set (ts .complete) t (flag-number b) ∙ sound .long-complete;
   })
 
   abbrev mode-of : Bool → said.AnswerMode
   mode-of c = elim c [ true ↦ said.Complete | false ↦ said.Ambiguous ]
 
-  pub moded-view : tables (moded t b ts) s a ≡ set (tables ts s a) t (with-mode (tableAt ts s a t) (elim b [ true ↦ said.Complete | false ↦ said.Ambiguous ]))
+  pub moded-view : tables (moded t b ts) s a ≡ set (tables ts s a) t (with-mode (held-table ts s a t) (elim b [ true ↦ said.Complete | false ↦ said.Ambiguous ]))
   moded-view =
       ap (λ (r : Tables). tables r s a) moded-is
-      ∙ span-set (tableAt ts s a) (tableAt (record { count = ts .count; goal = ts .goal; coinductive = ts .coinductive; floundered = ts .floundered; complete = set (ts .complete) t (flagOf b) }) s a) (ts .count) t h
-      (λ u k d. ap (λ (m : ℕ). with-mode (tableAt ts s a u) (mode m)) (getD-set-other (ts .complete) t u (flagOf b) 0 d))
-      ∙ ap (λ (m : said.AnswerMode). set (tables ts s a) t (with-mode (tableAt ts s a t) m))
-      (ap mode (getD-set-same (ts .complete) t (flagOf b) 0 (omega (arith, sound .few, sound .long-complete))) ∙ ap mode-of (flag-of b))
+      ∙ span-set (held-table ts s a) (held-table (record { count = ts .count; goal = ts .goal; coinductive = ts .coinductive; floundered = ts .floundered; complete = set (ts .complete) t (flag-number b) }) s a) (ts .count) t h
+      (λ u k d. ap (λ (m : ℕ). with-mode (held-table ts s a u) (mode m)) (getD-set-other (ts .complete) t u (flag-number b) 0 d))
+      ∙ ap (λ (m : said.AnswerMode). set (tables ts s a) t (with-mode (held-table ts s a t) m))
+      (ap mode (getD-set-same (ts .complete) t (flag-number b) 0 (omega (arith, sound .few, sound .long-complete))) ∙ ap mode-of (flag-of b))

@@ -16,72 +16,72 @@ use Rattle.stores.specs.declared.Places.{Places}
 use Rattle.stores.specs.declared.Answers.{Answers}
 use Rattle.stores.specs.declared.answering.PushAnswer.{PushAnswer}
 use Rattle.stores.specs.declared.answering.PushAnswer.the-variants.{Repeat, Stop, New}
-use Rattle.stores.specs.View.{free, ring, noStrand, noAnswer, answerAt}
-use Rattle.stores.specs.Placing.{places, enqueued, freed, freePlace, takenPlace, movedTo}
+use Rattle.stores.specs.View.{free, ring, unread-strand, unread-answer, answer-at}
+use Rattle.stores.specs.Placing.{places, enqueued, freed, free-place, taken-place, moved-to}
 
 abbrev pub with-answer-places : Answers → Places → Answers
 with-answer-places a p = record { answers = a .answers; places = p }
 
 -- the answers of table t, in the order found
-abbrev pub answersOf : Answers → (t : ℕ) → List said.Answer
-answersOf a t = map (answerAt a) (ring (a .places) t)
+abbrev pub answers-of : Answers → (t : ℕ) → List said.Answer
+answers-of a t = map (answer-at a) (ring (a .places) t)
 
-abbrev pub writtenAnswer : (q : ℕ) → Answer → Answers → Answers
-writtenAnswer q x a = record { answers = set (a .answers) q x; places = a .places }
+abbrev pub written-answer : (q : ℕ) → Answer → Answers → Answers
+written-answer q x a = record { answers = set (a .answers) q x; places = a .places }
 
 -- A NEW ANSWER in table t: a place is taken, enqueued and written
-abbrev pub storedAnswer : (t : ℕ) → Answer → Answers → Answers
-storedAnswer t x a = record { answers = set (a .answers) (freePlace (a .places)) x; places = enqueued t (freePlace (a .places)) (freed (a .places)) }
+abbrev pub answer-stored : (t : ℕ) → Answer → Answers → Answers
+answer-stored t x a = record { answers = set (a .answers) (free-place (a .places)) x; places = enqueued t (free-place (a .places)) (freed (a .places)) }
 
 -- the places of table t's answers are free
-abbrev pub clearedAnswers : (t : ℕ) → Answers → Answers
-clearedAnswers t a = with-answer-places a (movedTo t free (a .places))
+abbrev pub cleared-answers : (t : ℕ) → Answers → Answers
+cleared-answers t a = with-answer-places a (moved-to t free (a .places))
 
 -- the stored answer at q is the same as x
-abbrev pub sameAt : Answer → List Answer → ℕ → Bool
-sameAt x answers q = same-answer x (getD answers q noAnswer)
+abbrev pub same-at : Answer → List Answer → ℕ → Bool
+same-at x answers q = same-answer x (getD answers q unread-answer)
 
-abbrev pub answerVariant : List Answer → (variant : ℕ) → ℕ → Bool
-answerVariant answers v q = eqb (getD answers q noAnswer .variant) v
+abbrev pub answer-variant : List Answer → (variant : ℕ) → ℕ → Bool
+answer-variant answers v q = eqb (getD answers q unread-answer .variant) v
 
-abbrev pub strandVariant : List Strand → (variant : ℕ) → ℕ → Bool
-strandVariant strands v q = eqb (getD strands q noStrand .variant) v
+abbrev pub strand-variant : List Strand → (variant : ℕ) → ℕ → Bool
+strand-variant strands v q = eqb (getD strands q unread-strand .variant) v
 
 -- WHAT `push_answer` COMES TO: by whether the same answer is stored, whether that is ambiguous and this isn't, and whether there is room
-abbrev pub repeatedOf : (was is : Bool) → PushAnswer
-repeatedOf true true = Repeat
-repeatedOf true false = Stop 26
-repeatedOf false is = Repeat
+abbrev pub repeated-of : (was is : Bool) → PushAnswer
+repeated-of true true = Repeat
+repeated-of true false = Stop 26
+repeated-of false is = Repeat
 
-abbrev pub newIf : (room : Bool) → ℕ → PushAnswer
-newIf true q = New q
-newIf false q = Stop 23
+abbrev pub new-if : (room : Bool) → ℕ → PushAnswer
+new-if true q = New q
+new-if false q = Stop 23
 
-abbrev pub outcomeIf : (found : Bool) → PushAnswer → PushAnswer → PushAnswer
-outcomeIf true x y = x
-outcomeIf false x y = y
+abbrev pub outcome-if : (found : Bool) → PushAnswer → PushAnswer → PushAnswer
+outcome-if true x y = x
+outcome-if false x y = y
 
-abbrev pub roomIf : (room : Bool) → (t : ℕ) → Places → Places
-roomIf true t p = enqueued t (freePlace p) (freed p)
-roomIf false t p = freed p
+abbrev pub room-if : (room : Bool) → (t : ℕ) → Places → Places
+room-if true t p = enqueued t (free-place p) (freed p)
+room-if false t p = freed p
 
-abbrev pub pushedIf : (found : Bool) → Places → Places → Places
-pushedIf true p p′ = p
-pushedIf false p p′ = p′
+abbrev pub pushed-if : (found : Bool) → Places → Places → Places
+pushed-if true p p′ = p
+pushed-if false p p′ = p′
 
 module _ (answers : List Answer) (t : ℕ) (x : Answer) (p : Places) where
-  abbrev pub samePlace : ℕ
-  samePlace = takenPlace (sameAt x answers) t p
+  abbrev pub same-place : ℕ
+  same-place = taken-place (same-at x answers) t p
 
-  abbrev pub pushOutcome : PushAnswer
-  pushOutcome = outcomeIf (ltb samePlace 256) (repeatedOf (getD answers samePlace noAnswer .ambiguous) (x .ambiguous)) (newIf (ltb (freePlace p) 256) (freePlace p))
+  abbrev pub push-outcome : PushAnswer
+  push-outcome = outcome-if (ltb same-place 256) (repeated-of (getD answers same-place unread-answer .ambiguous) (x .ambiguous)) (new-if (ltb (free-place p) 256) (free-place p))
 
-  abbrev pub pushedPlaces : Places
-  pushedPlaces = pushedIf (ltb samePlace 256) p (roomIf (ltb (freePlace p) 256) t p)
+  abbrev pub pushed-places : Places
+  pushed-places = pushed-if (ltb same-place 256) p (room-if (ltb (free-place p) 256) t p)
 
 pub record AnswerPushed (answers : List Answer) (next tail len : List ℕ) (top t : ℕ) (x : Answer) (next′ tail′ len′ : List ℕ) (top′ : ℕ) (r : PushAnswer) : Type 0 where
-  pub is : r ≡ pushOutcome answers t x (places next tail len top)
-  pub left : places next′ tail′ len′ top′ ≡ pushedPlaces answers t x (places next tail len top)
+  pub is : r ≡ push-outcome answers t x (places next tail len top)
+  pub left : places next′ tail′ len′ top′ ≡ pushed-places answers t x (places next tail len top)
 
 -- WHAT AN OUTCOME MEANS: the result of the definitions' `push_answer` of x on a table; `new` is the table with x
 abbrev pub PushMeans : (held : ℕ) → (x : said.Answer) → (table new : Table) → PushAnswer → Type 0
@@ -93,4 +93,4 @@ PushMeans held x table new (New q) = push-answer held x table ≡ go (some (next
 abbrev pub PushLeaves : (before new after : Places) → PushAnswer → Type 0
 PushLeaves p new p′ Repeat = p′ ≡ p
 PushLeaves p new p′ (Stop n) = p′ ≡ p
-PushLeaves p new p′ (New q) = (q ≡ freePlace p) × (q < 256) × (p′ ≡ new)
+PushLeaves p new p′ (New q) = (q ≡ free-place p) × (q < 256) × (p′ ≡ new)

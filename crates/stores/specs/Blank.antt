@@ -9,22 +9,22 @@ use Rattle.stores.specs.declared.Tables.{Tables}
 use Rattle.stores.specs.declared.Stack.{Stack}
 use Rattle.stores.specs.Sound.{SoundStrands, SoundAnswers}
 
-abbrev pub blankPlaces : Places
-blankPlaces = record { next = replicate 256 0; tail = replicate 256 0; len = replicate 256 0; top = 0 }
+abbrev pub blank-places : Places
+blank-places = record { next = replicate 256 0; tail = replicate 256 0; len = replicate 256 0; top = 0 }
 
-abbrev pub blankTables : Tables
-blankTables = record { count = 0; goal = replicate 64 0; coinductive = replicate 64 0; floundered = replicate 64 0; complete = replicate 64 0 }
+abbrev pub blank-tables : Tables
+blank-tables = record { count = 0; goal = replicate 64 0; coinductive = replicate 64 0; floundered = replicate 64 0; complete = replicate 64 0 }
 
-abbrev pub blankStack : Stack
-blankStack = record { depth = 0; table = replicate 64 0; clock = replicate 64 0; positive = replicate 64 0; negative = replicate 64 0; active = replicate 64 256 }
+abbrev pub blank-stack : Stack
+blank-stack = record { depth = 0; table = replicate 64 0; clock = replicate 64 0; positive = replicate 64 0; negative = replicate 64 0; active = replicate 64 256 }
 
 -- every place is free, and no table has a strand
 pub record BlankStrands (s : Strands) : Type 0 where
-  pub places : s .places ≡ blankPlaces
+  pub places : s .places ≡ blank-places
   pub time : s .time ≡ replicate 256 0
   pub ambiguous : s .ambiguous ≡ replicate 256 0
   pub sound : SoundStrands s 0 []
 
 pub record BlankAnswers (a : Answers) : Type 0 where
-  pub places : a .places ≡ blankPlaces
+  pub places : a .places ≡ blank-places
   pub sound : SoundAnswers a 0

@@ -12,7 +12,7 @@ use Rattle.stores.specs.declared.Strands.{Strands}
 use Rattle.stores.specs.declared.Answers.{Answers}
 use Rattle.stores.specs.declared.Tables.{Tables}
 use Rattle.stores.specs.declared.Stack.{Stack}
-use Rattle.stores.specs.View.{free, ring, noStrand, noAnswer}
+use Rattle.stores.specs.View.{free, ring, unread-strand, unread-answer}
 
 -- the lengths of the first n rings together
 abbrev pub waiting : Places → ℕ → ℕ
@@ -30,15 +30,15 @@ pub record SoundPlaces (p : Places) (n : ℕ) (held : List ℕ) : Type 0 where
   pub used : (q : ℕ) → 1 ≤ times q held → q < p .top
   pub all : waiting p n + length (ring p free) + length held ≡ p .top
 
-abbrev pub flagOf : Bool → ℕ
-flagOf true = 1
-flagOf false = 0
+abbrev pub flag-number : Bool → ℕ
+flag-number true = 1
+flag-number false = 0
 
 -- a strand that is in use: it is sound, and the numbers beside it are its own
 pub record InUse (s : Strands) (q : ℕ) : Type 0 where
-  pub sound : Sound (getD (s .strands) q noStrand)
-  pub time : getD (s .time) q 0 ≡ getD (s .strands) q noStrand .«last_pursued_time»
-  pub ambiguous : getD (s .ambiguous) q 0 ≡ flagOf (getD (s .strands) q noStrand .ambiguous)
+  pub sound : Sound (getD (s .strands) q unread-strand)
+  pub time : getD (s .time) q 0 ≡ getD (s .strands) q unread-strand .«last_pursued_time»
+  pub ambiguous : getD (s .ambiguous) q 0 ≡ flag-number (getD (s .strands) q unread-strand .ambiguous)
 
 pub record SoundStrands (s : Strands) (n : ℕ) (held : List ℕ) : Type 0 where
   pub places : SoundPlaces (s .places) n held
@@ -52,7 +52,7 @@ pub record SoundStrands (s : Strands) (n : ℕ) (held : List ℕ) : Type 0 where
 pub record SoundAnswers (a : Answers) (n : ℕ) : Type 0 where
   pub places : SoundPlaces (a .places) n []
   pub long : length (a .answers) ≡ 256
-  pub stored : (t q : ℕ) → t < n → 1 ≤ times q (ring (a .places) t) → SoundAnswer (getD (a .answers) q noAnswer)
+  pub stored : (t q : ℕ) → t < n → 1 ≤ times q (ring (a .places) t) → SoundAnswer (getD (a .answers) q unread-answer)
 
 pub record SoundTables (ts : Tables) : Type 0 where
   pub few : ts .count ≤ 64

@@ -11,9 +11,9 @@ ghost use Prim.Native.Nat.{_<_};
 ghost use lib.ListN.{drop, getD};
 ghost use lib.Dec.{eqb, leb};
 ghost use Rattle.definitions.specs.Lists.{any-passes};
-ghost use Rattle.rings.specs.Rings.{ringOf};
-ghost use Rattle.stores.specs.Placing.{places, takenPlace};
-ghost use Rattle.stores.specs.Answering.{sameAt, answerVariant, strandVariant, repeatedOf, AnswerPushed};
+ghost use Rattle.rings.specs.Rings.{ring-of};
+ghost use Rattle.stores.specs.Placing.{places, taken-place};
+ghost use Rattle.stores.specs.Answering.{same-at, answer-variant, strand-variant, repeated-of, AnswerPushed};
 
 // What `push_answer` comes to: the answer is there already, the search stops by a number, or the answer is new and goes to a place.
 pub enum PushAnswer {
@@ -50,7 +50,7 @@ pub fn find_answer(
     t: u8,
     x: Answer,
 ) -> usize
-    ensures { λ r. ⌜ r ≡ takenPlace (sameAt x answers) t (places (now (next .entry)) (now (tail .entry)) (now (len .entry)) 0) ⌝ }
+    ensures { λ r. ⌜ r ≡ taken-place (same-at x answers) t (places (now (next .entry)) (now (tail .entry)) (now (len .entry)) 0) ⌝ }
 {
     let m = long(len[t as usize]);
     let mut prev = tail[t as usize];
@@ -96,7 +96,7 @@ pub fn push_answer(
 }
 
 fn repeated(was: bool, is: bool) -> PushAnswer
-    ensures { λ r. ⌜ r ≡ repeatedOf was is ⌝ }
+    ensures { λ r. ⌜ r ≡ repeated-of was is ⌝ }
 {
     if was {
         if is {
@@ -126,7 +126,7 @@ pub fn any_answer(
     from: usize,
     variant: u16,
 ) -> bool
-    ensures { λ r. ⌜ r ≡ any-passes (answerVariant answers variant) (drop from (ringOf (now (next .entry)) (now (tail .entry)) (now (len .entry)) t)) ⌝ }
+    ensures { λ r. ⌜ r ≡ any-passes (answer-variant answers variant) (drop from (ring-of (now (next .entry)) (now (tail .entry)) (now (len .entry)) t)) ⌝ }
 {
     let m = long(len[t as usize]);
     let mut prev = tail[t as usize];
@@ -152,7 +152,7 @@ pub fn any_strand(
     t: u8,
     variant: u16,
 ) -> bool
-    ensures { λ r. ⌜ r ≡ any-passes (strandVariant strands variant) (drop 0 (ringOf (now (next .entry)) (now (tail .entry)) (now (len .entry)) t)) ⌝ }
+    ensures { λ r. ⌜ r ≡ any-passes (strand-variant strands variant) (drop 0 (ring-of (now (next .entry)) (now (tail .entry)) (now (len .entry)) t)) ⌝ }
 {
     let m = long(len[t as usize]);
     let mut prev = tail[t as usize];

@@ -7,10 +7,10 @@ use crate::Tables;
 use strands::answers::blank_answer;
 use strands::making::blank;
 ghost use mathlib.Core.Path.{_≡_};
-ghost use Rattle.stores.specs.Blank.{blankPlaces, blankTables, blankStack, BlankStrands, BlankAnswers};
+ghost use Rattle.stores.specs.Blank.{blank-places, blank-tables, blank-stack, BlankStrands, BlankAnswers};
 
 pub fn blank_places() -> Places
-    ensures { λ r. ⌜ r ≡ blankPlaces ⌝ }
+    ensures { λ r. ⌜ r ≡ blank-places ⌝ }
 {
     Places {
         next: [0; 256],
@@ -45,7 +45,7 @@ pub fn blank_answers() -> Answers
 }
 
 pub fn blank_tables() -> Tables
-    ensures { λ r. ⌜ r ≡ blankTables ⌝ }
+    ensures { λ r. ⌜ r ≡ blank-tables ⌝ }
 {
     Tables {
         count: 0,
@@ -57,7 +57,7 @@ pub fn blank_tables() -> Tables
 }
 
 pub fn blank_stack() -> Stack
-    ensures { λ r. ⌜ r ≡ blankStack ⌝ }
+    ensures { λ r. ⌜ r ≡ blank-stack ⌝ }
 {
     Stack {
         depth: 0,

@@ -5,7 +5,7 @@ ghost use mathlib.Core.Path.{_≡_};
 ghost use Prim.Native.Nat.{_-_};
 ghost use lib.ListN.{getD, set};
 ghost use lib.Dec.{eqb};
-ghost use Rattle.stores.specs.Entries.{depthAfter, writtenAt, callerPlace, callerWritten, topWritten, firstAt, within, allFrom, coinductiveAt};
+ghost use Rattle.stores.specs.Entries.{depth-after, written-at, caller-place, caller-written, top-written, first-at, within, all-from, coinductive-at};
 
 // `push`: the depth that it leaves; the same depth where the stack is full.
 pub fn push_entry(
@@ -19,12 +19,12 @@ pub fn push_entry(
     time: u64,
     most: u64,
 ) -> usize
-    ensures { λ r. ⌜ (r ≡ depthAfter depth)
-        × (now (table .exit) ≡ writtenAt depth t (now (table .entry)))
-        × (now (clock .exit) ≡ writtenAt depth time (now (clock .entry)))
-        × (now (positive .exit) ≡ writtenAt depth most (now (positive .entry)))
-        × (now (negative .exit) ≡ writtenAt depth most (now (negative .entry)))
-        × (now (active .exit) ≡ writtenAt depth 256 (now (active .entry))) ⌝ }
+    ensures { λ r. ⌜ (r ≡ depth-after depth)
+        × (now (table .exit) ≡ written-at depth t (now (table .entry)))
+        × (now (clock .exit) ≡ written-at depth time (now (clock .entry)))
+        × (now (positive .exit) ≡ written-at depth most (now (positive .entry)))
+        × (now (negative .exit) ≡ written-at depth most (now (negative .entry)))
+        × (now (active .exit) ≡ written-at depth 256 (now (active .entry))) ⌝ }
 {
     if depth >= 64 {
         return depth;
@@ -46,7 +46,7 @@ pub fn pop(depth: usize) -> usize
 
 // The place of the strand of the caller, the entry below the top: 256 where there is no caller or no strand.
 pub fn caller_place(active: &[u16; 64], depth: usize) -> u16
-    ensures { λ r. ⌜ r ≡ callerPlace depth (now (active .entry)) ⌝ }
+    ensures { λ r. ⌜ r ≡ caller-place depth (now (active .entry)) ⌝ }
 {
     if depth < 2 {
         return 256;
@@ -59,7 +59,7 @@ pub fn caller_place(active: &[u16; 64], depth: usize) -> u16
 
 // `pop_and_take_caller_strand`, but for the depth: the caller's entry has no strand from now on.
 pub fn take_caller(active: &mut [u16; 64], depth: usize) -> u16
-    ensures { λ r. ⌜ (r ≡ callerPlace depth (now (active .entry))) × (now (active .exit) ≡ callerWritten depth (now (active .entry))) ⌝ }
+    ensures { λ r. ⌜ (r ≡ caller-place depth (now (active .entry))) × (now (active .exit) ≡ caller-written depth (now (active .entry))) ⌝ }
 {
     if depth < 2 {
         return 256;
@@ -74,7 +74,7 @@ pub fn take_caller(active: &mut [u16; 64], depth: usize) -> u16
 
 // The top's active strand is set: a place, or 256 for none.
 pub fn set_active(active: &mut [u16; 64], depth: usize, place: u16)
-    ensures { λ _. ⌜ now (active .exit) ≡ topWritten depth place (now (active .entry)) ⌝ }
+    ensures { λ _. ⌜ now (active .exit) ≡ top-written depth place (now (active .entry)) ⌝ }
 {
     if depth == 0 {
         return;
@@ -87,7 +87,7 @@ pub fn set_active(active: &mut [u16; 64], depth: usize, place: u16)
 
 // One of the top's minimums is set.
 pub fn set_minimum(minimum: &mut [u64; 64], depth: usize, time: u64)
-    ensures { λ _. ⌜ now (minimum .exit) ≡ topWritten depth time (now (minimum .entry)) ⌝ }
+    ensures { λ _. ⌜ now (minimum .exit) ≡ top-written depth time (now (minimum .entry)) ⌝ }
 {
     if depth == 0 {
         return;
@@ -107,7 +107,7 @@ fn upto(n: usize) -> usize
 // Where x stands first among the first n, or n (64 at most) where it doesn't. `is_active` for the tables of the entries, `index_of` for
 // the goals of the tables.
 pub fn first_of(xs: &[u8; 64], n: usize, x: u8) -> usize
-    ensures { λ r. ⌜ r ≡ firstAt (λ i. eqb (getD (now (xs .entry)) i 0) x) 0 (within n) ⌝ }
+    ensures { λ r. ⌜ r ≡ first-at (λ i. eqb (getD (now (xs .entry)) i 0) x) 0 (within n) ⌝ }
 {
     let m = upto(n);
     let mut i: usize = 0;
@@ -122,7 +122,7 @@ pub fn first_of(xs: &[u8; 64], n: usize, x: u8) -> usize
 
 // `top_of_stack_is_coinductive_from`: all entries from one up to the top are of coinductive tables.
 pub fn coinductive_from(table: &[u8; 64], coinductive: &[u8; 64], from: usize, depth: usize) -> bool
-    ensures { λ r. ⌜ r ≡ allFrom (coinductiveAt (now (table .entry)) (now (coinductive .entry))) from (within depth - from) ⌝ }
+    ensures { λ r. ⌜ r ≡ all-from (coinductive-at (now (table .entry)) (now (coinductive .entry))) from (within depth - from) ⌝ }
 {
     let m = upto(depth);
     let mut i = from;

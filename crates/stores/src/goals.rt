@@ -7,13 +7,13 @@ ghost use mathlib.Core.Path.{_≡_};
 ghost use lib.ListN.{getD};
 ghost use lib.Dec.{eqb};
 ghost use Rattle.rings.specs.Rings.{RingMove};
-ghost use Rattle.stores.specs.Sound.{flagOf};
-ghost use Rattle.stores.specs.Entries.{depthAfter, writtenAt, flagAt, firstAt, within};
-ghost use Rattle.stores.specs.Tabling.{goalAt};
+ghost use Rattle.stores.specs.Sound.{flag-number};
+ghost use Rattle.stores.specs.Entries.{depth-after, written-at, flag-at, first-at, within};
+ghost use Rattle.stores.specs.Tabling.{table-goal-at};
 
 // `index_of`: the table of a goal; the count where it has none.
 pub fn index_of(goal: &[u8; 64], count: usize, g: u8) -> usize
-    ensures { λ r. ⌜ r ≡ firstAt (λ i. eqb (getD (now (goal .entry)) i 0) g) 0 (within count) ⌝ }
+    ensures { λ r. ⌜ r ≡ first-at (λ i. eqb (getD (now (goal .entry)) i 0) g) 0 (within count) ⌝ }
 {
     first_of(goal, count, g)
 }
@@ -29,11 +29,11 @@ pub fn insert(
     is_coinductive: bool,
     is_floundered: bool,
 ) -> usize
-    ensures { λ r. ⌜ (r ≡ depthAfter count)
-        × (now (goal .exit) ≡ writtenAt count g (now (goal .entry)))
-        × (now (coinductive .exit) ≡ writtenAt count (flagOf «is_coinductive») (now (coinductive .entry)))
-        × (now (floundered .exit) ≡ writtenAt count (flagOf «is_floundered») (now (floundered .entry)))
-        × (now (complete .exit) ≡ writtenAt count 1 (now (complete .entry))) ⌝ }
+    ensures { λ r. ⌜ (r ≡ depth-after count)
+        × (now (goal .exit) ≡ written-at count g (now (goal .entry)))
+        × (now (coinductive .exit) ≡ written-at count (flag-number «is_coinductive») (now (coinductive .entry)))
+        × (now (floundered .exit) ≡ written-at count (flag-number «is_floundered») (now (floundered .entry)))
+        × (now (complete .exit) ≡ written-at count 1 (now (complete .entry))) ⌝ }
 {
     if count >= 64 {
         return count;
@@ -47,7 +47,7 @@ pub fn insert(
 
 // The goal of a table.
 pub fn goal_at(goal: &[u8; 64], t: u8) -> u8
-    ensures { λ r. ⌜ r ≡ goalAt t (now (goal .entry)) ⌝ }
+    ensures { λ r. ⌜ r ≡ table-goal-at t (now (goal .entry)) ⌝ }
 {
     if t >= 64 {
         return 0;
@@ -57,7 +57,7 @@ pub fn goal_at(goal: &[u8; 64], t: u8) -> u8
 
 // Whether a flag of a table is set: floundered, coinductive, or that it wants complete answers.
 pub fn flag_at(flags: &[u8; 64], t: u8) -> bool
-    ensures { λ r. ⌜ r ≡ flagAt t (now (flags .entry)) ⌝ }
+    ensures { λ r. ⌜ r ≡ flag-at t (now (flags .entry)) ⌝ }
 {
     if t >= 64 {
         return false;
@@ -67,7 +67,7 @@ pub fn flag_at(flags: &[u8; 64], t: u8) -> bool
 
 // A flag of a table is set: the answer mode, or floundered.
 pub fn set_flag(flags: &mut [u8; 64], t: u8, flag: bool)
-    ensures { λ _. ⌜ now (flags .exit) ≡ writtenAt t (flagOf flag) (now (flags .entry)) ⌝ }
+    ensures { λ _. ⌜ now (flags .exit) ≡ written-at t (flag-number flag) (now (flags .entry)) ⌝ }
 {
     if t >= 64 {
         return;
@@ -86,7 +86,7 @@ pub fn mark_floundered(
     answer_len: &mut [u16; 256],
     t: u8,
 )
-    ensures { λ _. ⌜ (now (floundered .exit) ≡ writtenAt t 1 (now (floundered .entry)))
+    ensures { λ _. ⌜ (now (floundered .exit) ≡ written-at t 1 (now (floundered .entry)))
         × RingMove (now (next .entry)) (now (tail .entry)) (now (len .entry)) t 64 (now (next .exit)) (now (tail .exit)) (now (len .exit))
         × RingMove (now («answer_next» .entry)) (now («answer_tail» .entry)) (now («answer_len» .entry)) t 64 (now («answer_next» .exit)) (now («answer_tail» .exit)) (now («answer_len» .exit)) ⌝ }
 {

@@ -3,7 +3,7 @@ use rings::ring_pop;
 ghost use mathlib.Core.Path.{_≡_};
 ghost use Prim.Native.Nat.{_-_};
 ghost use lib.ListN.{getD};
-ghost use Rattle.stores.specs.Sound.{flagOf};
+ghost use Rattle.stores.specs.Sound.{flag-number};
 ghost use Rattle.stores.specs.Placing.{TookPlace};
 
 // A place that was used and is free again, else one that was never used; 256 where all are in use.
@@ -37,7 +37,7 @@ pub fn in_use(len: &[u16; 256], top: u16) -> u16
 
 // A flag as it is kept in an array of numbers.
 pub fn flag_of(b: bool) -> u8
-    ensures { λ r. ⌜ r ≡ flagOf b ⌝ }
+    ensures { λ r. ⌜ r ≡ flag-number b ⌝ }
 {
     if b { 1 } else { 0 }
 }

@@ -12,9 +12,9 @@ use Rattle.rings.specs.Rings.{linked, lengthened, RingTook, RingMove}
 use Rattle.rings.proofs.Counts.{true-false}
 use Rattle.strands.specs.declared.Strand.{Strand}
 use Rattle.stores.specs.declared.Strands.{Strands}
-use Rattle.stores.specs.Sound.{flagOf}
+use Rattle.stores.specs.Sound.{flag-number}
 use Rattle.stores.specs.Placing.{places, TookPlace}
-use Rattle.stores.specs.Storing.{with-places, testAt}
+use Rattle.stores.specs.Storing.{with-places, test-at}
 use Rattle.stores.proofs.PlaceMoves.{taken-is, moved-is}
 use Rattle.stores.proofs.StrandStores.{stored-is}
 use Rattle.stores_run.specs.Owner.{Puts, Takes, Clears}
@@ -27,7 +27,7 @@ module _ (s : Strands) (t : ℕ) (x : Strand) (n′ l′ : List ℕ) (m′ q : �
     none = λ e. refl;
   }
 
-  pub put-some : q < 256 → (n″ t″ l″ : List ℕ) → n″ ≡ linked n′ (s .places .tail) l′ t q → t″ ≡ set (s .places .tail) t q → l″ ≡ lengthened l′ t → (f : ℕ) → f ≡ flagOf (x .ambiguous)
+  pub put-some : q < 256 → (n″ t″ l″ : List ℕ) → n″ ≡ linked n′ (s .places .tail) l′ t q → t″ ≡ set (s .places .tail) t q → l″ ≡ lengthened l′ t → (f : ℕ) → f ≡ flag-number (x .ambiguous)
       → Puts s t x (record { done = true; strands = record { strands = set (s .strands) q x; time = set (s .time) q (x .«last_pursued_time»); ambiguous = set (s .ambiguous) q f; places = places n″ t″ l″ m′ } })
   put-some h n″ t″ l″ en et el f ef = record {
     found = sym (ap (λ (i : ℕ). ltb i 256) (sym (took .is)) ∙ lt-ltb q 256 h);
@@ -35,10 +35,10 @@ module _ (s : Strands) (t : ℕ) (x : Strand) (n′ l′ : List ℕ) (m′ q : �
     none = λ e. true-false true refl e;
   }
 
-pub take-of : (s : Strands) (t clock : ℕ) (n′ t′ l′ : List ℕ) (r : ℕ) → RingTook (s .places .next) (s .places .tail) (s .places .len) t (testAt clock false s) n′ t′ l′ r
+pub take-of : (s : Strands) (t clock : ℕ) (n′ t′ l′ : List ℕ) (r : ℕ) → RingTook (s .places .next) (s .places .tail) (s .places .len) t (test-at clock false s) n′ t′ l′ r
     → Takes s t clock (record { place = r; strands = with-places s (places n′ t′ l′ (s .places .top)) })
 take-of s t clock n′ t′ l′ r did =
-    let e = taken-is (s .places) (testAt clock false s) t n′ t′ l′ r did in
+    let e = taken-is (s .places) (test-at clock false s) t n′ t′ l′ r did in
     record { place = e .1; is = ap (with-places s) (e .0) }
 
 pub clear-of : (s : Strands) (t : ℕ) (n′ t′ l′ : List ℕ) → RingMove (s .places .next) (s .places .tail) (s .places .len) t 64 n′ t′ l′

@@ -16,7 +16,7 @@ use Rattle.definitions.specs.Stack.{Stack}
 use Rattle.definitions.specs.Turn.{pursue-answer, on-no-remaining-subgoals}
 use Rattle.promises.specs.Plain.Machine as M
 use Rattle.promises.specs.Plain.Steps.{put-here, put-there}
-use Rattle.promises.specs.Plain.Turns.{rootOf}
+use Rattle.promises.specs.Plain.Turns.{root-of}
 use Rattle.promises.specs.Link.View.{strand-of, q-end, table-of, mode-of, table-is, no-active, an-active, entry-of, machine-entry, StackIs, s-end, s-more}
 use Rattle.promises.specs.Link.Lists.{set-here}
 use Rattle.promises.specs.Link.Tests.{leb-no}
@@ -44,7 +44,7 @@ module _ (book : Book) (limit : ℕ) (few-goals : length book ≤ 64) {gs : List
   few-answers = let x = held-few (agree .tables) in let y = few-distinct (length book) gs (agree .distinct) (agree .within) in omega arith
 
   answering-go : {ds : Stack} {es : List M.Entry} → StackIs (length book) gs ds es → Lined (limits-of book limit) (machine-entry g c pm nm (some m)) es → p .answered g ≡ false
-      → TurnIs book limit gs before (rootOf (machine-entry g c pm nm (some m)) es) (on-no-remaining-subgoals (state-of book limit ts (p .clock) (entry-of i c pm nm none ∷ ds)) (strand-of a [] none c))
+      → TurnIs book limit gs before (root-of (machine-entry g c pm nm (some m)) es) (on-no-remaining-subgoals (state-of book limit ts (p .clock) (entry-of i c pm nm none ∷ ds)) (strand-of a [] none c))
       (M.answering (limits-of book limit) false p (machine-entry g c pm nm (some m)) es)
   answering-go s-end lined no-g =
       let t = table-here agree i g at in
@@ -59,12 +59,12 @@ module _ (book : Book) (limit : ℕ) (few-goals : length book ≤ 64) {gs : List
       (going (λ i h o. o) (answer-agree agree i g at) (s-more i' g' c' pm' nm' e' (an-active x) xs))))
 
   answering-at : (b : Bool) {ds : Stack} {es : List M.Entry} → StackIs (length book) gs ds es → Lined (limits-of book limit) (machine-entry g c pm nm (some m)) es → p .answered g ≡ b
-      → TurnIs book limit gs before (rootOf (machine-entry g c pm nm (some m)) es) (on-no-remaining-subgoals (state-of book limit ts (p .clock) (entry-of i c pm nm none ∷ ds)) (strand-of a [] none c))
+      → TurnIs book limit gs before (root-of (machine-entry g c pm nm (some m)) es) (on-no-remaining-subgoals (state-of book limit ts (p .clock) (entry-of i c pm nm none ∷ ds)) (strand-of a [] none c))
       (M.answering (limits-of book limit) b p (machine-entry g c pm nm (some m)) es)
   answering-at true xs lined e = lost tt
   answering-at false xs lined e = answering-go xs lined e
 
   pub answering-is : {ds : Stack} {es : List M.Entry} → StackIs (length book) gs ds es → Lined (limits-of book limit) (machine-entry g c pm nm (some m)) es
-      → TurnIs book limit gs before (rootOf (machine-entry g c pm nm (some m)) es) (on-no-remaining-subgoals (state-of book limit ts (p .clock) (entry-of i c pm nm none ∷ ds)) (strand-of a [] none c))
+      → TurnIs book limit gs before (root-of (machine-entry g c pm nm (some m)) es) (on-no-remaining-subgoals (state-of book limit ts (p .clock) (entry-of i c pm nm none ∷ ds)) (strand-of a [] none c))
       (M.answering (limits-of book limit) (p .answered g) p (machine-entry g c pm nm (some m)) es)
   answering-is xs lined = answering-at (p .answered g) xs lined refl

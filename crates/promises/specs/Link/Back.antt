@@ -29,11 +29,11 @@ table-here {book} {gs} {ts} {p} a i g e = let r = table-found (a .tables) i g e 
     go t k (table-is ss x) = record { waiting = ss; queue = x; is = k }
 
 -- a queue is changed
-pub same-queue : (p : M.Forest) (g : ℕ) (q : List M.Strand) → SameBut g p (M.withQueue p (M.put (p .queue) g q))
+pub same-queue : (p : M.Forest) (g : ℕ) (q : List M.Strand) → SameBut g p (M.with-queue p (M.put (p .queue) g q))
 same-queue p g q = record { made = λ h. refl; answered = λ h o. refl; first = λ h o. refl; queue = λ h o. put-there (p .queue) g h q o }
 
 pub queue-set : {book : Book} {gs : List ℕ} {ts : Tables} {p : M.Forest} → Agree book gs ts p → (i g : ℕ) → getElem? gs i ≡ some g → (ss : List Strand) (q : List M.Strand) → QueueIs (length book) gs ss q
-    → Agree book gs (set ts i (table-of g (p .answered g) (p .first g) ss)) (M.withQueue p (M.put (p .queue) g q))
+    → Agree book gs (set ts i (table-of g (p .answered g) (p .first g) ss)) (M.with-queue p (M.put (p .queue) g q))
 queue-set {book} {gs} {p = p} a i g e ss q x =
     agree-set a i g e (table-of g (p .answered g) (p .first g) ss) (subst (λ z. TableIs (length book) gs g (p .answered g) (p .first g) z (table-of g (p .answered g) (p .first g) ss)) (sym (put-here (p .queue) g g q refl)) (table-is ss x)) (same-queue p g q)
 
@@ -45,7 +45,7 @@ pub record Became (book : Book) (limit mark c : ℕ) (gs : List ℕ) (result : S
 
 module _ (book : Book) (limit mark c : ℕ) {gs : List ℕ} where
   pub enqueued : {ts : Tables} {p : M.Forest} → Agree book gs ts p → (i g : ℕ) → getElem? gs i ≡ some g → (s : Strand) (m : M.Strand) → StrandIs (length book) gs s m
-      → Became book limit mark c gs (change-table (forest-of book limit mark ts c) i (enqueue-strand s)) (M.withQueue p (M.append (p .queue) g m))
+      → Became book limit mark c gs (change-table (forest-of book limit mark ts c) i (enqueue-strand s)) (M.with-queue p (M.append (p .queue) g m))
   enqueued {ts} {p} a i g e s m x =
       let t = table-here a i g e in
       record {
@@ -61,7 +61,7 @@ Busy (e ∷ es) = ((s : M.Strand) × (e .active ≡ some s)) × Busy es
 
 module _ (book : Book) (limit mark c : ℕ) {gs : List ℕ} where
   pub unwound-is : {ds : Stack} {es : List M.Entry} → StackIs (length book) gs ds es → Busy es → {ts : Tables} {p : M.Forest} → Agree book gs ts p
-      → Became book limit mark c gs (unwind-callers (forest-of book limit mark ts c) ds) (M.withQueue p (M.putBack (p .queue) es))
+      → Became book limit mark c gs (unwind-callers (forest-of book limit mark ts c) ds) (M.with-queue p (M.all-back (p .queue) es))
   unwound-is s-end w {ts} a = record { after = ts; is = refl; agree = a }
   unwound-is (s-more i g k m r e no-active xs) w a = absurd (no-such (w .0 .1))
   unwound-is (s-more i g k m r e (an-active {s = s} {m = o} x) xs) w a =
@@ -70,7 +70,7 @@ module _ (book : Book) (limit mark c : ℕ) {gs : List ℕ} where
       record { after = d .after; is = rw (b .is) (d .is); agree = d .agree }
 
   pub dropped-is : {d : StackEntry} {ds : Stack} {e : M.Entry} {es : List M.Entry} → StackIs (length book) gs (d ∷ ds) (e ∷ es) → Busy es → {ts : Tables} {p : M.Forest} → Agree book gs ts p
-      → Became book limit mark c gs (drop-state (record { forest = forest-of book limit mark ts c; stack = d ∷ ds })) (M.withQueue p (M.putBack (p .queue) (e ∷ es)))
+      → Became book limit mark c gs (drop-state (record { forest = forest-of book limit mark ts c; stack = d ∷ ds })) (M.with-queue p (M.all-back (p .queue) (e ∷ es)))
   dropped-is (s-more i g k m r e no-active xs) w a = unwound-is xs w a
   dropped-is (s-more i g k m r e (an-active {s = s} {m = o} x) xs) w a =
       let b = enqueued book limit mark c a i g e s o x in

@@ -9,7 +9,7 @@ use Rattle.definitions.specs.Stop.{go}
 use Rattle.definitions.specs.Table.{Table}
 use Rattle.definitions.specs.Tables.{Forest}
 use Rattle.definitions.specs.Logic.{Selected, selecting, select-from, get-or-create-table-for-ucanonical-goal, get-or-create-table-for-subgoal}
-use Rattle.promises.specs.Plain.Model.{Lit, pos, neg, Body, goalOf}
+use Rattle.promises.specs.Plain.Model.{Lit, pos, neg, Body, literal-goal}
 use Rattle.promises.specs.Link.View.{literal, literals, strand-of, selection}
 use Rattle.promises.specs.Link.Lists.{last-place, last-one, last-some}
 
@@ -22,11 +22,11 @@ module _ (others : ℕ) (f : Forest) (a : ℕ) (l : Lit) (b : Body) (t i : ℕ) 
   pub select-bound : (passes : ℕ) → select-from (suc passes) others f (strand-of a (l ∷ b) (some (selection i b)) t) ≡ go (selecting Selected (strand-of a (l ∷ b) (some (selection i b)) t) f)
   select-bound passes = select-at (length (literals b)) passes
 
-goal-same : (l : Lit) (f : Forest) (others j : ℕ) (f' : Forest) → get-or-create-table-for-ucanonical-goal others f (goalOf l) ≡ go (j, f') → get-or-create-table-for-subgoal others f (literal l) ≡ go (some j, f')
+goal-same : (l : Lit) (f : Forest) (others j : ℕ) (f' : Forest) → get-or-create-table-for-ucanonical-goal others f (literal-goal l) ≡ go (j, f') → get-or-create-table-for-subgoal others f (literal l) ≡ go (some j, f')
 goal-same (pos h) f others j f' e = rw e
 goal-same (neg h) f others j f' e = rw e
 
-pub select-free : (passes others : ℕ) (f : Forest) (a : ℕ) (l : Lit) (b : Body) (t j : ℕ) (f' : Forest) (tb : Table) → get-or-create-table-for-ucanonical-goal others f (goalOf l) ≡ go (j, f') → getElem? (f' .tables) j ≡ some tb → tb .floundered ≡ false
+pub select-free : (passes others : ℕ) (f : Forest) (a : ℕ) (l : Lit) (b : Body) (t j : ℕ) (f' : Forest) (tb : Table) → get-or-create-table-for-ucanonical-goal others f (literal-goal l) ≡ go (j, f') → getElem? (f' .tables) j ≡ some tb → tb .floundered ≡ false
     → select-from (suc (suc passes)) others f (strand-of a (l ∷ b) none t) ≡ go (selecting Selected (strand-of a (l ∷ b) (some (selection j b)) t) f')
 select-free passes others f a l b t j f' tb e e' n =
     rw (last-some (literals b) (literal l), select-from) (rw (last-place (literals b) (literal l)) (rw (last-one (literals b) (literal l)) (rw (goal-same l f others j f' e)

@@ -11,7 +11,7 @@ use Rattle.definitions.specs.Lists.{total}
 use Rattle.definitions.specs.Strand.{Strand}
 use Rattle.definitions.specs.Tables.{Tables, Forest}
 use Rattle.definitions.specs.Turn.{clear-each, clear-strands-after-cycle}
-use Rattle.promises.specs.Plain.Model.{goalOf}
+use Rattle.promises.specs.Plain.Model.{literal-goal}
 use Rattle.promises.specs.Plain.Machine as M
 use Rattle.promises.specs.Link.View.{free, bound, QueueIs, q-end, q-more, table-of}
 use Rattle.promises.specs.Link.Lists.{total-set}
@@ -26,14 +26,14 @@ pub record Cleared (book : Book) (limit mark c : ℕ) (gs : List ℕ) (p : M.For
   pub after : Tables
   pub is : result ≡ go (forest-of book limit mark after c)
   pub queues : M.Queues
-  pub agree : Agree book gs after (M.withQueue p queues)
+  pub agree : Agree book gs after (M.with-queue p queues)
   pub fewer : strands-in after ≤ strands-in ts
   pub fuel : ℕ
   pub onward : M.clear fuel rest queues ≡ some q'
 
 module _ (book : Book) (limit mark c : ℕ) (gs : List ℕ) (p : M.Forest) where
   abbrev Clears : (room : ℕ) → (List Strand → Forest → Stops Forest) → Type 0
-  Clears room clear = (ss : List Strand) (qs : List M.Strand) → QueueIs (length book) gs ss qs → (ts : Tables) (q : M.Queues) → Agree book gs ts (M.withQueue p q) → min 1 (length ss) + strands-in ts ≤ room
+  Clears room clear = (ss : List Strand) (qs : List M.Strand) → QueueIs (length book) gs ss qs → (ts : Tables) (q : M.Queues) → Agree book gs ts (M.with-queue p q) → min 1 (length ss) + strands-in ts ≤ room
       → (n : ℕ) (rest : List M.Strand) (q' : M.Queues) → M.clear n (qs ++ rest) q ≡ some q' → Cleared book limit mark c gs p ts (clear ss (forest-of book limit mark ts c)) rest q'
 
   each-clears : (d : ℕ) (clear : List Strand → Forest → Stops Forest) → Clears d clear → Clears (suc d) (clear-each clear)
@@ -42,7 +42,7 @@ module _ (book : Book) (limit mark c : ℕ) (gs : List ℕ) (p : M.Forest) where
   each-clears d clear h ss qs (q-more (free t b k w) xs) ts q a o (suc n) rest q' e = absurd (no-such e)
   each-clears d clear h ss qs (q-more (bound t l b k j w at) xs) ts q a o zero rest q' e = absurd (no-such e)
   each-clears d clear h ss qs (q-more {ss = ss'} {ms = ms} (bound t l b k j w at) xs) ts q a o (suc n) rest q' e =
-      let u = goalOf l in
+      let u = literal-goal l in
       let here = table-here a j u at in
       let emptied = table-of u (p .answered u) (p .first u) [] in
       let ts' = set ts j emptied in

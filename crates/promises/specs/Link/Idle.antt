@@ -53,7 +53,7 @@ module _ (book : Book) (limit : ℕ) {gs : List ℕ} {ts : Tables} {p : M.Forest
 
   -- part of a cycle that ends further down
   part-is : {ds : Stack} {es : List M.Entry} → StackIs (length book) gs ds es → Lined (limits-of book limit) (machine-entry g c pm nm none) es
-      → TurnIs book limit gs before r (on-part-of-cycle (state-of book limit ts (p .clock) (entry-of i c pm nm none ∷ ds)) (entry-of i c pm nm none)) (M.partOf (limits-of book limit) p (machine-entry g c pm nm none) es)
+      → TurnIs book limit gs before r (on-part-of-cycle (state-of book limit ts (p .clock) (entry-of i c pm nm none ∷ ds)) (entry-of i c pm nm none)) (M.part-of (limits-of book limit) p (machine-entry g c pm nm none) es)
   part-is s-end lined = lost tt
   part-is (s-more i' g' c' pm' nm' e' no-active xs) lined = absurd (no-such (lined .2 .active))
   part-is (s-more i' g' c' pm' nm' e' (an-active (free a b t w)) xs) lined = absurd (not-free (lined .2 .active) (lined .2 .chosen))
@@ -75,7 +75,7 @@ module _ (book : Book) (limit : ℕ) {gs : List ℕ} {ts : Tables} {p : M.Forest
       let ts' = set ts i emptied in
       let d = clears book limit 0 (p .clock) gs p (suc (strands-in ts')) ss (p .queue g) x ts' (M.put (p .queue) g []) (queue-set agree i g at [] [] q-end) (omega arith) (M.total (length book) (λ g. length (p .queue g))) [] q'
       (ap (λ z. M.clear (M.total (length book) (λ g. length (p .queue g))) z (M.put (p .queue) g [])) (append-nil (p .queue g)) ∙ k) in
-      let done : Agree book gs (d .after) (M.withQueue p q') = subst (λ z. Agree book gs (d .after) (M.withQueue p z)) (finished (d .fuel) (d .queues) q' (d .onward)) (d .agree) in
+      let done : Agree book gs (d .after) (M.with-queue p q') = subst (λ z. Agree book gs (d .after) (M.with-queue p z)) (finished (d .fuel) (d .queues) q' (d .onward)) (d .agree) in
       let b = unwound-is book limit 0 (p .clock) xs (lined-busy (limits-of book limit) (machine-entry g c pm nm none) es lined) done in
       rw (ltb-no nm MAX (omega arith), on-own-cycle) (rw (t .is) (rw (d .is) (rw (b .is) (over {ts = b .after} (b .agree)))))
     where

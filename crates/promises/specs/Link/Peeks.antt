@@ -46,7 +46,7 @@ module _ {book : Book} (sound : Sound book) (limit : ℕ) (level : ℕ → ℕ) 
   Set = S sound limit level levelled inside room few
 
   root-at : {gs : List ℕ} {ts : Tables} {p : M.Forest} → Agree book gs ts p → Ready Set p → (t g n : ℕ) → getElem? gs t ≡ some g → (b : Bool) → p .answered g ≡ b → (i : ℕ) → i ≤ length (answers-of b)
-      → SearchIs book limit gs (root-answer (suc n) t i (forest-of book limit 0 ts (p .clock))) (M.searchAt (limits-of book limit) true b i (suc n) p g .0) (M.searchAt (limits-of book limit) true b i (suc n) p g .1)
+      → SearchIs book limit gs (root-answer (suc n) t i (forest-of book limit 0 ts (p .clock))) (M.search-at (limits-of book limit) true b i (suc n) p g .0) (M.search-at (limits-of book limit) true b i (suc n) p g .1)
   root-at {gs} {ts} {p} a ready t g n at true e zero o =
       let h = table-here a t g at in
       let k : getElem? ts t ≡ some (table-of g true (p .first g) (h .waiting)) = h .is ∙ ap (λ z. some (table-of g z (p .first g) (h .waiting))) e in
@@ -87,7 +87,7 @@ not-invalid (stopped-is x) = refl
 
 -- QuantumExceeded, or an ending that ends the peek
 again-or-not : {limit c m : ℕ} {e : Ending} {o : M.Outcome} → EndIs limit c m e o → (N : M.Limits) (p : M.Forest)
-    → ((o ≡ M.again) × (e ≡ fail QuantumExceeded) × (m ≡ 0)) ⊎ ((is-exceeded e ≡ false) × ((k : M.Forest → M.Outcome × ℕ × M.Forest) → M.peekNext N (o, p) k ≡ (o, 0, p)))
+    → ((o ≡ M.again) × (e ≡ fail QuantumExceeded) × (m ≡ 0)) ⊎ ((is-exceeded e ≡ false) × ((k : M.Forest → M.Outcome × ℕ × M.Forest) → M.peek-next N (o, p) k ≡ (o, 0, p)))
 again-or-not found-is N p = inr (refl, λ k. refl)
 again-or-not none-is N p = inr (refl, λ k. refl)
 again-or-not again-is N p = inl (refl, refl, refl)
@@ -119,7 +119,7 @@ module _ (limit k t i : ℕ) (f : Forest) (valid : is-invalid (root-answer limit
   peek-more : is-exceeded (root-answer limit t i f .ending) ≡ true → (r : ℕ) → peek-rounds (suc r) limit k t i f ≡ peek-rounds r limit (suc k) t i (root-answer limit t i f .forest)
   peek-more e r = ap (next-round r limit k t) (skip-at 255) ∙ rw (e, next-round)
 
-end-differs : {A : Type 0} {o : M.Outcome} → o ≡ M.again → (o ≡ M.cut) ⊎ ((o ≡ M.noMore) ⊎ (o ≡ M.clockOut)) → A
+end-differs : {A : Type 0} {o : M.Outcome} → o ≡ M.again → (o ≡ M.cut) ⊎ ((o ≡ M.no-more-left) ⊎ (o ≡ M.clock-ended)) → A
 end-differs {A} {o} e (inl x) = absurd (let z : _≡_ {A = ℕ} 0 1 = cc in omega arith)
 end-differs {A} {o} e (inr (inl x)) = absurd (let z : _≡_ {A = ℕ} 0 1 = cc in omega arith)
 end-differs {A} {o} e (inr (inr x)) = absurd (let z : _≡_ {A = ℕ} 0 1 = cc in omega arith)
@@ -135,7 +135,7 @@ module _ {book : Book} (sound : Sound book) (limit : ℕ) (level : ℕ → ℕ) 
       either (λ x. end-differs e (inl (ap (λ (z : M.Outcome × M.Forest). z .0) x))) (λ x. end-differs e (inr (inl (ap (λ (z : M.Outcome × M.Forest). z .0) x)))) (run-stored Here (M.tick (limits-of book limit) p) g (suc (p .clock)) n none-left)
   stored-not-again p ready g n yes-g (no o) e = end-differs e (inr (inr refl))
 
-  again-at : (p : M.Forest) → Ready Here p → (g n : ℕ) (m b : Bool) → p .answered g ≡ b → (i : ℕ) → i ≤ length (answers-of b) → M.searchAt (limits-of book limit) m b i (suc n) p g .0 ≡ M.again → i ≡ 0
+  again-at : (p : M.Forest) → Ready Here p → (g n : ℕ) (m b : Bool) → p .answered g ≡ b → (i : ℕ) → i ≤ length (answers-of b) → M.search-at (limits-of book limit) m b i (suc n) p g .0 ≡ M.again → i ≡ 0
   again-at p ready g n false b k zero o e = refl
   again-at p ready g n false b k (suc i) o e = absurd (let z : _≡_ {A = ℕ} 0 1 = cc in omega arith)
   again-at p ready g n true false k zero o e = refl
@@ -151,7 +151,7 @@ module _ {book : Book} (sound : Sound book) (limit : ℕ) (level : ℕ → ℕ) 
   -- a round whose search says something else
   peek-done : (r : ℕ) (gs : List ℕ) (ts : Tables) (p : M.Forest) (t g n i k : ℕ) → SearchIs book limit gs (root-answer (suc n) t i (forest-of book limit 0 ts (p .clock))) (M.search (limits-of book limit) p g i (suc n) .0) (M.search (limits-of book limit) p g i (suc n) .1)
       → is-exceeded (root-answer (suc n) t i (forest-of book limit 0 ts (p .clock)) .ending) ≡ false
-      → ((c : M.Forest → M.Outcome × ℕ × M.Forest) → M.peekNext (limits-of book limit) (M.search (limits-of book limit) p g i (suc n)) c ≡ (M.search (limits-of book limit) p g i (suc n) .0, 0, M.search (limits-of book limit) p g i (suc n) .1))
+      → ((c : M.Forest → M.Outcome × ℕ × M.Forest) → M.peek-next (limits-of book limit) (M.search (limits-of book limit) p g i (suc n)) c ≡ (M.search (limits-of book limit) p g i (suc n) .0, 0, M.search (limits-of book limit) p g i (suc n) .1))
       → PeekIs book limit gs i k (peek-rounds r (suc n) k t i (forest-of book limit 0 ts (p .clock))) (M.rounds (limits-of book limit) (suc r) g i (suc n) p .0) (M.rounds (limits-of book limit) (suc r) g i (suc n) p .1) (M.rounds (limits-of book limit) (suc r) g i (suc n) p .2)
   peek-done r gs ts p t g n i k s e q =
       let F = forest-of book limit 0 ts (p .clock) in
@@ -173,7 +173,7 @@ module _ {book : Book} (sound : Sound book) (limit : ℕ) (level : ℕ → ℕ) 
       let N = limits-of book limit in
       let F = forest-of book limit 0 ts (p .clock) in
       let p' = M.search N p g i (suc n) .1 in
-      let next : M.rounds N 1 g i (suc n) p ≡ (M.again, 1, p') = ap (λ z. M.peekNext N (z, p') (M.rounds N 0 g i (suc n))) q in
+      let next : M.rounds N 1 g i (suc n) p ≡ (M.again, 1, p') = ap (λ z. M.peek-next N (z, p') (M.rounds N 0 g i (suc n))) q in
       let ends : EndIs limit (p' .clock) (s .mark) (root-answer (suc n) t i F .ending) M.again = subst (λ z. EndIs limit (p' .clock) (s .mark) (root-answer (suc n) t i F .ending) z) q (s .ends) in
       subst (λ (z : M.Outcome × ℕ × M.Forest). PeekIs book limit gs i k (peek-rounds 0 (suc n) k t i F) (z .0) (z .1) (z .2)) (sym next)
       (subst (λ (z : Peeked). PeekIs book limit gs i k z M.again 1 p') (sym (peek-last (suc n) k t i F (not-invalid (s .ends)) (exceeds e)))
@@ -183,7 +183,7 @@ module _ {book : Book} (sound : Sound book) (limit : ℕ) (level : ℕ → ℕ) 
       let F = forest-of book limit 0 ts (p .clock) in
       let p' = M.search N p g i (suc n) .1 in
       let k' = M.rounds N (suc r) g i (suc n) in
-      let next : M.rounds N (suc (suc r)) g i (suc n) p ≡ (k' p' .0, suc (k' p' .1), k' p' .2) = ap (λ z. M.peekNext N (z, p') k') q in
+      let next : M.rounds N (suc (suc r)) g i (suc n) p ≡ (k' p' .0, suc (k' p' .1), k' p' .2) = ap (λ z. M.peek-next N (z, p') k') q in
       let ends : EndIs limit (p' .clock) (s .mark) (root-answer (suc n) t i F .ending) M.again = subst (λ z. EndIs limit (p' .clock) (s .mark) (root-answer (suc n) t i F .ending) z) q (s .ends) in
       let ready' = search-ok Here p g i (suc n) ready .rest in
       let zero-i = again-at p ready g n (p .made g) (p .answered g) refl i o q in

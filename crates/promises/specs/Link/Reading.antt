@@ -10,7 +10,7 @@ use lib.Dec.{ltb, leb, eqb}
 use Rattle.definitions.specs.Refusal.{Refusable, refused, accepted, Test, _refuses_, unless}
 use Rattle.definitions.specs.Book.{Book, Goal, Clause, Literal, Positive, Negative, clause-count, Command, goal, clause, positive, negative, end, unknown, command, width, is-end, add-clause, add-to-last, add-literal, goal-of, literals-name, clauses-name, goals-name, apply-command, whole-command, read-from, literal-command, end-command, byte, u16, bit0, bit1, literals-so-far}
 use Rattle.definitions.specs.Model.{Each, Plain, PlainGoal}
-use Rattle.promises.specs.Plain.Model.{Lit, Body, goalOf}
+use Rattle.promises.specs.Plain.Model.{Lit, Body, literal-goal}
 use Rattle.promises.specs.Link.View.{Names, names, names-end}
 use Rattle.promises.specs.Link.Tests.{leb-false, leb-true}
 use Rattle.promises.specs.Link.Tables.{lit, body-of, same-some}
@@ -142,11 +142,11 @@ read-good (b ∷ bs) zero book r s e = command-read (command b) bs book r s (λ 
 
 -- Named literals.
 
-names-last : (n : ℕ) (b : Body) (l : Lit) → Names n b → goalOf l < n → Names n (b ++ (l ∷ []))
+names-last : (n : ℕ) (b : Body) (l : Lit) → Names n b → literal-goal l < n → Names n (b ++ (l ∷ []))
 names-last n b l names-end x = names x names-end
 names-last n b l (names {b = b'} y ys) x = names y (names-last n b' l ys x)
 
-goal-lit : (l : Literal) → goalOf (lit l) ≡ goal-of l
+goal-lit : (l : Literal) → literal-goal (lit l) ≡ goal-of l
 goal-lit (Positive g w o) = refl
 goal-lit (Negative g o) = refl
 

@@ -33,10 +33,10 @@ use Rattle.promises.specs.Link.Turns.{turn-is}
 -- an ending beside an outcome, with the mark that the forest bears; 21 comes only with the clock at its limit
 pub data EndIs (limit clock : ℕ) : (mark : ℕ) → Ending → M.Outcome → Type 0 where
   found-is : EndIs limit clock 0 (found (record { variant = 0; ambiguous = false })) M.found
-  none-is : EndIs limit clock 0 (fail NoMoreSolutions) M.noMore
+  none-is : EndIs limit clock 0 (fail NoMoreSolutions) M.no-more-left
   again-is : EndIs limit clock 0 (fail QuantumExceeded) M.again
   cut-is : EndIs limit clock 0 cut M.cut
-  stopped-is : limit ≤ clock → EndIs limit clock 21 (stopped 21) M.clockOut
+  stopped-is : limit ≤ clock → EndIs limit clock 21 (stopped 21) M.clock-ended
 
 -- a search beside a search
 pub record SearchIs (book : Book) (limit : ℕ) (gs : List ℕ) (result : Searched) (o : M.Outcome) (p : M.Forest) : Type 0 where
@@ -52,15 +52,15 @@ pub search-more : {book : Book} {limit : ℕ} {gs hs : List ℕ} {result : Searc
 search-more x s = record { goals = s .goals; after = s .after; mark = s .mark; forest = s .forest; more = λ i g e. s .more i g (x i g e); agree = s .agree; ends = s .ends }
 
 lost-never : (S : Setting) (r : ℕ) (b a : ℕ → ℕ) (o : M.Outcome) → Lost o → Ends S r b a o → ⊥
-lost-never S r b a M.negCycle l e = e
+lost-never S r b a M.negative-cycled l e = e
 lost-never S r b a M.unselected l e = e
 lost-never S r b a M.repeated l e = e
 lost-never S r b a M.broken l e = e
 lost-never S r b a M.found l e = l
-lost-never S r b a M.noMore l e = l
+lost-never S r b a M.no-more-left l e = l
 lost-never S r b a M.again l e = l
 lost-never S r b a M.cut l e = l
-lost-never S r b a M.clockOut l e = l
+lost-never S r b a M.clock-ended l e = l
 lost-never S r b a M.noted l e = l
 lost-never S r b a (M.refused n) l e = l
 
@@ -109,7 +109,7 @@ module _ {book : Book} (sound : Sound book) (limit : ℕ) (level : ℕ → ℕ) 
       let b = dropped-is book limit 0 (p .clock) s (lined-busy (limits-of book limit) e es (piled-lined S (p .answered) _ (p .queue) e es (ok .inv .piled))) a in
       record { goals = gs; after = b .after; mark = 0; forest = rw (b .is, put-back); more = λ i g e. e; agree = b .agree; ends = rw (b .is, put-back) cut-is }
   run-is (suc n) gs ts p d ds e es r B a s ok done t at =
-      let before = M.withQueue p (M.putBack (p .queue) (e ∷ es)) in
+      let before = M.with-queue p (M.all-back (p .queue) (e ∷ es)) in
       let lined = piled-lined S (p .answered) _ (p .queue) e es (ok .inv .piled) in
       let few' = going-strands S r B p e es ok in
       let y = turn-is sound limit a s lined (omega arith) in
@@ -130,31 +130,31 @@ module _ {book : Book} (sound : Sound book) (limit : ℕ) (level : ℕ → ℕ) 
   begin-is {gs} {ts} {p} a ready t g n at no-g (yes lt) =
       let c = suc (p .clock) in
       rw (tick-is ts (p .clock) lt, begin)
-      (run-is n gs ts (M.tick (limits-of book limit) p) (entry-of t c MAX MAX none) [] (M.newEntry (limits-of book limit) g c) [] g (size p []) (ticked a) (s-more t g c MAX MAX at no-active s-end)
+      (run-is n gs ts (M.tick (limits-of book limit) p) (entry-of t c MAX MAX none) [] (M.entry-pushed (limits-of book limit) g c) [] g (size p []) (ticked a) (s-more t g c MAX MAX at no-active s-end)
       (record { inv = begin-inv S p g ready no-g lt; root = refl; fewer = λ u. let x = ready .live u in omega arith }) 0 t at)
   begin-is {gs} {ts} {p} a ready t g n at no-g (no o) =
       let full : limit ≤ p .clock = omega arith in
       rw (full-is ts (p .clock) full, begin) (record { goals = gs; after = ts; mark = 21; forest = refl; more = λ i h e. e; agree = a; ends = stopped-is full })
 
   -- a search at index 1, where the answer is stored
-  after-stored : {gs : List ℕ} {before p : M.Forest} {r : ℕ} {x : Stops Flow} {y : M.Turn} → TurnIs book limit gs before r x y → y ≡ M.stop M.noMore p → (n done t : ℕ) (s : SolveState) → SearchIs book limit gs (turned x n done t 1 s) M.noMore p
+  after-stored : {gs : List ℕ} {before p : M.Forest} {r : ℕ} {x : Stops Flow} {y : M.Turn} → TurnIs book limit gs before r x y → y ≡ M.stop M.no-more-left p → (n done t : ℕ) (s : SolveState) → SearchIs book limit gs (turned x n done t 1 s) M.no-more-left p
   after-stored (going more a s) e n done t s' = absurd (let z : _≡_ {A = ℕ} 0 1 = cc in omega arith)
   after-stored (gave-up more k a) e n done t s' = absurd (let z : _≡_ {A = ℕ} 0 1 = cc in omega arith)
   after-stored {gs = gs} {p = p} (no-more {hs = hs} {ts = ts'} {p = p'} {s = s₀} more k a) e n done t s' =
       let q : p' ≡ p = cc in
-      subst (λ v. SearchIs book limit gs (turned (go (return-err NoMoreSolutions s₀)) n done t 1 s') M.noMore v) q (record { goals = hs; after = ts'; mark = 0; forest = rw (k, put-back); more = more; agree = a; ends = rw (k, put-back) none-is })
+      subst (λ v. SearchIs book limit gs (turned (go (return-err NoMoreSolutions s₀)) n done t 1 s') M.no-more-left v) q (record { goals = hs; after = ts'; mark = 0; forest = rw (k, put-back); more = more; agree = a; ends = rw (k, put-back) none-is })
   after-stored (answered more a k) e n done t s' = absurd (let z : _≡_ {A = ℕ} 0 1 = cc in omega arith)
   after-stored (clock-out o) e n done t s' = absurd (let z : _≡_ {A = ℕ} 0 1 = cc in omega arith)
-  after-stored (lost {o = o} l) e n done t s' = absurd (subst Lost (let z : o ≡ M.noMore = cc in z) l)
+  after-stored (lost {o = o} l) e n done t s' = absurd (subst Lost (let z : o ≡ M.no-more-left = cc in z) l)
 
   pub stored-search : {gs : List ℕ} {ts : Tables} {p : M.Forest} → Agree book gs ts p → Ready S p → (t g n : ℕ) → getElem? gs t ≡ some g → p .answered g ≡ true → (d : Dec (p .clock < limit))
       → SearchIs book limit gs (begin (suc n) t 1 (forest-of book limit 0 ts (p .clock))) (M.begin (limits-of book limit) d p g (suc n) .0) (M.begin (limits-of book limit) d p g (suc n) .1)
   stored-search {gs} {ts} {p} a ready t g n at yes-g (yes lt) =
       let c = suc (p .clock) in
       let p' = M.tick (limits-of book limit) p in
-      let e = M.newEntry (limits-of book limit) g c in
+      let e = M.entry-pushed (limits-of book limit) g c in
       let none-left : p .queue g ≡ [] = no-member (p .queue g) (λ s m. ready .fine .quiet g yes-g s (inl m)) in
-      let first : M.turn (limits-of book limit) p' e [] ≡ M.stop M.noMore p' = turn-stored S p' g c none-left in
+      let first : M.turn (limits-of book limit) p' e [] ≡ M.stop M.no-more-left p' = turn-stored S p' g c none-left in
       let strands = ready-strands S p ready in
       let sum = total-add (length book) (λ u. length (p .queue u)) (λ u. 0) in
       let y = turn-is sound limit (ticked a {c = suc (p .clock)}) (s-more t g c MAX MAX at no-active s-end) refl (let z = total-zero (length book) in omega arith) in

@@ -16,7 +16,7 @@ use Rattle.definitions.specs.Tables.{Tables, Forest}
 use Rattle.definitions.specs.Stack.{StackEntry, Stack, is-active}
 use Rattle.definitions.specs.Logic.{merge-answer-into-strand, merged, failed, unwind-stack}
 use Rattle.definitions.specs.Turn.{on-subgoal-selected, coinductive-entries, on-cycle}
-use Rattle.promises.specs.Plain.Model.{Lit, pos, neg, Body, goalOf}
+use Rattle.promises.specs.Plain.Model.{Lit, pos, neg, Body, literal-goal}
 use Rattle.promises.specs.Plain.Machine as M
 use Rattle.promises.specs.Link.View.{literals, Names, names, strand-of, selection, machine-strand, free, bound, table-of, no-active, an-active, entry-of, machine-entry, StackIs, s-end, s-more}
 use Rattle.promises.specs.Link.Lists.{last-one, last-gone}
@@ -59,7 +59,7 @@ names-tail (names x y) = y
 module _ (book : Book) (limit : ℕ) {gs : List ℕ} {ts : Tables} {p : M.Forest} (agree : Agree book gs ts p) (i g c pm nm : ℕ) (at : getElem? gs i ≡ some g) {ds : Stack} {es : List M.Entry} (xs : StackIs (length book) gs ds es)
     (m : M.Strand) (lined : Lined (limits-of book limit) (machine-entry g c pm nm (some m)) es) (a j : ℕ) (before : M.Forest) (now : before .clock ≡ p .clock) (r : ℕ) where
   answered-positive : (h : ℕ) (b : Body) → Names (length book) (pos h ∷ b) → getElem? gs j ≡ some h → p .answered h ≡ true
-      → TurnIs book limit gs before r (on-subgoal-selected (state-of book limit ts (p .clock) (entry-of i c pm nm none ∷ ds)) (strand-of a (pos h ∷ b) (some (selection j b)) c)) (M.goOn p (machine-entry g c pm nm (some (M.popped c b))) es)
+      → TurnIs book limit gs before r (on-subgoal-selected (state-of book limit ts (p .clock) (entry-of i c pm nm none ∷ ds)) (strand-of a (pos h ∷ b) (some (selection j b)) c)) (M.turn-goes-on p (machine-entry g c pm nm (some (M.popped c b))) es)
   answered-positive h b w at-j yes-h =
       let t = table-here agree i g at in
       let u = table-here agree j h at-j in
@@ -76,7 +76,7 @@ module _ (book : Book) (limit : ℕ) {gs : List ℕ} {ts : Tables} {p : M.Forest
       rw e (rw (merge-negative book limit ts (p .clock) i c pm nm ds _ (t .is) h b c a j) (rw (d .is) (gave-up (λ i h o. o) refl (d .agree))))
 
   -- on the stack already
-  parked : (l : Lit) (b : Body) → Names (length book) (l ∷ b) → getElem? gs j ≡ some (goalOf l) → (depth clock : ℕ) (x : StackEntry) → getElem? (entry-of i c pm nm none ∷ ds) depth ≡ some x → x .clock ≡ clock
+  parked : (l : Lit) (b : Body) → Names (length book) (l ∷ b) → getElem? gs j ≡ some (literal-goal l) → (depth clock : ℕ) (x : StackEntry) → getElem? (entry-of i c pm nm none ∷ ds) depth ≡ some x → x .clock ≡ clock
       → TurnIs book limit gs before r (on-cycle (state-of book limit ts (p .clock) (entry-of i c pm nm none ∷ ds)) (strand-of a (l ∷ b) (some (selection j b)) c) (selection j b) depth)
       (M.parking (limits-of book limit) l clock p (machine-entry g c pm nm (some m)) es (M.pursued c (l ∷ b)))
   parked (pos h) b w at-j depth clock x e k =
@@ -95,38 +95,38 @@ module _ (book : Book) (limit : ℕ) {gs : List ℕ} {ts : Tables} {p : M.Forest
       rw e (rw (t .is) (rw (s .1) (rw (last-one (literals b) (Negative h false)) (rw (d .is) (rw (k, q) (going (λ i h o. o) (d .agree) (s-more i g c (min pm c) (min nm clock) at no-active xs)))))))
 
   -- pushed, or the clock is at its limit
-  pushed : (l : Lit) (b : Body) → Names (length book) (l ∷ b) → getElem? gs j ≡ some (goalOf l) → p .answered (goalOf l) ≡ false → is-active j (entry-of i c pm nm none ∷ ds) ≡ none → (d : Dec (p .clock < limit))
+  pushed : (l : Lit) (b : Body) → Names (length book) (l ∷ b) → getElem? gs j ≡ some (literal-goal l) → p .answered (literal-goal l) ≡ false → is-active j (entry-of i c pm nm none ∷ ds) ≡ none → (d : Dec (p .clock < limit))
       → TurnIs book limit gs before r (on-subgoal-selected (state-of book limit ts (p .clock) (entry-of i c pm nm none ∷ ds)) (strand-of a (l ∷ b) (some (selection j b)) c))
-      (M.pushing (limits-of book limit) d before p (goalOf l) (machine-entry g c pm nm (some m)) es (M.pursued c (l ∷ b)))
+      (M.pushing (limits-of book limit) d before p (literal-goal l) (machine-entry g c pm nm (some m)) es (M.pursued c (l ∷ b)))
   pushed l b w at-j no-h off (yes lt) =
-      let u = table-here agree j (goalOf l) at-j in
-      let e : getElem? ts j ≡ some (table-of (goalOf l) false (p .first (goalOf l)) (u .waiting)) = u .is ∙ ap (λ z. some (table-of (goalOf l) z (p .first (goalOf l)) (u .waiting))) no-h in
-      rw e (rw off (rw (leb-no limit (p .clock) lt) (going (λ i h o. o) (ticked agree) (s-more j (goalOf l) (suc (p .clock)) MAX MAX at-j no-active (s-more i g c pm nm at (an-active (bound a l b c j w at-j)) xs)))))
+      let u = table-here agree j (literal-goal l) at-j in
+      let e : getElem? ts j ≡ some (table-of (literal-goal l) false (p .first (literal-goal l)) (u .waiting)) = u .is ∙ ap (λ z. some (table-of (literal-goal l) z (p .first (literal-goal l)) (u .waiting))) no-h in
+      rw e (rw off (rw (leb-no limit (p .clock) lt) (going (λ i h o. o) (ticked agree) (s-more j (literal-goal l) (suc (p .clock)) MAX MAX at-j no-active (s-more i g c pm nm at (an-active (bound a l b c j w at-j)) xs)))))
   pushed l b w at-j no-h off (no o) =
-      let u = table-here agree j (goalOf l) at-j in
-      let e : getElem? ts j ≡ some (table-of (goalOf l) false (p .first (goalOf l)) (u .waiting)) = u .is ∙ ap (λ z. some (table-of (goalOf l) z (p .first (goalOf l)) (u .waiting))) no-h in
+      let u = table-here agree j (literal-goal l) at-j in
+      let e : getElem? ts j ≡ some (table-of (literal-goal l) false (p .first (literal-goal l)) (u .waiting)) = u .is ∙ ap (λ z. some (table-of (literal-goal l) z (p .first (literal-goal l)) (u .waiting))) no-h in
       let full : limit ≤ p .clock = omega arith in
       rw e (rw off (rw (leb-yes limit (p .clock) full) (clock-out (rw now full))))
 
-  unanswered-is : (l : Lit) (b : Body) → Names (length book) (l ∷ b) → getElem? gs j ≡ some (goalOf l) → p .answered (goalOf l) ≡ false → (o : Option ℕ) (k : Option ℕ) → is-active j (entry-of i c pm nm none ∷ ds) ≡ o → CycleIs (entry-of i c pm nm none ∷ ds) o k
+  unanswered-is : (l : Lit) (b : Body) → Names (length book) (l ∷ b) → getElem? gs j ≡ some (literal-goal l) → p .answered (literal-goal l) ≡ false → (o : Option ℕ) (k : Option ℕ) → is-active j (entry-of i c pm nm none ∷ ds) ≡ o → CycleIs (entry-of i c pm nm none ∷ ds) o k
       → TurnIs book limit gs before r (on-subgoal-selected (state-of book limit ts (p .clock) (entry-of i c pm nm none ∷ ds)) (strand-of a (l ∷ b) (some (selection j b)) c))
       (M.unanswered (limits-of book limit) k before p (machine-entry g c pm nm (some m)) es l b)
   unanswered-is l b w at-j no-h none none off no-cycle = pushed l b w at-j no-h off (decLt (p .clock) limit)
   unanswered-is l b w at-j no-h (some depth) (some clock) on (a-cycle {x = x} e k) =
-      let u = table-here agree j (goalOf l) at-j in
-      let q : getElem? ts j ≡ some (table-of (goalOf l) false (p .first (goalOf l)) (u .waiting)) = u .is ∙ ap (λ z. some (table-of (goalOf l) z (p .first (goalOf l)) (u .waiting))) no-h in
+      let u = table-here agree j (literal-goal l) at-j in
+      let q : getElem? ts j ≡ some (table-of (literal-goal l) false (p .first (literal-goal l)) (u .waiting)) = u .is ∙ ap (λ z. some (table-of (literal-goal l) z (p .first (literal-goal l)) (u .waiting))) no-h in
       rw q (rw on (parked l b w at-j depth clock x e k))
 
-  selected-at : (t : Bool) (l : Lit) (b : Body) → Names (length book) (l ∷ b) → getElem? gs j ≡ some (goalOf l) → p .answered (goalOf l) ≡ t
+  selected-at : (t : Bool) (l : Lit) (b : Body) → Names (length book) (l ∷ b) → getElem? gs j ≡ some (literal-goal l) → p .answered (literal-goal l) ≡ t
       → TurnIs book limit gs before r (on-subgoal-selected (state-of book limit ts (p .clock) (entry-of i c pm nm none ∷ ds)) (strand-of a (l ∷ b) (some (selection j b)) c))
       (M.selected (limits-of book limit) t before p (machine-entry g c pm nm (some m)) es l b)
   selected-at true (pos h) b w at-j e = answered-positive h b w at-j e
   selected-at true (neg h) b w at-j e = answered-negative h b at-j e
   selected-at false l b w at-j e =
-      unanswered-is l b w at-j e (is-active j (entry-of i c pm nm none ∷ ds)) (M.findClock (goalOf l) (machine-entry g c pm nm (some m) ∷ es)) refl
-      (cycle-is (length book) gs (agree .distinct) j (goalOf l) at-j (s-more i g c pm nm at no-active xs) (lined-apart (limits-of book limit) (machine-entry g c pm nm (some m)) es lined))
+      unanswered-is l b w at-j e (is-active j (entry-of i c pm nm none ∷ ds)) (M.find-clock (literal-goal l) (machine-entry g c pm nm (some m) ∷ es)) refl
+      (cycle-is (length book) gs (agree .distinct) j (literal-goal l) at-j (s-more i g c pm nm at no-active xs) (lined-apart (limits-of book limit) (machine-entry g c pm nm (some m)) es lined))
 
-  pub selected-is : (l : Lit) (b : Body) → Names (length book) (l ∷ b) → getElem? gs j ≡ some (goalOf l)
+  pub selected-is : (l : Lit) (b : Body) → Names (length book) (l ∷ b) → getElem? gs j ≡ some (literal-goal l)
       → TurnIs book limit gs before r (on-subgoal-selected (state-of book limit ts (p .clock) (entry-of i c pm nm none ∷ ds)) (strand-of a (l ∷ b) (some (selection j b)) c))
-      (M.selected (limits-of book limit) (p .answered (goalOf l)) before p (machine-entry g c pm nm (some m)) es l b)
-  selected-is l b w at-j = selected-at (p .answered (goalOf l)) l b w at-j refl
+      (M.selected (limits-of book limit) (p .answered (literal-goal l)) before p (machine-entry g c pm nm (some m)) es l b)
+  selected-is l b w at-j = selected-at (p .answered (literal-goal l)) l b w at-j refl

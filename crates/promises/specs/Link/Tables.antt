@@ -14,7 +14,7 @@ use Rattle.definitions.specs.Table.{Table}
 use Rattle.definitions.specs.Tables.{Tables, Forest, index-of}
 use Rattle.definitions.specs.Stack.{Stack}
 use Rattle.definitions.specs.Model.{clauses-of}
-use Rattle.promises.specs.Plain.Model.{Lit, pos, neg, Body, goalOf}
+use Rattle.promises.specs.Plain.Model.{Lit, pos, neg, Body, literal-goal}
 use Rattle.promises.specs.Plain.Machine as M
 use Rattle.promises.specs.Link.View.{StrandIs, free, bound, QueueIs, q-end, q-more, TableIs, table-is, TableAt, TablesAre, t-end, t-more, ActiveIs, no-active, an-active, StackIs, s-end, s-more}
 use Rattle.promises.specs.Link.Tests.{eqb-yes, eqb-no}
@@ -46,7 +46,7 @@ Absent g gs = (i : ℕ) → getElem? gs i ≡ some g → ⊥
 module _ {n : ℕ} {gs gs' : List ℕ} (more : Extends gs gs') where
   pub strand-more : {s : Strand} {m : M.Strand} → StrandIs n gs s m → StrandIs n gs' s m
   strand-more (free a b t w) = free a b t w
-  strand-more (bound a l b t i w e) = bound a l b t i w (more i (goalOf l) e)
+  strand-more (bound a l b t i w e) = bound a l b t i w (more i (literal-goal l) e)
 
   pub queue-more : {s : List Strand} {m : List M.Strand} → QueueIs n gs s m → QueueIs n gs' s m
   queue-more q-end = q-end

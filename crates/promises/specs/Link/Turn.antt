@@ -28,13 +28,13 @@ state-of book limit ts c ds = record { forest = forest-of book limit 0 ts c; sta
 -- the outcomes that the machine's theorem shuts out
 abbrev pub Lost : M.Outcome → Type 0
 Lost M.found = ⊥
-Lost M.noMore = ⊥
+Lost M.no-more-left = ⊥
 Lost M.again = ⊥
 Lost M.cut = ⊥
-Lost M.clockOut = ⊥
+Lost M.clock-ended = ⊥
 Lost M.noted = ⊥
 Lost (M.refused n) = ⊥
-Lost M.negCycle = Unit {0}
+Lost M.negative-cycled = Unit {0}
 Lost M.unselected = Unit {0}
 Lost M.repeated = Unit {0}
 Lost M.broken = Unit {0}
@@ -42,11 +42,11 @@ Lost M.broken = Unit {0}
 -- a turn beside a turn; gs are the goals of the tables before it, `before` is the machine's forest with the search put back before the turn, r the goal that is searched for
 pub data TurnIs (book : Book) (limit : ℕ) (gs : List ℕ) (before : M.Forest) (r : ℕ) : Stops Flow → M.Turn → Type 0 where
   going : {hs : List ℕ} {ts : Tables} {p : M.Forest} {d : StackEntry} {ds : Stack} {e : M.Entry} {es : List M.Entry} → Extends gs hs → Agree book hs ts p → StackIs (length book) hs (d ∷ ds) (e ∷ es)
-      → TurnIs book limit gs before r (go (continue (state-of book limit ts (p .clock) (d ∷ ds)))) (M.goOn p e es)
+      → TurnIs book limit gs before r (go (continue (state-of book limit ts (p .clock) (d ∷ ds)))) (M.turn-goes-on p e es)
   gave-up : {hs : List ℕ} {ts : Tables} {p : M.Forest} {s : SolveState} → Extends gs hs → drop-state s ≡ go (forest-of book limit 0 ts (p .clock)) → Agree book hs ts p → TurnIs book limit gs before r (go (return-err QuantumExceeded s)) (M.stop M.again p)
-  no-more : {hs : List ℕ} {ts : Tables} {p : M.Forest} {s : SolveState} → Extends gs hs → drop-state s ≡ go (forest-of book limit 0 ts (p .clock)) → Agree book hs ts p → TurnIs book limit gs before r (go (return-err NoMoreSolutions s)) (M.stop M.noMore p)
+  no-more : {hs : List ℕ} {ts : Tables} {p : M.Forest} {s : SolveState} → Extends gs hs → drop-state s ≡ go (forest-of book limit 0 ts (p .clock)) → Agree book hs ts p → TurnIs book limit gs before r (go (return-err NoMoreSolutions s)) (M.stop M.no-more-left p)
   answered : {hs : List ℕ} {ts : Tables} {p : M.Forest} → Extends gs hs → Agree book hs ts p → p .answered r ≡ true → TurnIs book limit gs before r (go (return-ok (state-of book limit ts (p .clock) []))) (M.stop M.found p)
-  clock-out : limit ≤ before .clock → TurnIs book limit gs before r (stop 21) (M.stop M.clockOut before)
+  clock-out : limit ≤ before .clock → TurnIs book limit gs before r (stop 21) (M.stop M.clock-ended before)
   lost : {d : Stops Flow} {o : M.Outcome} {p : M.Forest} → Lost o → TurnIs book limit gs before r d (M.stop o p)
 
 pub from-more : {book : Book} {limit : ℕ} {gs hs : List ℕ} {before : M.Forest} {r : ℕ} {d : Stops Flow} {t : M.Turn} → Extends gs hs → TurnIs book limit hs before r d t → TurnIs book limit gs before r d t
@@ -60,10 +60,10 @@ from-more x (lost o) = lost o
 -- The stack: each entry below the top waits for the one above it, no table stands there twice, no minimum came through a "not".
 
 abbrev pub Lined : M.Limits → M.Entry → List M.Entry → Type 0
-Lined N e [] = e .negMin ≡ N .max
-Lined N e (c ∷ es) = (e .negMin ≡ N .max) × (On (e .goal) (c ∷ es) → ⊥) × Calls c (e .goal) (e .clock) × Lined N c es
+Lined N e [] = e .negative-min ≡ N .max
+Lined N e (c ∷ es) = (e .negative-min ≡ N .max) × (On (e .goal) (c ∷ es) → ⊥) × Calls c (e .goal) (e .clock) × Lined N c es
 
-pub lined-top : (N : M.Limits) (e : M.Entry) (es : List M.Entry) → Lined N e es → e .negMin ≡ N .max
+pub lined-top : (N : M.Limits) (e : M.Entry) (es : List M.Entry) → Lined N e es → e .negative-min ≡ N .max
 lined-top N e [] l = l
 lined-top N e (c ∷ es) l = l .0
 
@@ -98,13 +98,13 @@ module _ (n : ℕ) (gs : List ℕ) (distinct : Distinct gs) (j u : ℕ) (named :
   cycle-next d ds none none q e no-cycle = rw (e, is-active) (rw q no-cycle)
   cycle-next d ds (some depth) (some c) q e (a-cycle x y) = rw (e, is-active) (a-cycle x y)
 
-  pub cycle-is : {ds : Stack} {es : List M.Entry} → StackIs n gs ds es → Apart es → CycleIs ds (is-active j ds) (M.findClock u es)
+  pub cycle-is : {ds : Stack} {es : List M.Entry} → StackIs n gs ds es → Apart es → CycleIs ds (is-active j ds) (M.find-clock u es)
   cycle-is s-end w = no-cycle
   cycle-is (s-more {ds = ds} {es = es} {a = a} i g c p r e act xs) w = at (ℕ-discrete g u) (cycle-is xs (w .1))
     where
-      at : (d : Dec (g ≡ u)) → CycleIs ds (is-active j ds) (M.findClock u es) → CycleIs (entry-of i c p r a ∷ ds) (is-active j (entry-of i c p r a ∷ ds)) (M.pick d (some c) (M.findClock u es))
+      at : (d : Dec (g ≡ u)) → CycleIs ds (is-active j ds) (M.find-clock u es) → CycleIs (entry-of i c p r a ∷ ds) (is-active j (entry-of i c p r a ∷ ds)) (M.pick d (some c) (M.find-clock u es))
       at (yes k) x = rw (inactive xs (λ o. w .0 (subst (λ v. On v es) (sym k) o)), is-active) (rw (eqb-yes i j (distinct i j u (e ∙ ap some k) named)) (a-cycle refl refl))
-      at (no k) x = cycle-next (entry-of i c p r a) ds (is-active j ds) (M.findClock u es) (eqb-no i j (λ y. k (same-some (sym e ∙ ap (getElem? gs) y ∙ named)))) refl x
+      at (no k) x = cycle-next (entry-of i c p r a) ds (is-active j ds) (M.find-clock u es) (eqb-no i j (λ y. k (same-some (sym e ∙ ap (getElem? gs) y ∙ named)))) refl x
 
 pub and-false : (b : Bool) → (b && false) ≡ false
 and-false true = refl

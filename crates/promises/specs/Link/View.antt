@@ -12,7 +12,7 @@ use Rattle.definitions.specs.Strand.{SelectedSubgoal, Strand}
 use Rattle.definitions.specs.Table.{Table}
 use Rattle.definitions.specs.Tables.{Tables, Forest}
 use Rattle.definitions.specs.Stack.{StackEntry, Stack}
-use Rattle.promises.specs.Plain.Model.{Lit, pos, neg, Body, goalOf}
+use Rattle.promises.specs.Plain.Model.{Lit, pos, neg, Body, literal-goal}
 use Rattle.promises.specs.Plain.Machine as M
 
 -- A body's chosen literal stands first, a strand's last.
@@ -28,7 +28,7 @@ literals (l ∷ b) = literals b ++ (literal l ∷ [])
 -- every literal names one of the first n goals
 pub data Names (n : ℕ) : Body → Type 0 where
   names-end : Names n []
-  names : {l : Lit} {b : Body} → goalOf l < n → Names n b → Names n (l ∷ b)
+  names : {l : Lit} {b : Body} → literal-goal l < n → Names n b → Names n (l ∷ b)
 
 abbrev pub ex-clause-of : (answer-time : ℕ) → Body → ExClause
 ex-clause-of a b = record { subst = record { variant = 0; outsized = false }; ambiguous = false; subgoals = literals b; delayed-subgoals = []; answer-time = a; floundered-subgoals = [] }
@@ -46,7 +46,7 @@ machine-strand b c t = record { lits = b; chosen = c; time = t }
 -- a strand beside the machine's
 pub data StrandIs (n : ℕ) (gs : List ℕ) : Strand → M.Strand → Type 0 where
   free : (a : ℕ) (b : Body) (t : ℕ) → Names n b → StrandIs n gs (strand-of a b none t) (machine-strand b false t)
-  bound : (a : ℕ) (l : Lit) (b : Body) (t i : ℕ) → Names n (l ∷ b) → getElem? gs i ≡ some (goalOf l) → StrandIs n gs (strand-of a (l ∷ b) (some (selection i b)) t) (machine-strand (l ∷ b) true t)
+  bound : (a : ℕ) (l : Lit) (b : Body) (t i : ℕ) → Names n (l ∷ b) → getElem? gs i ≡ some (literal-goal l) → StrandIs n gs (strand-of a (l ∷ b) (some (selection i b)) t) (machine-strand (l ∷ b) true t)
 
 pub data QueueIs (n : ℕ) (gs : List ℕ) : List Strand → List M.Strand → Type 0 where
   q-end : QueueIs n gs [] []
@@ -82,7 +82,7 @@ abbrev pub entry-of : (table clock p n : ℕ) → Option Strand → StackEntry
 entry-of i c p n a = record { table = i; clock = c; cyclic-minimums = record { positive = p; negative = n }; active-strand = a }
 
 abbrev pub machine-entry : (goal clock p n : ℕ) → Option M.Strand → M.Entry
-machine-entry g c p n a = record { goal = g; clock = c; posMin = p; negMin = n; active = a }
+machine-entry g c p n a = record { goal = g; clock = c; positive-min = p; negative-min = n; active = a }
 
 pub data StackIs (n : ℕ) (gs : List ℕ) : Stack → List M.Entry → Type 0 where
   s-end : StackIs n gs [] []

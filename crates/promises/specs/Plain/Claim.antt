@@ -5,18 +5,18 @@ use mathlib.Core.Bool.{false}
 use mathlib.Core.List.{List, [], _∷_, List·Memᴰ}
 use lib.ListN.{length}
 use Rattle.promises.specs.Plain.Model.{Body, Book, In}
-use Rattle.promises.specs.Plain.Machine.{Limits, Outcome, found, noMore, again, cut, clockOut, noted, refused, negCycle, unselected, repeated, broken, Call, openGoal, searchGoal, peekGoal, anyFuture, initial, calls, total}
+use Rattle.promises.specs.Plain.Machine.{Limits, Outcome, found, no-more-left, again, cut, clock-ended, noted, refused, negative-cycled, unselected, repeated, broken, Call, opens-goal, searches-goal, peeks-goal, asks-any-future, initial, calls, total}
 
 -- what the outcome of a search or peek for g at index i says
 abbrev pub Reply : (ℕ → Type 0) → (g i : ℕ) → Outcome → Type 0
 Reply I g i found = I g
-Reply I g i noMore = i ≡ 0 → I g → ⊥
+Reply I g i no-more-left = i ≡ 0 → I g → ⊥
 Reply I g i again = Unit {0}
 Reply I g i cut = Unit {0}
-Reply I g i clockOut = Unit {0}
+Reply I g i clock-ended = Unit {0}
 Reply I g i noted = ⊥
 Reply I g i (refused n) = Unit {0}
-Reply I g i negCycle = ⊥
+Reply I g i negative-cycled = ⊥
 Reply I g i unselected = ⊥
 Reply I g i repeated = ⊥
 Reply I g i broken = ⊥
@@ -24,22 +24,22 @@ Reply I g i broken = ⊥
 -- the outcome of an open or an `any_future_answer`
 abbrev pub Plainly : Outcome → Type 0
 Plainly found = ⊥
-Plainly noMore = ⊥
+Plainly no-more-left = ⊥
 Plainly again = ⊥
 Plainly cut = ⊥
-Plainly clockOut = ⊥
+Plainly clock-ended = ⊥
 Plainly noted = Unit {0}
 Plainly (refused n) = Unit {0}
-Plainly negCycle = ⊥
+Plainly negative-cycled = ⊥
 Plainly unselected = ⊥
 Plainly repeated = ⊥
 Plainly broken = ⊥
 
 abbrev pub Says : (ℕ → Type 0) → Call → Outcome → Type 0
-Says I (openGoal g) o = Plainly o
-Says I (searchGoal g i n) o = Reply I g i o
-Says I (peekGoal g i r n) o = Reply I g i o
-Says I (anyFuture g i) o = Plainly o
+Says I (opens-goal g) o = Plainly o
+Says I (searches-goal g i n) o = Reply I g i o
+Says I (peeks-goal g i r n) o = Reply I g i o
+Says I (asks-any-future g i) o = Plainly o
 
 -- every call of a list says what it should
 abbrev pub AllSay : (ℕ → Type 0) → List (Call × Outcome × ℕ) → Type 0

@@ -8,7 +8,7 @@ use mathlib.Core.Logic.{_⊎_, inl, inr}
 use mathlib.Core.Option.{none, some}
 use mathlib.Core.List.{List, [], _∷_, _++_, List·Memᴰ, List·Memᴰ·head, List·Memᴰ·tail, List·Memᴰ·not-nil, List·Memᴰ·append-cases}
 use Rattle.promises.specs.Plain.Model.{pos, Body, FalseBody, either}
-use Rattle.promises.specs.Plain.Machine.{Strand, Entry, Queues, pick, put, waitsFor, clearNext, clear, total}
+use Rattle.promises.specs.Plain.Machine.{Strand, Entry, Queues, pick, put, awaited-goal, clear-next, clear, total}
 use Rattle.promises.specs.Plain.Steps.{Setting, Holds, at-put, put-here, none-some}
 use Rattle.promises.specs.Plain.Stack.{On, OnFrom, Waits, Place, SettledAt, Piled, settled-waits}
 use Rattle.promises.specs.Plain.Cases.{Inv, top-new}
@@ -80,7 +80,7 @@ module _ (S : Setting) (U : ℕ → Type 0) (out : (u : ℕ) → U u → S .I u 
       go [] p = let a = total-mono (S .limits .goals) (λ g. length (q g)) (λ g. length (put q u [] g)) (l .size) in let b : length (q u) ≡ 0 = ap length p in omega arith
       go (x ∷ xs) p = total-drop (S .limits .goals) (λ g. length (q g)) (λ g. length (put q u [] g)) u (length (q u)) (l .size) (inside x (subst (List·Memᴰ x) (sym p) (List·Memᴰ·head refl))) (omega (arith, none-here))
 
-  waits-some : (s : Strand) (k : Stuck U s) → waitsFor (s .chosen) (s .lits) ≡ some (k .table)
+  waits-some : (s : Strand) (k : Stuck U s) → awaited-goal (s .chosen) (s .lits) ≡ some (k .table)
   waits-some s k = rw (k .chosen, k .lits)
 
   pub clear-ok : (n : ℕ) (w : List Strand) (q : Queues) → ((s : Strand) → List·Memᴰ s w → Stuck U s) → ((u : ℕ) → U u → (s : Strand) → List·Memᴰ s (q u) → Stuck U s) → ((u : ℕ) (s : Strand) → List·Memᴰ s (q u) → u < S .limits .goals)
@@ -96,7 +96,7 @@ module _ (S : Setting) (U : ℕ → Type 0) (out : (u : ℕ) → U u → S .I u 
       let longer : length (q u ++ w) ≡ length (q u) + length w = length-append (q u) w in
       let r = clear-ok n (q u ++ w) (put q u []) (λ t m. either (queues u (k .place) t) (λ x. work t (List·Memᴰ·tail x)) (List·Memᴰ·append-cases (q u) m))
       (λ v x t m. queues v x t (l .less v t m)) (λ v t m. inside v t (l .less v t m)) (omega arith) in
-      (r .0, ap (λ z. clearNext z (λ v. clear n (q v ++ w) (put q v []))) (waits-some s k) ∙ r .1, less-trans S l (r .2))
+      (r .0, ap (λ z. clear-next z (λ v. clear n (q v ++ w) (put q v []))) (waits-some s k) ∙ r .1, less-trans S l (r .2))
 
 -- the clocks rise along the stack
 pub clocks-rise : (S : Setting) (ans : ℕ → Bool) (H : ℕ → Strand → Type 0) (q : Queues) (e : Entry) (es : List Entry) (m u : ℕ) → Piled S ans H q e es → OnFrom m u es → m < e .clock
@@ -104,7 +104,7 @@ clocks-rise S ans H q e [] m u i o = absurd o
 clocks-rise S ans H q e (c ∷ es) m u (P, i, a, r) (inl (p, o)) = let x = a .earlier in omega arith
 clocks-rise S ans H q e (c ∷ es) m u (P, i, a, r) (inr o) = let x = a .earlier in let y = clocks-rise S ans H q c es m u r o in omega arith
 
-module _ (S : Setting) (ans : ℕ → Bool) (q : Queues) (k : ℕ) (e : Entry) (es : List Entry) (inv : Inv S ans q k e es) (idle : e .active ≡ none) (late : (t : Strand) → List·Memᴰ t (q (e .goal)) → t .time < e .clock → ⊥) (high : e .clock ≤ e .posMin) where
+module _ (S : Setting) (ans : ℕ → Bool) (q : Queues) (k : ℕ) (e : Entry) (es : List Entry) (inv : Inv S ans q k e es) (idle : e .active ≡ none) (late : (t : Strand) → List·Memᴰ t (q (e .goal)) → t .time < e .clock → ⊥) (high : e .clock ≤ e .positive-min) where
   P : List ℕ
   P = top-new S ans (Holds q (e ∷ es)) q e es (inv .piled) .0
 
@@ -115,13 +115,13 @@ module _ (S : Setting) (ans : ℕ → Bool) (q : Queues) (k : ℕ) (e : Entry) (
   Unfounded : ℕ → Type 0
   Unfounded u = (e .goal ≡ u) ⊎ List·Memᴰ u P
 
-  in-set : (u : ℕ) → Place P (e .posMin) (e .goal) (e .clock) es u → Unfounded u
+  in-set : (u : ℕ) → Place P (e .positive-min) (e .goal) (e .clock) es u → Unfounded u
   unfolding Unfounded
   in-set u (inl x) = inr x
   in-set u (inr (inl (x, y))) = inl x
-  in-set u (inr (inr o)) = absurd (let x = clocks-rise S ans (Holds q (e ∷ es)) q e es (e .posMin) u (inv .piled) o in omega arith)
+  in-set u (inr (inr o)) = absurd (let x = clocks-rise S ans (Holds q (e ∷ es)) q e es (e .positive-min) u (inv .piled) o in omega arith)
 
-  stuck-of : (s : Strand) → Waits ans (Place P (e .posMin) (e .goal) (e .clock) es) s → Stuck Unfounded s
+  stuck-of : (s : Strand) → Waits ans (Place P (e .positive-min) (e .goal) (e .clock) es) s → Stuck Unfounded s
   stuck-of s w = record { table = w .table; rest = w .rest; lits = w .lits; chosen = w .chosen; place = in-set (w .table) (w .place) }
 
   stuck : (u : ℕ) → Unfounded u → (s : Strand) → Holds q (e ∷ es) u s → Stuck Unfounded s

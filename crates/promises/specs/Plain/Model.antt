@@ -18,9 +18,9 @@ Body = List Lit
 abbrev pub Book : Type 0
 Book = ℕ → List Body
 
-abbrev pub goalOf : Lit → ℕ
-goalOf (pos h) = h
-goalOf (neg h) = h
+abbrev pub literal-goal : Lit → ℕ
+literal-goal (pos h) = h
+literal-goal (neg h) = h
 
 -- a literal of a clause of a goal of level n
 abbrev pub LevelLit : (ℕ → ℕ) → ℕ → Lit → Type 0

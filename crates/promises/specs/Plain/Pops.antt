@@ -7,8 +7,8 @@ use mathlib.Core.Bool.{Bool, true, false}
 use mathlib.Core.Logic.{_⊎_, inl, inr}
 use mathlib.Core.Option.{none, some}
 use mathlib.Core.List.{List, [], _∷_, _++_, List·Memᴰ, List·Memᴰ·head, List·Memᴰ·tail, List·Memᴰ·not-nil, Memᴰ·append-left, Memᴰ·append-right, List·Memᴰ·append-cases, List·Memᴰ·cases-cons}
-use Rattle.promises.specs.Plain.Model.{Lit, pos, neg, Body, goalOf, LevelBody, level-head, TrueBody, all-end, FalseBody, either}
-use Rattle.promises.specs.Plain.Machine.{Strand, Entry, Queues, pick, put, withActive, withMins, append, popped}
+use Rattle.promises.specs.Plain.Model.{Lit, pos, neg, Body, literal-goal, LevelBody, level-head, TrueBody, all-end, FalseBody, either}
+use Rattle.promises.specs.Plain.Machine.{Strand, Entry, Queues, pick, put, entry-with, with-mins, append, popped}
 use Rattle.promises.specs.Plain.Steps.{Setting, Within, Fine, Child, fine-step, step-trans, Act, Holds, at-put, some-inj, none-some, append-back, step-on, step-off, step-restore, step-active}
 use Rattle.promises.specs.Plain.Stack.{On, Reach, Waits, Place, Calls, SettledAt, waits-kept, settled-kept, call-level, levels-fall, reach-on, on-weaken, waits-map, settled-waits, piled-answered}
 use Rattle.promises.specs.Plain.Cases.{Inv, put-off, top-new, retop, pop-within, good-pop, neg-pos, true-false}
@@ -84,11 +84,11 @@ module _ (S : Setting) (ans : ℕ → Bool) (q : Queues) (k : ℕ) (e c : Entry)
   called = inv .piled .2
 
   -- the caller's strand, its first literal
-  pub call-names : (l : Lit) (s : Strand) (b : Body) → c .active ≡ some s → s .lits ≡ l ∷ b → goalOf l ≡ e .goal
+  pub call-names : (l : Lit) (s : Strand) (b : Body) → c .active ≡ some s → s .lits ≡ l ∷ b → literal-goal l ≡ e .goal
   call-names l s b a p = sym (same-lit (called .lit) (called .rest) (sym (called .lits) ∙ ap (λ z. z .lits) (some-inj (sym (called .active) ∙ a)) ∙ p)) ∙ called .names
     where
-      same-lit : (x : Lit) (d : Body) → x ∷ d ≡ l ∷ b → goalOf x ≡ goalOf l
-      same-lit x d o = let y : x ≡ l = cc in ap goalOf y
+      same-lit : (x : Lit) (d : Body) → x ∷ d ≡ l ∷ b → literal-goal x ≡ literal-goal l
+      same-lit x d o = let y : x ≡ l = cc in ap literal-goal y
 
   pub call-chosen : (s : Strand) → c .active ≡ some s → (s .chosen ≡ true) × (s .time ≤ c .clock)
   call-chosen s a = subst (λ t. (t .chosen ≡ true) × (t .time ≤ c .clock)) (some-inj (sym (called .active) ∙ a)) (called .chosen, called .time)
@@ -111,7 +111,7 @@ module _ (S : Setting) (ans : ℕ → Bool) (q : Queues) (k : ℕ) (e c : Entry)
       less u t (inr x) = inr (inr x)
 
   -- the table is done with, without an answer, under a "not"
-  pub case-not : (s : Strand) (h : ℕ) (b : Body) → e .active ≡ none → q (e .goal) ≡ [] → c .active ≡ some s → s .lits ≡ neg h ∷ b → Inv S ans q k (withActive c (some (popped (s .time) b))) es
+  pub case-not : (s : Strand) (h : ℕ) (b : Body) → e .active ≡ none → q (e .goal) ≡ [] → c .active ≡ some s → s .lits ≡ neg h ∷ b → Inv S ans q k (entry-with c (some (popped (s .time) b))) es
   case-not s h b a p a' p' =
       let no-goal = case-unproved S ans q k e (c ∷ es) inv a p in
       let o = inv .now in
@@ -123,11 +123,11 @@ module _ (S : Setting) (ans : ℕ → Bool) (q : Queues) (k : ℕ) (e c : Entry)
         keeps = λ v d l y n. absurd (neg-pos (sym p' ∙ l));
       } in
       let step₁ = step-off S {ans = ans} {k = k} q e (c ∷ es) a in
-      let step₂ = step-active S {ans = ans} {k = k} q c (withActive c (some (popped (s .time) b))) es s (popped (s .time) b) a' refl refl child (pop-within (neg h) b s p') in
+      let step₂ = step-active S {ans = ans} {k = k} q c (entry-with c (some (popped (s .time) b))) es s (popped (s .time) b) a' refl refl child (pop-within (neg h) b s p') in
       let step = step-trans S step₁ step₂ in
       record {
         fine = fine-step S (inv .fine) step;
-        piled = retop S ans _ _ q q k k c (c .posMin) (c .negMin) (some (popped (s .time) b)) es (inv .piled .3) step (λ u n t m. m) (λ P i. (P, settled-kept S i step (λ t m. m)));
+        piled = retop S ans _ _ q q k k c (c .positive-min) (c .negative-min) (some (popped (s .time) b)) es (inv .piled .3) step (λ u n t m. m) (λ P i. (P, settled-kept S i step (λ t m. m)));
         now = omega arith;
         bound = inv .bound;
       }
@@ -138,26 +138,26 @@ module _ (S : Setting) (ans : ℕ → Bool) (q : Queues) (k : ℕ) (e c : Entry)
       (pos h, subst (List·Memᴰ (pos h)) (sym p') (List·Memᴰ·head refl), λ i. case-unproved S ans q k e (c ∷ es) inv a p (subst (S .I) (call-names (pos h) s b a' p') i))
 
   -- a cycle never goes through a "not"
-  pub case-no-not : (s : Strand) (h : ℕ) (b : Body) → c .active ≡ some s → s .lits ≡ neg h ∷ b → e .posMin < e .clock → ⊥
+  pub case-no-not : (s : Strand) (h : ℕ) (b : Body) → c .active ≡ some s → s .lits ≡ neg h ∷ b → e .positive-min < e .clock → ⊥
   case-no-not s h b a p lt =
       let lower : S .level h < S .level (c .goal) = level-head (subst (LevelBody (S .level) (S .level (c .goal))) p (inv .fine .good (c .goal) s (inr (inr (inl (refl, a)))) .levels)) in
       let named : S .level h ≡ S .level (e .goal) = ap (S .level) (call-names (neg h) s b a p) in
-      let r = reach-on (S .level) (e .posMin) (S .level (e .goal)) (c ∷ es) (inv .piled .1 .low lt) in
+      let r = reach-on (S .level) (e .positive-min) (S .level (e .goal)) (c ∷ es) (inv .piled .1 .low lt) in
       let higher = levels-fall S ans q c es (inv .fine .good) (λ g t x. inr (inr (inr x))) (inv .piled .3) (r .0) (r .1) in
       let most = r .2 in
       omega arith
 
   -- the table is popped as part of a cycle
-  pub case-cycle : (s : Strand) (h : ℕ) (b : Body) → e .active ≡ none → ((t : Strand) → List·Memᴰ t (q (e .goal)) → t .time < e .clock → ⊥) → c .active ≡ some s → s .lits ≡ pos h ∷ b → e .posMin < e .clock
-      → Inv S ans (append q (c .goal) s) k (withMins c (min (c .posMin) (e .posMin)) (min (c .negMin) (e .negMin))) es
+  pub case-cycle : (s : Strand) (h : ℕ) (b : Body) → e .active ≡ none → ((t : Strand) → List·Memᴰ t (q (e .goal)) → t .time < e .clock → ⊥) → c .active ≡ some s → s .lits ≡ pos h ∷ b → e .positive-min < e .clock
+      → Inv S ans (append q (c .goal) s) k (with-mins c (min (c .positive-min) (e .positive-min)) (min (c .negative-min) (e .negative-min))) es
   case-cycle s h b a late a' p lt =
-      let n = min (c .negMin) (e .negMin) in
+      let n = min (c .negative-min) (e .negative-min) in
       let q' = append q (c .goal) s in
       let o = inv .now in
       let o' = called .earlier in
       let step₁ = step-off S {ans = ans} {k = k} q e (c ∷ es) a in
       let step₂ = step-restore S {ans = ans} {k = k} q c es (some s) a' in
-      let step₃ = step-on S {ans = ans} {k = k} q' (withMins c m n) es refl in
+      let step₃ = step-on S {ans = ans} {k = k} q' (with-mins c m n) es refl in
       let step = step-trans S step₁ (step-trans S step₂ step₃) in
       record {
         fine = fine-step S (inv .fine) step;
@@ -171,7 +171,7 @@ module _ (S : Setting) (ans : ℕ → Bool) (q : Queues) (k : ℕ) (e c : Entry)
                     (append-back q (c .goal) s (c .goal) x (ℕ-discrete (c .goal) (c .goal)) y);
                 open-others = λ u i. either (λ w. subst (λ v. ans v ≡ false) (sym w) (inv .piled .1 .pending)) (λ w. either (inv .piled .1 .open-others u) (j .open-others u) (List·Memᴰ·append-cases (inv .piled .0) w)) (List·Memᴰ·cases-cons i);
                 others = λ u i x y. let z = step .from u x y in waits-kept (other P j u (z .0) (z .1) i) (z .2 .keeps);
-                low = λ o. low-new (decLe (c .posMin) (e .posMin)) P j o;
+                low = λ o. low-new (decLe (c .positive-min) (e .positive-min)) P j o;
                 plain = let w₁ = j .plain in let w₂ = inv .piled .1 .plain in omega arith;
                 new = j .new;
               },
@@ -181,21 +181,21 @@ module _ (S : Setting) (ans : ℕ → Bool) (q : Queues) (k : ℕ) (e c : Entry)
       }
     where
       m : ℕ
-      m = min (c .posMin) (e .posMin)
+      m = min (c .positive-min) (e .positive-min)
 
       New : List ℕ → ℕ → Type 0
-      New P = Place (e .goal ∷ (inv .piled .0 ++ P)) (min (c .posMin) (e .posMin)) (c .goal) (c .clock) es
+      New P = Place (e .goal ∷ (inv .piled .0 ++ P)) (min (c .positive-min) (e .positive-min)) (c .goal) (c .clock) es
 
-      from-lower : (P : List ℕ) (u : ℕ) → Place P (c .posMin) (c .goal) (c .clock) es u → New P u
+      from-lower : (P : List ℕ) (u : ℕ) → Place P (c .positive-min) (c .goal) (c .clock) es u → New P u
       from-lower P u (inl x) = inl (List·Memᴰ·tail (Memᴰ·append-right (inv .piled .0) x))
       from-lower P u (inr (inl (x, y))) = inr (inl (x, omega arith))
-      from-lower P u (inr (inr x)) = inr (inr (on-weaken (c .posMin) (min (c .posMin) (e .posMin)) u es (omega arith) x))
+      from-lower P u (inr (inr x)) = inr (inr (on-weaken (c .positive-min) (min (c .positive-min) (e .positive-min)) u es (omega arith) x))
 
-      from-upper : (P : List ℕ) (u : ℕ) → Place (inv .piled .0) (e .posMin) (e .goal) (e .clock) (c ∷ es) u → New P u
+      from-upper : (P : List ℕ) (u : ℕ) → Place (inv .piled .0) (e .positive-min) (e .goal) (e .clock) (c ∷ es) u → New P u
       from-upper P u (inl x) = inl (List·Memᴰ·tail (Memᴰ·append-left P x))
       from-upper P u (inr (inl (x, y))) = inl (List·Memᴰ·head (sym x))
       from-upper P u (inr (inr (inl (x, y)))) = inr (inl (x, omega arith))
-      from-upper P u (inr (inr (inr x))) = inr (inr (on-weaken (e .posMin) (min (c .posMin) (e .posMin)) u es (omega arith) x))
+      from-upper P u (inr (inr (inr x))) = inr (inr (on-weaken (e .positive-min) (min (c .positive-min) (e .positive-min)) u es (omega arith) x))
 
       parked-new : (P : List ℕ) → Waits ans (New P) s
       parked-new P = record { table = h; rest = b; lits = p; chosen = call-chosen s a' .0; pending = subst (λ v. ans v ≡ false) (sym (call-names (pos h) s b a' p)) (inv .piled .1 .pending); place = inl (List·Memᴰ·head (call-names (pos h) s b a' p)) }
@@ -208,14 +208,14 @@ module _ (S : Setting) (ans : ℕ → Bool) (q : Queues) (k : ℕ) (e c : Entry)
       other : (P : List ℕ) → SettledAt S ans (Holds q (e ∷ c ∷ es)) q c es P → (u : ℕ) (x : Strand) → Holds q (e ∷ c ∷ es) u x → List·Memᴰ u (e .goal ∷ (inv .piled .0 ++ P)) → Waits ans (New P) x
       other P j u x y i = either (λ w. own P u x (sym w) y) (λ w. either (λ z. waits-map (from-upper P) (inv .piled .1 .others u z x y)) (λ z. waits-map (from-lower P) (j .others u z x y)) (List·Memᴰ·append-cases (inv .piled .0) w)) (List·Memᴰ·cases-cons i)
 
-      low-new : Dec (c .posMin ≤ e .posMin) → (P : List ℕ) → SettledAt S ans (Holds q (e ∷ c ∷ es)) q c es P → min (c .posMin) (e .posMin) < c .clock → Reach (S .level) (min (c .posMin) (e .posMin)) (S .level (c .goal)) es
-      low-new (yes o) P j x = let y : c .posMin ≡ min (c .posMin) (e .posMin) = omega arith in subst (λ z. Reach (S .level) z (S .level (c .goal)) es) y (j .low (omega arith))
+      low-new : Dec (c .positive-min ≤ e .positive-min) → (P : List ℕ) → SettledAt S ans (Holds q (e ∷ c ∷ es)) q c es P → min (c .positive-min) (e .positive-min) < c .clock → Reach (S .level) (min (c .positive-min) (e .positive-min)) (S .level (c .goal)) es
+      low-new (yes o) P j x = let y : c .positive-min ≡ min (c .positive-min) (e .positive-min) = omega arith in subst (λ z. Reach (S .level) z (S .level (c .goal)) es) y (j .low (omega arith))
       low-new (no o) P j x =
-          let y : e .posMin ≡ min (c .posMin) (e .posMin) = omega arith in
+          let y : e .positive-min ≡ min (c .positive-min) (e .positive-min) = omega arith in
           let v = call-level S called (inv .fine .good (c .goal) (called .strand) (inr (inr (inl (refl, called .active))))) in
           subst (λ z. Reach (S .level) z (S .level (c .goal)) es) y
-          (either (λ z. absurd (let w = z .0 in omega arith)) (reach-raise (S .level) (e .posMin) (S .level (e .goal)) (S .level (c .goal)) es v) (inv .piled .1 .low lt))
+          (either (λ z. absurd (let w = z .0 in omega arith)) (reach-raise (S .level) (e .positive-min) (S .level (e .goal)) (S .level (c .goal)) es v) (inv .piled .1 .low lt))
 
 -- a cycle is never found at the root
-pub case-no-root : (S : Setting) (ans : ℕ → Bool) (q : Queues) (k : ℕ) (e : Entry) → Inv S ans q k e [] → e .posMin < e .clock → ⊥
+pub case-no-root : (S : Setting) (ans : ℕ → Bool) (q : Queues) (k : ℕ) (e : Entry) → Inv S ans q k e [] → e .positive-min < e .clock → ⊥
 case-no-root S ans q k e inv lt = inv .piled .1 .low lt

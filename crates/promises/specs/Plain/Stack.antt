@@ -7,8 +7,8 @@ use mathlib.Core.Bool.{Bool, true, false}
 use mathlib.Core.Logic.{_⊎_, inl, inr}
 use mathlib.Core.Option.{none, some}
 use mathlib.Core.List.{List, [], _∷_, List·Memᴰ}
-use Rattle.promises.specs.Plain.Model.{Lit, pos, neg, Body, goalOf, LevelLit, LevelBody, level-head}
-use Rattle.promises.specs.Plain.Machine.{Strand, Entry, Queues, pick, put, findClock}
+use Rattle.promises.specs.Plain.Model.{Lit, pos, neg, Body, literal-goal, LevelLit, LevelBody, level-head}
+use Rattle.promises.specs.Plain.Machine.{Strand, Entry, Queues, pick, put, find-clock}
 use Rattle.promises.specs.Plain.Steps.{Setting, Good, Keeps, Step, Act, put-there, some-inj, none-some}
 
 -- u is on the stack
@@ -56,13 +56,13 @@ pub record Calls (c : Entry) (g k : ℕ) : Type 0 where
   pub lit : Lit
   pub rest : Body
   pub lits : strand .lits ≡ lit ∷ rest
-  pub names : goalOf lit ≡ g
+  pub names : literal-goal lit ≡ g
   pub chosen : strand .chosen ≡ true
   pub time : strand .time ≤ c .clock
   pub earlier : c .clock < k
 
 abbrev pub SettledAt : (S : Setting) (ans : ℕ → Bool) (H : ℕ → Strand → Type 0) (q : Queues) (e : Entry) (es : List Entry) (P : List ℕ) → Type 0
-SettledAt S ans H q e es P = Settled S ans H q (e .goal) (e .clock) (e .posMin) (e .negMin) es P
+SettledAt S ans H q e es P = Settled S ans H q (e .goal) (e .clock) (e .positive-min) (e .negative-min) es P
 
 abbrev pub Piled : (S : Setting) (ans : ℕ → Bool) (H : ℕ → Strand → Type 0) (q : Queues) → Entry → List Entry → Type 0
 Piled S ans H q e [] = (P : List ℕ) × SettledAt S ans H q e [] P
@@ -91,7 +91,7 @@ pub piled-kept : (S : Setting) {ans : ℕ → Bool} {H H' : ℕ → Strand → T
 piled-kept S e [] (P, i) step less = (P, settled-kept S i step (less (e .goal) (inl refl)))
 piled-kept S e (c ∷ es) (P, i, a, r) step less = (P, settled-kept S i step (less (e .goal) (inl refl)), a, piled-kept S c es r step (λ u o. less u (inr o)))
 
-pub lit-level : (level : ℕ → ℕ) (n : ℕ) (l : Lit) → LevelLit level n l → level (goalOf l) ≤ n
+pub lit-level : (level : ℕ → ℕ) (n : ℕ) (l : Lit) → LevelLit level n l → level (literal-goal l) ≤ n
 lit-level level n (pos h) v = v
 lit-level level n (neg h) v = let w : suc (level h) ≤ n = v in omega arith
 
@@ -116,33 +116,33 @@ reach-on level m n (e ∷ es) (inl (a, b)) = (e .goal, inl refl, b)
 reach-on level m n (e ∷ es) (inr r) = let x = reach-on level m n es r in (x .0, inr (x .1), x .2)
 
 -- where the table of a selected literal is looked for
-pub found-on : (u : ℕ) (es : List Entry) (c : ℕ) → findClock u es ≡ some c → OnFrom c u es
+pub found-on : (u : ℕ) (es : List Entry) (c : ℕ) → find-clock u es ≡ some c → OnFrom c u es
 found-on u [] c p = absurd (none-some p)
 found-on u (e ∷ es) c p = go (found-on u es c) (ℕ-discrete (e .goal) u) p
   where
-    go : (findClock u es ≡ some c → OnFrom c u es) → (d : Dec (e .goal ≡ u)) → pick d (some (e .clock)) (findClock u es) ≡ some c → OnFrom c u (e ∷ es)
+    go : (find-clock u es ≡ some c → OnFrom c u es) → (d : Dec (e .goal ≡ u)) → pick d (some (e .clock)) (find-clock u es) ≡ some c → OnFrom c u (e ∷ es)
     go r (yes o) x = inl (o, let y : e .clock ≡ c = some-inj x in omega arith)
     go r (no o) x = inr (r x)
 
-pub found-reach : (level : ℕ → ℕ) (n u : ℕ) (es : List Entry) (c : ℕ) → level u ≤ n → findClock u es ≡ some c → Reach level c n es
+pub found-reach : (level : ℕ → ℕ) (n u : ℕ) (es : List Entry) (c : ℕ) → level u ≤ n → find-clock u es ≡ some c → Reach level c n es
 found-reach level n u [] c v p = absurd (none-some p)
 found-reach level n u (e ∷ es) c v p = go (found-reach level n u es c v) (ℕ-discrete (e .goal) u) p
   where
-    go : (findClock u es ≡ some c → Reach level c n es) → (d : Dec (e .goal ≡ u)) → pick d (some (e .clock)) (findClock u es) ≡ some c → Reach level c n (e ∷ es)
+    go : (find-clock u es ≡ some c → Reach level c n es) → (d : Dec (e .goal ≡ u)) → pick d (some (e .clock)) (find-clock u es) ≡ some c → Reach level c n (e ∷ es)
     go r (yes o) x = inl (let y : e .clock ≡ c = some-inj x in omega arith, let z : level (e .goal) ≡ level u = ap level o in omega arith)
     go r (no o) x = inr (r x)
 
-pub found-below : (level : ℕ → ℕ) (n u : ℕ) (e : Entry) (es : List Entry) (c : ℕ) → level u ≤ n → c < e .clock → findClock u (e ∷ es) ≡ some c → Reach level c n es
+pub found-below : (level : ℕ → ℕ) (n u : ℕ) (e : Entry) (es : List Entry) (c : ℕ) → level u ≤ n → c < e .clock → find-clock u (e ∷ es) ≡ some c → Reach level c n es
 found-below level n u e es c v lt p = go (ℕ-discrete (e .goal) u) p
   where
-    go : (d : Dec (e .goal ≡ u)) → pick d (some (e .clock)) (findClock u es) ≡ some c → Reach level c n es
+    go : (d : Dec (e .goal ≡ u)) → pick d (some (e .clock)) (find-clock u es) ≡ some c → Reach level c n es
     go (yes o) x = absurd (let y : e .clock ≡ c = some-inj x in omega arith)
     go (no o) x = found-reach level n u es c v x
 
-pub not-on : (u : ℕ) (es : List Entry) → findClock u es ≡ none → On u es → ⊥
+pub not-on : (u : ℕ) (es : List Entry) → find-clock u es ≡ none → On u es → ⊥
 not-on u (e ∷ es) p o = go (not-on u es) (ℕ-discrete (e .goal) u) p o
   where
-    go : (findClock u es ≡ none → On u es → ⊥) → (d : Dec (e .goal ≡ u)) → pick d (some (e .clock)) (findClock u es) ≡ none → On u (e ∷ es) → ⊥
+    go : (find-clock u es ≡ none → On u es → ⊥) → (d : Dec (e .goal ≡ u)) → pick d (some (e .clock)) (find-clock u es) ≡ none → On u (e ∷ es) → ⊥
     go r (yes o) x a = none-some (sym x)
     go r (no o) x (inl a) = o a
     go r (no o) x (inr a) = r x a

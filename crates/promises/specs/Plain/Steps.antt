@@ -8,7 +8,7 @@ use mathlib.Core.Logic.{_⊎_, inl, inr}
 use mathlib.Core.Option.{Option, none, some}
 use mathlib.Core.List.{List, [], _∷_, _++_, List·Memᴰ, List·Memᴰ·head, Memᴰ·append-left, Memᴰ·append-right, List·Memᴰ·append-cases, List·Memᴰ·eq-of-singleton}
 use Rattle.promises.specs.Plain.Model.{Lit, pos, Body, Book, LevelBody, TrueBody, FalseBody, Blocked, either}
-use Rattle.promises.specs.Plain.Machine.{Limits, Strand, Entry, Queues, pick, put, append, restore, putBack}
+use Rattle.promises.specs.Plain.Machine.{Limits, Strand, Entry, Queues, pick, put, append, restore, all-back}
 
 -- a book with its levels, limits and model, and what is used of them
 pub record Setting : Type 1 where
@@ -166,7 +166,7 @@ module _ (S : Setting) {ans : ℕ → Bool} {k : ℕ} where
       on u t (inr (inl (p, o))) = inl (append-new q (e .goal) s u t (ℕ-discrete (e .goal) u) p (some-inj (sym a ∙ o)))
       on u t (inr (inr x)) = inr x
 
-  pub step-back : (q : Queues) (es : List Entry) → Step S ans (Holds q es) k (Holds (putBack q es) []) k
+  pub step-back : (q : Queues) (es : List Entry) → Step S ans (Holds q es) k (Holds (all-back q es) []) k
   step-back q [] = moved S (λ g s h. h) (λ g s h. h)
   step-back q (e ∷ es) = step-trans S (step-restore q e es (e .active) refl) (step-back (restore q (e .goal) (e .active)) es)
 

@@ -7,13 +7,13 @@ use mathlib.Core.Bool.{Bool, true, false}
 use mathlib.Core.Logic.{_⊎_, inl, inr}
 use mathlib.Core.Option.{Option, none, some}
 use mathlib.Core.List.{List, [], _∷_, _++_, List·Memᴰ, List·Memᴰ·head, List·Memᴰ·tail, List·Memᴰ·not-nil, Memᴰ·append-left, Memᴰ·append-right, List·Memᴰ·append-cases, List·Memᴰ·eq-of-singleton, List·Memᴰ·cases-cons}
-use Rattle.promises.specs.Plain.Model.{Lit, pos, neg, Body, goalOf, either}
+use Rattle.promises.specs.Plain.Model.{Lit, pos, neg, Body, literal-goal, either}
 use Rattle.promises.specs.Plain.Steps.{Setting, Fine, Step, fine-step, step-trans, Holds, moved, put-here, some-inj, none-some, step-off, step-back, step-drop, step-less}
 use Rattle.promises.specs.Plain.Stack.{nil-cons}
 use Rattle.promises.specs.Plain.Cases.{Inv, remade, top-new, true-false, case-take, case-popped, case-park, case-no-cycle, case-push}
 use Rattle.promises.specs.Plain.Pops.{top-pending, fine-answered, case-proved, case-unproved, case-answered, case-not, case-false, case-no-not, case-cycle, case-no-root}
 use lib.ListN.{length, length-append}
-use Rattle.promises.specs.Plain.Machine.{Strand, Entry, Queues, Forest, pick, put, withQueue, make, withActive, append, popped, pursued, restore, putBack, takeAt, takeFrom, findClock, clear, total, Outcome, found, noMore, again, cut, clockOut, noted, refused, negCycle, unselected, repeated, broken, Turn, goOn, stop, answering, parking, pushing, unanswered, selected, pursue, emptyAt, empty, emptied, cleared, clearing, cycleAt, cycle, partOf, waiting, idle, taking, turnWith, turn}
+use Rattle.promises.specs.Plain.Machine.{Strand, Entry, Queues, Forest, pick, put, with-queue, make, entry-with, append, popped, pursued, restore, all-back, take-at, take-from, find-clock, clear, total, Outcome, found, no-more-left, again, cut, clock-ended, noted, refused, negative-cycled, unselected, repeated, broken, Turn, turn-goes-on, stop, answering, parking, pushing, unanswered, selected, pursue, empty-at, empty, emptied, cleared, clearing, cycle-at, cycle, part-of, waiting, idle, taking, turn-with, turn}
 use Rattle.promises.specs.Plain.Clear.{Less, less-trans, case-clear}
 
 abbrev pub flag : Bool → ℕ
@@ -51,7 +51,7 @@ nil-length q g u = go (ℕ-discrete g u)
     go (yes p) = omega arith
     go (no n) = omega arith
 
-pub back-length : (q : Queues) (es : List Entry) (u : ℕ) → length (putBack q es u) ≡ length (q u) + count es u
+pub back-length : (q : Queues) (es : List Entry) (u : ℕ) → length (all-back q es u) ≡ length (q u) + count es u
 back-length q [] u = omega arith
 back-length q (e ∷ es) u =
     let a = back-length (restore q (e .goal) (e .active)) es u in
@@ -72,9 +72,9 @@ self-one g = go (ℕ-discrete g g)
     go (yes p) = refl
     go (no n) = absurd (n refl)
 
-abbrev pub rootOf : Entry → List Entry → ℕ
-rootOf e [] = e .goal
-rootOf e (c ∷ es) = rootOf c es
+abbrev pub root-of : Entry → List Entry → ℕ
+root-of e [] = e .goal
+root-of e (c ∷ es) = root-of c es
 
 pub record Resting (S : Setting) (f : Forest) : Type 0 where
   pub fine : Fine S (f .answered) (Holds (f .queue) []) (f .clock)
@@ -83,20 +83,20 @@ pub record Resting (S : Setting) (f : Forest) : Type 0 where
 -- what an outcome of a search for r says, with the sizes before and after
 abbrev pub Ends : Setting → ℕ → (ℕ → ℕ) → (ℕ → ℕ) → Outcome → Type 0
 Ends S r before after found = S .I r
-Ends S r before after noMore = S .I r → ⊥
+Ends S r before after no-more-left = S .I r → ⊥
 Ends S r before after again = (u : ℕ) × (u < S .limits .goals) × (after u < before u)
-Ends S r before after clockOut = Unit {0}
+Ends S r before after clock-ended = Unit {0}
 Ends S r before after cut = Unit {0}
 Ends S r before after noted = ⊥
 Ends S r before after (refused n) = ⊥
-Ends S r before after negCycle = ⊥
+Ends S r before after negative-cycled = ⊥
 Ends S r before after unselected = ⊥
 Ends S r before after repeated = ⊥
 Ends S r before after broken = ⊥
 
 pub record Going (S : Setting) (r : ℕ) (B L : ℕ → ℕ) (f : Forest) (e : Entry) (es : List Entry) : Type 0 where
   pub inv : Inv S (f .answered) (f .queue) (f .clock) e es
-  pub root : rootOf e es ≡ r
+  pub root : root-of e es ≡ r
   pub fewer : (u : ℕ) → Fits B L f (e ∷ es) u
 
 pub record Ended (S : Setting) (r : ℕ) (B L : ℕ → ℕ) (o : Outcome) (f : Forest) : Type 0 where
@@ -105,17 +105,17 @@ pub record Ended (S : Setting) (r : ℕ) (B L : ℕ → ℕ) (o : Outcome) (f : 
   pub fewer : (u : ℕ) → Fits B L f [] u
 
 abbrev pub TurnOK : Setting → ℕ → (ℕ → ℕ) → (ℕ → ℕ) → Turn → Type 0
-TurnOK S r B L (goOn f e es) = Going S r B L f e es
+TurnOK S r B L (turn-goes-on f e es) = Going S r B L f e es
 TurnOK S r B L (stop o f) = Ended S r B L o f
 
 -- the search ends after a step, and its stack is put back
 pub rest-after : (S : Setting) (f : Forest) (e : Entry) (es : List Entry) (made' first' : ℕ → Bool) (q' : Queues) (es' : List Entry) → Inv S (f .answered) (f .queue) (f .clock) e es
-    → Step S (f .answered) (Holds (f .queue) (e ∷ es)) (f .clock) (Holds q' es') (f .clock) → Resting S (record { made = made'; answered = f .answered; first = first'; queue = putBack q' es'; clock = f .clock })
+    → Step S (f .answered) (Holds (f .queue) (e ∷ es)) (f .clock) (Holds q' es') (f .clock) → Resting S (record { made = made'; answered = f .answered; first = first'; queue = all-back q' es'; clock = f .clock })
 rest-after S f e es made' first' q' es' inv step = record { fine = fine-step S (inv .fine) (step-trans S step (step-back S q' es')); bound = inv .bound }
 
 module _ (S : Setting) (B L : ℕ → ℕ) where
   answering-ok : (b : Bool) (f : Forest) (e : Entry) (es : List Entry) (s : Strand) → Inv S (f .answered) (f .queue) (f .clock) e es → e .active ≡ some s → s .lits ≡ [] → f .answered (e .goal) ≡ b
-      → ((u : ℕ) → Fits B L f (e ∷ es) u) → TurnOK S (rootOf e es) B L (answering (S .limits) b f e es)
+      → ((u : ℕ) → Fits B L f (e ∷ es) u) → TurnOK S (root-of e es) B L (answering (S .limits) b f e es)
   answering-ok true f e es s inv a p t few = absurd (true-false t (top-pending S (f .answered) (f .queue) (f .clock) e es inv))
   answering-ok false f e [] s inv a p t few =
       let proof = case-proved S (f .answered) (f .queue) (f .clock) e [] inv s a p in
@@ -130,41 +130,41 @@ module _ (S : Setting) (B L : ℕ → ℕ) where
     fewer = λ u. let x = few u in let y = nil-length (f .queue) (e .goal) u in omega arith;
   }
 
-  root-remade : (e : Entry) (m n : ℕ) (a : Option Strand) (es : List Entry) → rootOf (remade e m n a) es ≡ rootOf e es
+  root-remade : (e : Entry) (m n : ℕ) (a : Option Strand) (es : List Entry) → root-of (remade e m n a) es ≡ root-of e es
   root-remade e m n a [] = refl
   root-remade e m n a (c ∷ es) = refl
 
-  parking-ok : (l : Lit) (c : ℕ) (f : Forest) (e : Entry) (es : List Entry) (s : Strand) (b : Body) → Inv S (f .answered) (f .queue) (f .clock) e es → e .active ≡ some s → s .lits ≡ l ∷ b → f .answered (goalOf l) ≡ false
-      → findClock (goalOf l) (e ∷ es) ≡ some c → ((u : ℕ) → Fits B L f (e ∷ es) u) → TurnOK S (rootOf e es) B L (parking (S .limits) l c f e es (pursued (e .clock) (l ∷ b)))
+  parking-ok : (l : Lit) (c : ℕ) (f : Forest) (e : Entry) (es : List Entry) (s : Strand) (b : Body) → Inv S (f .answered) (f .queue) (f .clock) e es → e .active ≡ some s → s .lits ≡ l ∷ b → f .answered (literal-goal l) ≡ false
+      → find-clock (literal-goal l) (e ∷ es) ≡ some c → ((u : ℕ) → Fits B L f (e ∷ es) u) → TurnOK S (root-of e es) B L (parking (S .limits) l c f e es (pursued (e .clock) (l ∷ b)))
   parking-ok (pos h) c f e es s b inv a p n at few = record {
     inv = case-park S (f .answered) (f .queue) (f .clock) e es inv s h b c a p n at;
-    root = root-remade e (min (e .posMin) c) (e .negMin) none es;
+    root = root-remade e (min (e .positive-min) c) (e .negative-min) none es;
     fewer = λ u. let x = few u in let y = append-length (f .queue) (e .goal) (pursued (e .clock) (pos h ∷ b)) u in let z = active-count e es s u a in omega arith;
   }
   parking-ok (neg h) c f e es s b inv a p n at few = absurd (case-no-cycle S (f .answered) (f .queue) (f .clock) e es inv s h b c a p at)
 
   pushing-ok : (before f : Forest) (d : Dec (f .clock < S .limits .limit)) (l : Lit) (e : Entry) (es : List Entry) (s : Strand) (b : Body) → Inv S (f .answered) (f .queue) (f .clock) e es → e .active ≡ some s → s .lits ≡ l ∷ b
-      → f .answered (goalOf l) ≡ false → findClock (goalOf l) (e ∷ es) ≡ none → ((u : ℕ) → Fits B L f (e ∷ es) u) → Resting S before → ((u : ℕ) → Fits B L before [] u)
-      → TurnOK S (rootOf e es) B L (pushing (S .limits) d before f (goalOf l) e es (pursued (e .clock) (l ∷ b)))
+      → f .answered (literal-goal l) ≡ false → find-clock (literal-goal l) (e ∷ es) ≡ none → ((u : ℕ) → Fits B L f (e ∷ es) u) → Resting S before → ((u : ℕ) → Fits B L before [] u)
+      → TurnOK S (root-of e es) B L (pushing (S .limits) d before f (literal-goal l) e es (pursued (e .clock) (l ∷ b)))
   pushing-ok before f (yes o) l e es s b inv a p n at few rest few' = record {
     inv = case-push S (f .answered) (f .queue) (f .clock) e es inv s l b a p n at o;
-    root = root-remade e (e .posMin) (e .negMin) (some (pursued (e .clock) (l ∷ b))) es;
+    root = root-remade e (e .positive-min) (e .negative-min) (some (pursued (e .clock) (l ∷ b))) es;
     fewer = λ u. let x = few u in let z = active-count e es s u a in omega arith;
   }
   pushing-ok before f (no o) l e es s b inv a p n at few rest few' = record { rest = rest; ends = tt; fewer = few' }
 
   unanswered-ok : (o : Option ℕ) (before f : Forest) (l : Lit) (e : Entry) (es : List Entry) (s : Strand) (b : Body) → Inv S (f .answered) (f .queue) (f .clock) e es → e .active ≡ some s → s .lits ≡ l ∷ b
-      → f .answered (goalOf l) ≡ false → findClock (goalOf l) (e ∷ es) ≡ o → ((u : ℕ) → Fits B L f (e ∷ es) u) → Resting S before → ((u : ℕ) → Fits B L before [] u)
-      → TurnOK S (rootOf e es) B L (unanswered (S .limits) o before f e es l b)
+      → f .answered (literal-goal l) ≡ false → find-clock (literal-goal l) (e ∷ es) ≡ o → ((u : ℕ) → Fits B L f (e ∷ es) u) → Resting S before → ((u : ℕ) → Fits B L before [] u)
+      → TurnOK S (root-of e es) B L (unanswered (S .limits) o before f e es l b)
   unanswered-ok (some c) before f l e es s b inv a p n at few rest few' = parking-ok l c f e es s b inv a p n at few
   unanswered-ok none before f l e es s b inv a p n at few rest few' = pushing-ok before f (decLt (f .clock) (S .limits .limit)) l e es s b inv a p n at few rest few'
 
   selected-ok : (t : Bool) (before f : Forest) (l : Lit) (e : Entry) (es : List Entry) (s : Strand) (b : Body) → Inv S (f .answered) (f .queue) (f .clock) e es → e .active ≡ some s → s .lits ≡ l ∷ b
-      → f .answered (goalOf l) ≡ t → ((u : ℕ) → Fits B L f (e ∷ es) u) → Resting S before → ((u : ℕ) → Fits B L before [] u)
-      → TurnOK S (rootOf e es) B L (selected (S .limits) t before f e es l b)
+      → f .answered (literal-goal l) ≡ t → ((u : ℕ) → Fits B L f (e ∷ es) u) → Resting S before → ((u : ℕ) → Fits B L before [] u)
+      → TurnOK S (root-of e es) B L (selected (S .limits) t before f e es l b)
   selected-ok true before f (pos h) e es s b inv a p t few rest few' = record {
     inv = case-popped S (f .answered) (f .queue) (f .clock) e es inv s h b a p t;
-    root = root-remade e (e .posMin) (e .negMin) (some (popped (e .clock) b)) es;
+    root = root-remade e (e .positive-min) (e .negative-min) (some (popped (e .clock) b)) es;
     fewer = λ u. let x = few u in let z = active-count e es s u a in omega arith;
   }
   selected-ok true before f (neg h) e es s b inv a p t few rest few' = record {
@@ -176,19 +176,19 @@ module _ (S : Setting) (B L : ℕ → ℕ) where
     );
     fewer = λ u. let x = few u in let y = back-length (f .queue) es u in omega arith;
   }
-  selected-ok false before f l e es s b inv a p t few rest few' = unanswered-ok (findClock (goalOf l) (e ∷ es)) before f l e es s b inv a p t refl few rest few'
+  selected-ok false before f l e es s b inv a p t few rest few' = unanswered-ok (find-clock (literal-goal l) (e ∷ es)) before f l e es s b inv a p t refl few rest few'
 
   pursue-ok : (b : Body) (before f : Forest) (e : Entry) (es : List Entry) (s : Strand) → Inv S (f .answered) (f .queue) (f .clock) e es → e .active ≡ some s → s .lits ≡ b
-      → ((u : ℕ) → Fits B L f (e ∷ es) u) → Resting S before → ((u : ℕ) → Fits B L before [] u) → TurnOK S (rootOf e es) B L (pursue (S .limits) b before f e es)
+      → ((u : ℕ) → Fits B L f (e ∷ es) u) → Resting S before → ((u : ℕ) → Fits B L before [] u) → TurnOK S (root-of e es) B L (pursue (S .limits) b before f e es)
   pursue-ok [] before f e es s inv a p few rest few' = answering-ok (f .answered (e .goal)) f e es s inv a p refl few
-  pursue-ok (l ∷ b) before f e es s inv a p few rest few' = selected-ok (f .answered (goalOf l)) before (make f (goalOf l)) l e es s b inv a p refl few rest few'
+  pursue-ok (l ∷ b) before f e es s inv a p few rest few' = selected-ok (f .answered (literal-goal l)) before (make f (literal-goal l)) l e es s b inv a p refl few rest few'
 
-  emptyAt-ok : (b : Body) (f : Forest) (e c : Entry) (es : List Entry) (s : Strand) → Inv S (f .answered) (f .queue) (f .clock) e (c ∷ es) → e .active ≡ none → f .queue (e .goal) ≡ [] → c .active ≡ some s → s .lits ≡ b
-      → ((u : ℕ) → Fits B L f (e ∷ c ∷ es) u) → TurnOK S (rootOf c es) B L (emptyAt (S .limits) b s f c es)
-  emptyAt-ok [] f e c es s inv a n a' p few =
+  empty-at-ok : (b : Body) (f : Forest) (e c : Entry) (es : List Entry) (s : Strand) → Inv S (f .answered) (f .queue) (f .clock) e (c ∷ es) → e .active ≡ none → f .queue (e .goal) ≡ [] → c .active ≡ some s → s .lits ≡ b
+      → ((u : ℕ) → Fits B L f (e ∷ c ∷ es) u) → TurnOK S (root-of c es) B L (empty-at (S .limits) b s f c es)
+  empty-at-ok [] f e c es s inv a n a' p few =
       let k = inv .piled .2 in
       absurd (nil-cons (sym p ∙ sym (ap (λ z. z .lits) (some-inj (sym (k .active) ∙ a'))) ∙ k .lits))
-  emptyAt-ok (pos h ∷ b) f e c es s inv a n a' p few = record {
+  empty-at-ok (pos h ∷ b) f e c es s inv a n a' p few = record {
     rest = rest-after S f e (c ∷ es) (f .made) (f .first) (f .queue) es inv (step-trans S (step-off S (f .queue) e (c ∷ es) a) (step-drop S (f .queue) c es s a' (case-false S (f .answered) (f .queue) (f .clock) e c es inv s h b a n a' p)));
     ends = (
       c .goal,
@@ -197,19 +197,19 @@ module _ (S : Setting) (B L : ℕ → ℕ) where
     );
     fewer = λ u. let x = few u in let y = back-length (f .queue) es u in omega arith;
   }
-  emptyAt-ok (neg h ∷ b) f e c es s inv a n a' p few = record {
+  empty-at-ok (neg h ∷ b) f e c es s inv a n a' p few = record {
     inv = case-not S (f .answered) (f .queue) (f .clock) e c es inv s h b a n a' p;
-    root = root-remade c (c .posMin) (c .negMin) (some (popped (s .time) b)) es;
+    root = root-remade c (c .positive-min) (c .negative-min) (some (popped (s .time) b)) es;
     fewer = λ u. let x = few u in let z = active-count c es s u a' in omega arith;
   }
 
   empty-ok : (o : Option Strand) (f : Forest) (e c : Entry) (es : List Entry) → Inv S (f .answered) (f .queue) (f .clock) e (c ∷ es) → e .active ≡ none → f .queue (e .goal) ≡ [] → c .active ≡ o
-      → ((u : ℕ) → Fits B L f (e ∷ c ∷ es) u) → TurnOK S (rootOf c es) B L (empty (S .limits) o f c es)
+      → ((u : ℕ) → Fits B L f (e ∷ c ∷ es) u) → TurnOK S (root-of c es) B L (empty (S .limits) o f c es)
   empty-ok none f e c es inv a n a' few = absurd (none-some (sym a' ∙ inv .piled .2 .active))
-  empty-ok (some s) f e c es inv a n a' few = emptyAt-ok (s .lits) f e c es s inv a n a' refl few
+  empty-ok (some s) f e c es inv a n a' few = empty-at-ok (s .lits) f e c es s inv a n a' refl few
 
   emptied-ok : (f : Forest) (e : Entry) (es : List Entry) → Inv S (f .answered) (f .queue) (f .clock) e es → e .active ≡ none → f .queue (e .goal) ≡ []
-      → ((u : ℕ) → Fits B L f (e ∷ es) u) → TurnOK S (rootOf e es) B L (emptied (S .limits) f es)
+      → ((u : ℕ) → Fits B L f (e ∷ es) u) → TurnOK S (root-of e es) B L (emptied (S .limits) f es)
   emptied-ok f e [] inv a n few = record {
     rest = record { fine = fine-step S (inv .fine) (step-off S (f .queue) e [] a); bound = inv .bound };
     ends = case-unproved S (f .answered) (f .queue) (f .clock) e [] inv a n;
@@ -218,7 +218,7 @@ module _ (S : Setting) (B L : ℕ → ℕ) where
   emptied-ok f e (c ∷ es) inv a n few = empty-ok (c .active) f e c es inv a n refl few
 
   cleared-ok : (o : Option Queues) (f : Forest) (e : Entry) (es : List Entry) (x : Strand) (xs : List Strand) → Inv S (f .answered) (f .queue) (f .clock) e es → e .active ≡ none → f .queue (e .goal) ≡ x ∷ xs → (q' : Queues) → o ≡ some q' → Less S (put (f .queue) (e .goal) []) q' → Less S (f .queue) (put (f .queue) (e .goal) [])
-      → ((u : ℕ) → Fits B L f (e ∷ es) u) → TurnOK S (rootOf e es) B L (cleared (S .limits) o f es)
+      → ((u : ℕ) → Fits B L f (e ∷ es) u) → TurnOK S (root-of e es) B L (cleared (S .limits) o f es)
   cleared-ok none f e es x xs inv a n q' p l₁ l₂ few = absurd (none-some p)
   cleared-ok (some q) f e es x xs inv a n q' p l₁ l₂ few =
       let l : Less S (put (f .queue) (e .goal) []) q = subst (λ z. Less S (put (f .queue) (e .goal) []) z) (sym (some-inj p)) l₁ in
@@ -236,34 +236,34 @@ module _ (S : Setting) (B L : ℕ → ℕ) where
         fewer = λ u. let y = few u in let z = back-length q es u in let w = m .size u in omega arith;
       }
 
-  clearing-ok : (f : Forest) (e : Entry) (es : List Entry) (d : Dec (e .negMin ≡ S .limits .max)) (x : Strand) (xs : List Strand) → Inv S (f .answered) (f .queue) (f .clock) e es → e .active ≡ none → f .queue (e .goal) ≡ x ∷ xs
-      → ((t : Strand) → List·Memᴰ t (f .queue (e .goal)) → t .time < e .clock → ⊥) → e .clock ≤ e .posMin → ((u : ℕ) → Fits B L f (e ∷ es) u) → TurnOK S (rootOf e es) B L (clearing (S .limits) d f e es)
+  clearing-ok : (f : Forest) (e : Entry) (es : List Entry) (d : Dec (e .negative-min ≡ S .limits .max)) (x : Strand) (xs : List Strand) → Inv S (f .answered) (f .queue) (f .clock) e es → e .active ≡ none → f .queue (e .goal) ≡ x ∷ xs
+      → ((t : Strand) → List·Memᴰ t (f .queue (e .goal)) → t .time < e .clock → ⊥) → e .clock ≤ e .positive-min → ((u : ℕ) → Fits B L f (e ∷ es) u) → TurnOK S (root-of e es) B L (clearing (S .limits) d f e es)
   clearing-ok f e es (yes p) x xs inv a n late high few =
       let r = case-clear S (f .answered) (f .queue) (f .clock) e es inv a late high in
       cleared-ok (clear (total (S .limits .goals) (λ g. length (f .queue g))) (f .queue (e .goal)) (put (f .queue) (e .goal) [])) f e es x xs inv a n (r .0) (r .1) (r .2) (r .3) few
   clearing-ok f e es (no o) x xs inv a n late high few = absurd (o (top-new S (f .answered) (Holds (f .queue) (e ∷ es)) (f .queue) e es (inv .piled) .1 .plain))
 
-  cycleAt-ok : (b : Body) (f : Forest) (e c : Entry) (es : List Entry) (s : Strand) → Inv S (f .answered) (f .queue) (f .clock) e (c ∷ es) → e .active ≡ none → ((t : Strand) → List·Memᴰ t (f .queue (e .goal)) → t .time < e .clock → ⊥) → c .active ≡ some s → s .lits ≡ b → e .posMin < e .clock
-      → ((u : ℕ) → Fits B L f (e ∷ c ∷ es) u) → TurnOK S (rootOf c es) B L (cycleAt (S .limits) b s f e c es)
-  cycleAt-ok [] f e c es s inv a late a' p lt few =
+  cycle-at-ok : (b : Body) (f : Forest) (e c : Entry) (es : List Entry) (s : Strand) → Inv S (f .answered) (f .queue) (f .clock) e (c ∷ es) → e .active ≡ none → ((t : Strand) → List·Memᴰ t (f .queue (e .goal)) → t .time < e .clock → ⊥) → c .active ≡ some s → s .lits ≡ b → e .positive-min < e .clock
+      → ((u : ℕ) → Fits B L f (e ∷ c ∷ es) u) → TurnOK S (root-of c es) B L (cycle-at (S .limits) b s f e c es)
+  cycle-at-ok [] f e c es s inv a late a' p lt few =
       let k = inv .piled .2 in
       absurd (nil-cons (sym p ∙ sym (ap (λ z. z .lits) (some-inj (sym (k .active) ∙ a'))) ∙ k .lits))
-  cycleAt-ok (pos h ∷ b) f e c es s inv a late a' p lt few = record {
+  cycle-at-ok (pos h ∷ b) f e c es s inv a late a' p lt few = record {
     inv = case-cycle S (f .answered) (f .queue) (f .clock) e c es inv s h b a late a' p lt;
-    root = root-remade c (min (c .posMin) (e .posMin)) (min (c .negMin) (e .negMin)) none es;
+    root = root-remade c (min (c .positive-min) (e .positive-min)) (min (c .negative-min) (e .negative-min)) none es;
     fewer = λ u. let x = few u in let y = append-length (f .queue) (c .goal) s u in let z = active-count c es s u a' in omega arith;
   }
-  cycleAt-ok (neg h ∷ b) f e c es s inv a late a' p lt few = absurd (case-no-not S (f .answered) (f .queue) (f .clock) e c es inv s h b a' p lt)
+  cycle-at-ok (neg h ∷ b) f e c es s inv a late a' p lt few = absurd (case-no-not S (f .answered) (f .queue) (f .clock) e c es inv s h b a' p lt)
 
-  cycle-ok : (o : Option Strand) (f : Forest) (e c : Entry) (es : List Entry) → Inv S (f .answered) (f .queue) (f .clock) e (c ∷ es) → e .active ≡ none → ((t : Strand) → List·Memᴰ t (f .queue (e .goal)) → t .time < e .clock → ⊥) → c .active ≡ o → e .posMin < e .clock
-      → ((u : ℕ) → Fits B L f (e ∷ c ∷ es) u) → TurnOK S (rootOf c es) B L (cycle (S .limits) o f e c es)
+  cycle-ok : (o : Option Strand) (f : Forest) (e c : Entry) (es : List Entry) → Inv S (f .answered) (f .queue) (f .clock) e (c ∷ es) → e .active ≡ none → ((t : Strand) → List·Memᴰ t (f .queue (e .goal)) → t .time < e .clock → ⊥) → c .active ≡ o → e .positive-min < e .clock
+      → ((u : ℕ) → Fits B L f (e ∷ c ∷ es) u) → TurnOK S (root-of c es) B L (cycle (S .limits) o f e c es)
   cycle-ok none f e c es inv a late a' lt few = absurd (none-some (sym a' ∙ inv .piled .2 .active))
-  cycle-ok (some s) f e c es inv a late a' lt few = cycleAt-ok (s .lits) f e c es s inv a late a' refl lt few
+  cycle-ok (some s) f e c es inv a late a' lt few = cycle-at-ok (s .lits) f e c es s inv a late a' refl lt few
 
-  partOf-ok : (f : Forest) (e : Entry) (es : List Entry) → Inv S (f .answered) (f .queue) (f .clock) e es → e .active ≡ none → ((t : Strand) → List·Memᴰ t (f .queue (e .goal)) → t .time < e .clock → ⊥) → e .posMin < e .clock
-      → ((u : ℕ) → Fits B L f (e ∷ es) u) → TurnOK S (rootOf e es) B L (partOf (S .limits) f e es)
-  partOf-ok f e [] inv a late lt few = absurd (case-no-root S (f .answered) (f .queue) (f .clock) e inv lt)
-  partOf-ok f e (c ∷ es) inv a late lt few = cycle-ok (c .active) f e c es inv a late refl lt few
+  part-of-ok : (f : Forest) (e : Entry) (es : List Entry) → Inv S (f .answered) (f .queue) (f .clock) e es → e .active ≡ none → ((t : Strand) → List·Memᴰ t (f .queue (e .goal)) → t .time < e .clock → ⊥) → e .positive-min < e .clock
+      → ((u : ℕ) → Fits B L f (e ∷ es) u) → TurnOK S (root-of e es) B L (part-of (S .limits) f e es)
+  part-of-ok f e [] inv a late lt few = absurd (case-no-root S (f .answered) (f .queue) (f .clock) e inv lt)
+  part-of-ok f e (c ∷ es) inv a late lt few = cycle-ok (c .active) f e c es inv a late refl lt few
 
   flag-put : (first : ℕ → Bool) (g u : ℕ) → flag (put first g false u) ≤ flag (first u)
   flag-put first g u = go (ℕ-discrete g u)
@@ -272,8 +272,8 @@ module _ (S : Setting) (B L : ℕ → ℕ) where
       go (yes p) = omega arith
       go (no n) = omega arith
 
-  waiting-ok : (m : Bool) (f : Forest) (e : Entry) (es : List Entry) (d : Dec (e .clock ≤ e .posMin)) (d' : Dec (e .clock ≤ e .negMin)) (x : Strand) (xs : List Strand) → Inv S (f .answered) (f .queue) (f .clock) e es → f .first (e .goal) ≡ m → e .active ≡ none → f .queue (e .goal) ≡ x ∷ xs
-      → ((t : Strand) → List·Memᴰ t (f .queue (e .goal)) → t .time < e .clock → ⊥) → ((u : ℕ) → Fits B L f (e ∷ es) u) → TurnOK S (rootOf e es) B L (waiting (S .limits) m d d' f e es)
+  waiting-ok : (m : Bool) (f : Forest) (e : Entry) (es : List Entry) (d : Dec (e .clock ≤ e .positive-min)) (d' : Dec (e .clock ≤ e .negative-min)) (x : Strand) (xs : List Strand) → Inv S (f .answered) (f .queue) (f .clock) e es → f .first (e .goal) ≡ m → e .active ≡ none → f .queue (e .goal) ≡ x ∷ xs
+      → ((t : Strand) → List·Memᴰ t (f .queue (e .goal)) → t .time < e .clock → ⊥) → ((u : ℕ) → Fits B L f (e ∷ es) u) → TurnOK S (root-of e es) B L (waiting (S .limits) m d d' f e es)
   waiting-ok true f e es d d' x xs inv t a n late few = record {
     rest = rest-after S f e es (f .made) (put (f .first) (e .goal) false) (f .queue) es inv (step-off S (f .queue) e es a);
     ends = (
@@ -286,15 +286,15 @@ module _ (S : Setting) (B L : ℕ → ℕ) where
     );
     fewer = λ u. let y = few u in let z = back-length (f .queue) es u in let w = flag-put (f .first) (e .goal) u in omega arith;
   }
-  waiting-ok false f e es (yes p) (yes p') x xs inv t a n late few = clearing-ok f e es (ℕ-discrete (e .negMin) (S .limits .max)) x xs inv a n late p few
+  waiting-ok false f e es (yes p) (yes p') x xs inv t a n late few = clearing-ok f e es (ℕ-discrete (e .negative-min) (S .limits .max)) x xs inv a n late p few
   waiting-ok false f e es (yes p) (no o) x xs inv t a n late few =
       absurd (let y = top-new S (f .answered) (Holds (f .queue) (e ∷ es)) (f .queue) e es (inv .piled) .1 .plain in let z = S .room in let w = inv .now in let v = inv .bound in omega arith)
-  waiting-ok false f e es (no o) d' x xs inv t a n late few = partOf-ok f e es inv a late (omega arith) few
+  waiting-ok false f e es (no o) d' x xs inv t a n late few = part-of-ok f e es inv a late (omega arith) few
 
   idle-ok : (x : List Strand) (f : Forest) (e : Entry) (es : List Entry) → Inv S (f .answered) (f .queue) (f .clock) e es → e .active ≡ none → f .queue (e .goal) ≡ x
-      → ((t : Strand) → List·Memᴰ t (f .queue (e .goal)) → t .time < e .clock → ⊥) → ((u : ℕ) → Fits B L f (e ∷ es) u) → TurnOK S (rootOf e es) B L (idle (S .limits) x f e es)
+      → ((t : Strand) → List·Memᴰ t (f .queue (e .goal)) → t .time < e .clock → ⊥) → ((u : ℕ) → Fits B L f (e ∷ es) u) → TurnOK S (root-of e es) B L (idle (S .limits) x f e es)
   idle-ok [] f e es inv a n late few = emptied-ok f e es inv a n few
-  idle-ok (x ∷ xs) f e es inv a n late few = waiting-ok (f .first (e .goal)) f e es (decLe (e .clock) (e .posMin)) (decLe (e .clock) (e .negMin)) x xs inv refl a n late few
+  idle-ok (x ∷ xs) f e es inv a n late few = waiting-ok (f .first (e .goal)) f e es (decLe (e .clock) (e .positive-min)) (decLe (e .clock) (e .negative-min)) x xs inv refl a n late few
 
 -- what taking a strand from a queue does; pre has been passed over
 pub record Taken (pre q : List Strand) (s : Strand) (r : List Strand) : Type 0 where
@@ -322,19 +322,19 @@ taken-later pre xs x s r k = record {
   number = let a : length (pre ++ (x ∷ [])) ≡ length pre + 1 = length-append pre (x ∷ []) in let b = k .number in omega arith;
 }
 
-pub taken : (c : ℕ) (pre q : List Strand) (s : Strand) (r : List Strand) → takeFrom c pre q ≡ some (s, r) → Taken pre q s r
+pub taken : (c : ℕ) (pre q : List Strand) (s : Strand) (r : List Strand) → take-from c pre q ≡ some (s, r) → Taken pre q s r
 taken c pre [] s r p = absurd (none-some p)
 taken c pre (x ∷ xs) s r p = go (decLt (x .time) c) p (taken c (pre ++ (x ∷ [])) xs s r)
   where
-    go : (d : Dec (x .time < c)) → takeAt d x (xs ++ pre) (takeFrom c (pre ++ (x ∷ [])) xs) ≡ some (s, r) → (takeFrom c (pre ++ (x ∷ [])) xs ≡ some (s, r) → Taken (pre ++ (x ∷ [])) xs s r) → Taken pre (x ∷ xs) s r
+    go : (d : Dec (x .time < c)) → take-at d x (xs ++ pre) (take-from c (pre ++ (x ∷ [])) xs) ≡ some (s, r) → (take-from c (pre ++ (x ∷ [])) xs ≡ some (s, r) → Taken (pre ++ (x ∷ [])) xs s r) → Taken pre (x ∷ xs) s r
     go (yes o) e k = subst (λ (z : Strand × List Strand). Taken pre (x ∷ xs) (z .0) (z .1)) (some-inj e) (taken-here pre xs x)
     go (no o) e k = taken-later pre xs x s r (k e)
 
-pub none-taken : (c : ℕ) (pre q : List Strand) → takeFrom c pre q ≡ none → (t : Strand) → List·Memᴰ t q → t .time < c → ⊥
+pub none-taken : (c : ℕ) (pre q : List Strand) → take-from c pre q ≡ none → (t : Strand) → List·Memᴰ t q → t .time < c → ⊥
 none-taken c pre [] p t m o = List·Memᴰ·not-nil m
 none-taken c pre (x ∷ xs) p t m o = go (decLt (x .time) c) p (none-taken c (pre ++ (x ∷ [])) xs) (List·Memᴰ·cases-cons m)
   where
-    go : (d : Dec (x .time < c)) → takeAt d x (xs ++ pre) (takeFrom c (pre ++ (x ∷ [])) xs) ≡ none → (takeFrom c (pre ++ (x ∷ [])) xs ≡ none → (t : Strand) → List·Memᴰ t xs → t .time < c → ⊥) → (t ≡ x) ⊎ List·Memᴰ t xs → ⊥
+    go : (d : Dec (x .time < c)) → take-at d x (xs ++ pre) (take-from c (pre ++ (x ∷ [])) xs) ≡ none → (take-from c (pre ++ (x ∷ [])) xs ≡ none → (t : Strand) → List·Memᴰ t xs → t .time < c → ⊥) → (t ≡ x) ⊎ List·Memᴰ t xs → ⊥
     go (yes l) e k i = none-some (sym e)
     go (no l) e k (inl i) = l (subst (λ z. z .time < c) i o)
     go (no l) e k (inr i) = k e t i o
@@ -348,26 +348,26 @@ put-length q g u r n = go (ℕ-discrete g u)
 
 module _ (S : Setting) (B L : ℕ → ℕ) where
   -- a search put back before the turn
-  back-ok : (f : Forest) (e : Entry) (es : List Entry) → Inv S (f .answered) (f .queue) (f .clock) e es → Resting S (withQueue f (putBack (f .queue) (e ∷ es)))
+  back-ok : (f : Forest) (e : Entry) (es : List Entry) → Inv S (f .answered) (f .queue) (f .clock) e es → Resting S (with-queue f (all-back (f .queue) (e ∷ es)))
   back-ok f e es inv = rest-after S f e es (f .made) (f .first) (f .queue) (e ∷ es) inv (moved S (λ g s h. h) (λ g s h. h))
 
-  taking-ok : (o : Option (Strand × List Strand)) (f : Forest) (e : Entry) (es : List Entry) → Inv S (f .answered) (f .queue) (f .clock) e es → e .active ≡ none → takeFrom (e .clock) [] (f .queue (e .goal)) ≡ o
-      → ((u : ℕ) → Fits B L f (e ∷ es) u) → TurnOK S (rootOf e es) B L (taking (S .limits) o f e es)
+  taking-ok : (o : Option (Strand × List Strand)) (f : Forest) (e : Entry) (es : List Entry) → Inv S (f .answered) (f .queue) (f .clock) e es → e .active ≡ none → take-from (e .clock) [] (f .queue (e .goal)) ≡ o
+      → ((u : ℕ) → Fits B L f (e ∷ es) u) → TurnOK S (root-of e es) B L (taking (S .limits) o f e es)
   taking-ok none f e es inv a p few = idle-ok S B L (f .queue (e .goal)) f e es inv a refl (none-taken (e .clock) [] (f .queue (e .goal)) p) few
   taking-ok (some (s, r)) f e es inv a p few =
       let k = taken (e .clock) [] (f .queue (e .goal)) s r p in
-      let w = pursue-ok S B L (s .lits) (withQueue f (putBack (f .queue) (e ∷ es))) (withQueue f (put (f .queue) (e .goal) r)) (withActive e (some s)) es s
+      let w = pursue-ok S B L (s .lits) (with-queue f (all-back (f .queue) (e ∷ es))) (with-queue f (put (f .queue) (e .goal) r)) (entry-with e (some s)) es s
       (case-take S (f .answered) (f .queue) (f .clock) e es inv s r a (λ t m. either (λ y. absurd (List·Memᴰ·not-nil y)) (λ y. y) (k .less t m)) (k .mem) (k .most)) refl refl
       (λ u. let x = few u in let y = put-length (f .queue) (e .goal) u r (let z = k .number in omega arith) in omega arith)
       (back-ok f e es inv) (λ u. let x = few u in let y = back-length (f .queue) (e ∷ es) u in omega arith) in
-      subst (λ z. TurnOK S z B L (taking (S .limits) (some (s, r)) f e es)) (root-remade S B L e (e .posMin) (e .negMin) (some s) es) w
+      subst (λ z. TurnOK S z B L (taking (S .limits) (some (s, r)) f e es)) (root-remade S B L e (e .positive-min) (e .negative-min) (some s) es) w
 
-  turnWith-ok : (o : Option Strand) (f : Forest) (e : Entry) (es : List Entry) → Inv S (f .answered) (f .queue) (f .clock) e es → e .active ≡ o
-      → ((u : ℕ) → Fits B L f (e ∷ es) u) → TurnOK S (rootOf e es) B L (turnWith (S .limits) o f e es)
-  turnWith-ok none f e es inv a few = taking-ok (takeFrom (e .clock) [] (f .queue (e .goal))) f e es inv a refl few
-  turnWith-ok (some s) f e es inv a few =
-      pursue-ok S B L (s .lits) (withQueue f (putBack (f .queue) (e ∷ es))) f e es s inv a refl few (back-ok f e es inv) (λ u. let x = few u in let y = back-length (f .queue) (e ∷ es) u in omega arith)
+  turn-with-ok : (o : Option Strand) (f : Forest) (e : Entry) (es : List Entry) → Inv S (f .answered) (f .queue) (f .clock) e es → e .active ≡ o
+      → ((u : ℕ) → Fits B L f (e ∷ es) u) → TurnOK S (root-of e es) B L (turn-with (S .limits) o f e es)
+  turn-with-ok none f e es inv a few = taking-ok (take-from (e .clock) [] (f .queue (e .goal))) f e es inv a refl few
+  turn-with-ok (some s) f e es inv a few =
+      pursue-ok S B L (s .lits) (with-queue f (all-back (f .queue) (e ∷ es))) f e es s inv a refl few (back-ok f e es inv) (λ u. let x = few u in let y = back-length (f .queue) (e ∷ es) u in omega arith)
 
   -- every turn
-  pub turn-ok : (f : Forest) (e : Entry) (es : List Entry) → Inv S (f .answered) (f .queue) (f .clock) e es → ((u : ℕ) → Fits B L f (e ∷ es) u) → TurnOK S (rootOf e es) B L (turn (S .limits) f e es)
-  turn-ok f e es inv few = turnWith-ok (e .active) f e es inv refl few
+  pub turn-ok : (f : Forest) (e : Entry) (es : List Entry) → Inv S (f .answered) (f .queue) (f .clock) e es → ((u : ℕ) → Fits B L f (e ∷ es) u) → TurnOK S (root-of e es) B L (turn (S .limits) f e es)
+  turn-ok f e es inv few = turn-with-ok (e .active) f e es inv refl few

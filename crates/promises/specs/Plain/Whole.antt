@@ -11,14 +11,14 @@ use Rattle.promises.specs.Plain.Steps.{Setting, Good, Fine, fine-step, s
 use Rattle.promises.specs.Plain.Cases.{Inv, true-false}
 use lib.ListN.{length}
 use Rattle.promises.specs.Plain.Claim.{Reply, Plainly, Says, AllSay, agains, Inside, Demand}
-use Rattle.promises.specs.Plain.Machine.{Limits, Strand, Entry, Forest, takeFrom, total, Outcome, found, noMore, again, cut, clockOut, noted, refused, negCycle, unselected, repeated, broken, Turn, goOn, stop, newEntry, tick, idle, taking, turn, follow, run, begin, searchAt, search, peekNext, rounds, peek, Call, openGoal, searchGoal, peekGoal, anyFuture, fresh, initial, marked, counts, opening, callOn, calls}
+use Rattle.promises.specs.Plain.Machine.{Limits, Strand, Entry, Forest, take-from, total, Outcome, found, no-more-left, again, cut, clock-ended, noted, refused, negative-cycled, unselected, repeated, broken, Turn, turn-goes-on, stop, entry-pushed, tick, idle, taking, turn, follow, run, begin, search-at, search, peek-next, rounds, peek, Call, opens-goal, searches-goal, peeks-goal, asks-any-future, fresh, initial, marked, counts, opening, call-on, calls}
 use Rattle.promises.specs.Plain.Clear.{total-mono, total-drop}
 use Rattle.promises.specs.Plain.Turns.{count, size, back-length, Ends, Going, Ended, TurnOK, rest-after, turn-ok}
 
 module _ (S : Setting) (r : ℕ) (B L : ℕ → ℕ) where
   follow-ok : (k : Forest → Entry → List Entry → Outcome × Forest) → ((f : Forest) (e : Entry) (es : List Entry) → Going S r B L f e es → Ended S r B L (k f e es .0) (k f e es .1))
       → (t : Turn) → TurnOK S r B L t → Ended S r B L (follow (S .limits) t k .0) (follow (S .limits) t k .1)
-  follow-ok k h (goOn f e es) g = h f e es g
+  follow-ok k h (turn-goes-on f e es) g = h f e es g
   follow-ok k h (stop o f) g = g
 
   pub run-ok : (n : ℕ) (f : Forest) (e : Entry) (es : List Entry) → Going S r B L f e es → Ended S r B L (run (S .limits) n f e es .0) (run (S .limits) n f e es .1)
@@ -51,26 +51,26 @@ pub record Told (S : Setting) (f : Forest) (Says : Outcome → Type 0) (o : Outc
 
 ended-reply : (S : Setting) (g i : ℕ) (before after : ℕ → ℕ) (o : Outcome) → Ends S g before after o → Reply (S .I) g i o
 ended-reply S g i before after found x = x
-ended-reply S g i before after noMore x = λ e. x
+ended-reply S g i before after no-more-left x = λ e. x
 ended-reply S g i before after again x = tt
 ended-reply S g i before after cut x = tt
-ended-reply S g i before after clockOut x = tt
+ended-reply S g i before after clock-ended x = tt
 ended-reply S g i before after noted x = x
 ended-reply S g i before after (refused n) x = tt
-ended-reply S g i before after negCycle x = x
+ended-reply S g i before after negative-cycled x = x
 ended-reply S g i before after unselected x = x
 ended-reply S g i before after repeated x = x
 ended-reply S g i before after broken x = x
 
 ended-falls : (S : Setting) (g : ℕ) (before after : ℕ → ℕ) (o : Outcome) → ((u : ℕ) → after u ≤ before u) → Ends S g before after o → total (S .limits .goals) after + counts o ≤ total (S .limits .goals) before
 ended-falls S g before after found h x = let y = total-mono (S .limits .goals) before after h in omega arith
-ended-falls S g before after noMore h x = let y = total-mono (S .limits .goals) before after h in omega arith
+ended-falls S g before after no-more-left h x = let y = total-mono (S .limits .goals) before after h in omega arith
 ended-falls S g before after again h (u, l, x) = total-drop (S .limits .goals) before after u 1 h l (omega arith)
 ended-falls S g before after cut h x = let y = total-mono (S .limits .goals) before after h in omega arith
-ended-falls S g before after clockOut h x = let y = total-mono (S .limits .goals) before after h in omega arith
+ended-falls S g before after clock-ended h x = let y = total-mono (S .limits .goals) before after h in omega arith
 ended-falls S g before after noted h x = absurd x
 ended-falls S g before after (refused n) h x = absurd x
-ended-falls S g before after negCycle h x = absurd x
+ended-falls S g before after negative-cycled h x = absurd x
 ended-falls S g before after unselected h x = absurd x
 ended-falls S g before after repeated h x = absurd x
 ended-falls S g before after broken h x = absurd x
@@ -86,9 +86,9 @@ abbrev pub SearchTold : (S : Setting) → Forest → (g i : ℕ) → Outcome × 
 SearchTold S f g i p = Told S f (Reply (S .I) g i) (p .0) (counts (p .0)) (p .1)
 
 -- a search for an unanswered goal begins
-pub begin-inv : (S : Setting) (f : Forest) (g : ℕ) → Ready S f → f .answered g ≡ false → f .clock < S .limits .limit → Inv S (f .answered) (f .queue) (suc (f .clock)) (newEntry (S .limits) g (suc (f .clock))) []
+pub begin-inv : (S : Setting) (f : Forest) (g : ℕ) → Ready S f → f .answered g ≡ false → f .clock < S .limits .limit → Inv S (f .answered) (f .queue) (suc (f .clock)) (entry-pushed (S .limits) g (suc (f .clock))) []
 begin-inv S f g rest n lt =
-    let top = newEntry (S .limits) g (suc (f .clock)) in
+    let top = entry-pushed (S .limits) g (suc (f .clock)) in
     let step = step-trans S (step-on S {ans = f .answered} {k = f .clock} (f .queue) top [] refl) (step-tick S {k' = suc (f .clock)} (omega arith)) in
     let r = S .room in
     record {
@@ -112,7 +112,7 @@ begin-inv S f g rest n lt =
 
 begin-ok : (S : Setting) (f : Forest) (g i n : ℕ) (d : Dec (f .clock < S .limits .limit)) → Ready S f → f .answered g ≡ false → SearchTold S f g i (begin (S .limits) d f g n)
 begin-ok S f g i n (yes o) rest a =
-    let top = newEntry (S .limits) g (suc (f .clock)) in
+    let top = entry-pushed (S .limits) g (suc (f .clock)) in
     let f' = tick (S .limits) f in
     ended-told S f g i (run (S .limits) n f' top [] .0) (run (S .limits) n f' top [] .1)
     (run-ok S g (size f []) (clauses S) n f' top [] (record { inv = begin-inv S f g rest a o; root = refl; fewer = λ u. let x = rest .live u in omega arith }))
@@ -123,12 +123,12 @@ pub no-member : (q : List Strand) → ((s : Strand) → List·Memᴰ s q → ⊥
 no-member [] h = refl
 no-member (x ∷ xs) h = absurd (h x (List·Memᴰ·head refl))
 
-pub turn-stored : (S : Setting) (f : Forest) (g c : ℕ) → f .queue g ≡ [] → turn (S .limits) f (newEntry (S .limits) g c) [] ≡ stop noMore f
+pub turn-stored : (S : Setting) (f : Forest) (g c : ℕ) → f .queue g ≡ [] → turn (S .limits) f (entry-pushed (S .limits) g c) [] ≡ stop no-more-left f
 turn-stored S f g c p =
-    let e = newEntry (S .limits) g c in
-    ap (λ z. taking (S .limits) (takeFrom c [] z) f e []) p ∙ ap (λ z. idle (S .limits) z f e []) p
+    let e = entry-pushed (S .limits) g c in
+    ap (λ z. taking (S .limits) (take-from c [] z) f e []) p ∙ ap (λ z. idle (S .limits) z f e []) p
 
-pub run-stored : (S : Setting) (f : Forest) (g c n : ℕ) → f .queue g ≡ [] → (run (S .limits) n f (newEntry (S .limits) g c) [] ≡ (cut, f)) ⊎ (run (S .limits) n f (newEntry (S .limits) g c) [] ≡ (noMore, f))
+pub run-stored : (S : Setting) (f : Forest) (g c n : ℕ) → f .queue g ≡ [] → (run (S .limits) n f (entry-pushed (S .limits) g c) [] ≡ (cut, f)) ⊎ (run (S .limits) n f (entry-pushed (S .limits) g c) [] ≡ (no-more-left, f))
 run-stored S f g c zero p = inl refl
 run-stored S f g c (suc n) p = inr (ap (λ z. follow (S .limits) z (run (S .limits) n)) (turn-stored S f g c p))
 
@@ -147,41 +147,41 @@ stored-ok S f g n (no o) rest a = record { rest = rest; says = tt; falls = omega
 refused-ok : (S : Setting) (f : Forest) (g i n : ℕ) → Ready S f → SearchTold S f g i (refused n, f)
 refused-ok S f g i n rest = record { rest = rest; says = tt; falls = omega arith }
 
-searchAt-ok : (S : Setting) (f : Forest) (m a : Bool) (g i n : ℕ) → Ready S f → f .answered g ≡ a → SearchTold S f g i (searchAt (S .limits) m a i n f g)
-searchAt-ok S f false a g i n rest e = refused-ok S f g i 10 rest
-searchAt-ok S f true false g zero zero rest e = refused-ok S f g 0 12 rest
-searchAt-ok S f true false g zero (suc n) rest e = begin-ok S f g 0 (suc n) (decLt (f .clock) (S .limits .limit)) rest e
-searchAt-ok S f true false g (suc i) n rest e = refused-ok S f g (suc i) 11 rest
-searchAt-ok S f true true g zero zero rest e = refused-ok S f g 0 12 rest
-searchAt-ok S f true true g zero (suc n) rest e = record { rest = rest; says = rest .fine .proved g e; falls = omega arith }
-searchAt-ok S f true true g (suc zero) zero rest e = refused-ok S f g 1 12 rest
-searchAt-ok S f true true g (suc zero) (suc n) rest e = stored-ok S f g (suc n) (decLt (f .clock) (S .limits .limit)) rest e
-searchAt-ok S f true true g (suc (suc i)) n rest e = refused-ok S f g (suc (suc i)) 11 rest
+search-at-ok : (S : Setting) (f : Forest) (m a : Bool) (g i n : ℕ) → Ready S f → f .answered g ≡ a → SearchTold S f g i (search-at (S .limits) m a i n f g)
+search-at-ok S f false a g i n rest e = refused-ok S f g i 10 rest
+search-at-ok S f true false g zero zero rest e = refused-ok S f g 0 12 rest
+search-at-ok S f true false g zero (suc n) rest e = begin-ok S f g 0 (suc n) (decLt (f .clock) (S .limits .limit)) rest e
+search-at-ok S f true false g (suc i) n rest e = refused-ok S f g (suc i) 11 rest
+search-at-ok S f true true g zero zero rest e = refused-ok S f g 0 12 rest
+search-at-ok S f true true g zero (suc n) rest e = record { rest = rest; says = rest .fine .proved g e; falls = omega arith }
+search-at-ok S f true true g (suc zero) zero rest e = refused-ok S f g 1 12 rest
+search-at-ok S f true true g (suc zero) (suc n) rest e = stored-ok S f g (suc n) (decLt (f .clock) (S .limits .limit)) rest e
+search-at-ok S f true true g (suc (suc i)) n rest e = refused-ok S f g (suc (suc i)) 11 rest
 
 pub search-ok : (S : Setting) (f : Forest) (g i n : ℕ) → Ready S f → SearchTold S f g i (search (S .limits) f g i n)
-search-ok S f g i n rest = searchAt-ok S f (f .made g) (f .answered g) g i n rest refl
+search-ok S f g i n rest = search-at-ok S f (f .made g) (f .answered g) g i n rest refl
 
 abbrev pub PeekTold : (S : Setting) → Forest → (g i : ℕ) → Outcome × ℕ × Forest → Type 0
 PeekTold S f g i p = Told S f (Reply (S .I) g i) (p .0) (p .1) (p .2)
 
-peekNext-ok : (S : Setting) (f : Forest) (g i : ℕ) (k : Forest → Outcome × ℕ × Forest) → ((f' : Forest) → Ready S f' → PeekTold S f' g i (k f')) → (p : Outcome × Forest) → SearchTold S f g i p → PeekTold S f g i (peekNext (S .limits) p k)
-peekNext-ok S f g i k h (found, f') t = t
-peekNext-ok S f g i k h (noMore, f') t = t
-peekNext-ok S f g i k h (again, f') t =
+peek-next-ok : (S : Setting) (f : Forest) (g i : ℕ) (k : Forest → Outcome × ℕ × Forest) → ((f' : Forest) → Ready S f' → PeekTold S f' g i (k f')) → (p : Outcome × Forest) → SearchTold S f g i p → PeekTold S f g i (peek-next (S .limits) p k)
+peek-next-ok S f g i k h (found, f') t = t
+peek-next-ok S f g i k h (no-more-left, f') t = t
+peek-next-ok S f g i k h (again, f') t =
     let r = h f' (t .rest) in
     record { rest = r .rest; says = r .says; falls = let x = t .falls in let y = r .falls in omega arith }
-peekNext-ok S f g i k h (cut, f') t = t
-peekNext-ok S f g i k h (clockOut, f') t = t
-peekNext-ok S f g i k h (noted, f') t = t
-peekNext-ok S f g i k h (refused n, f') t = t
-peekNext-ok S f g i k h (negCycle, f') t = t
-peekNext-ok S f g i k h (unselected, f') t = t
-peekNext-ok S f g i k h (repeated, f') t = t
-peekNext-ok S f g i k h (broken, f') t = t
+peek-next-ok S f g i k h (cut, f') t = t
+peek-next-ok S f g i k h (clock-ended, f') t = t
+peek-next-ok S f g i k h (noted, f') t = t
+peek-next-ok S f g i k h (refused n, f') t = t
+peek-next-ok S f g i k h (negative-cycled, f') t = t
+peek-next-ok S f g i k h (unselected, f') t = t
+peek-next-ok S f g i k h (repeated, f') t = t
+peek-next-ok S f g i k h (broken, f') t = t
 
 rounds-ok : (S : Setting) (r g i n : ℕ) (f : Forest) → Ready S f → PeekTold S f g i (rounds (S .limits) r g i n f)
 rounds-ok S zero g i n f rest = record { rest = rest; says = tt; falls = omega arith }
-rounds-ok S (suc r) g i n f rest = peekNext-ok S f g i (rounds (S .limits) r g i n) (rounds-ok S r g i n) (search (S .limits) f g i n) (search-ok S f g i n rest)
+rounds-ok S (suc r) g i n f rest = peek-next-ok S f g i (rounds (S .limits) r g i n) (rounds-ok S r g i n) (search (S .limits) f g i n) (search-ok S f g i n rest)
 
 pub peek-ok : (S : Setting) (r g i n : ℕ) (f : Forest) → Ready S f → PeekTold S f g i (peek (S .limits) r g i n f)
 peek-ok S zero g i n f rest =
@@ -189,25 +189,25 @@ peek-ok S zero g i n f rest =
     record { rest = t .rest; says = t .says; falls = let x = t .falls in omega arith }
 peek-ok S (suc r) g i n f rest = rounds-ok S (suc r) g i n f rest
 
-pub call-ok : (S : Setting) (m : Bool) (c : Call) (f : Forest) → Ready S f → Told S f (Says (S .I) c) (callOn (S .limits) m c f .0) (callOn (S .limits) m c f .1) (callOn (S .limits) m c f .2)
-call-ok S true (openGoal g) f rest = record { rest = rest; says = tt; falls = omega arith }
-call-ok S true (searchGoal g i n) f rest = record { rest = rest; says = tt; falls = omega arith }
-call-ok S true (peekGoal g i r n) f rest = record { rest = rest; says = tt; falls = omega arith }
-call-ok S true (anyFuture g i) f rest = record { rest = rest; says = tt; falls = omega arith }
-call-ok S false (openGoal g) f rest = go (decLt g (S .limits .goals))
+pub call-ok : (S : Setting) (m : Bool) (c : Call) (f : Forest) → Ready S f → Told S f (Says (S .I) c) (call-on (S .limits) m c f .0) (call-on (S .limits) m c f .1) (call-on (S .limits) m c f .2)
+call-ok S true (opens-goal g) f rest = record { rest = rest; says = tt; falls = omega arith }
+call-ok S true (searches-goal g i n) f rest = record { rest = rest; says = tt; falls = omega arith }
+call-ok S true (peeks-goal g i r n) f rest = record { rest = rest; says = tt; falls = omega arith }
+call-ok S true (asks-any-future g i) f rest = record { rest = rest; says = tt; falls = omega arith }
+call-ok S false (opens-goal g) f rest = go (decLt g (S .limits .goals))
   where
     go : (d : Dec (g < S .limits .goals)) → Told S f Plainly (opening (S .limits) d g f .0) (opening (S .limits) d g f .1) (opening (S .limits) d g f .2)
     go (yes o) = record { rest = record { fine = rest .fine; bound = rest .bound; live = rest .live }; says = tt; falls = omega arith }
     go (no o) = record { rest = rest; says = tt; falls = omega arith }
-call-ok S false (searchGoal g i n) f rest = search-ok S f g i n rest
-call-ok S false (peekGoal g i r n) f rest = peek-ok S r g i n f rest
-call-ok S false (anyFuture g i) f rest = record { rest = rest; says = tt; falls = omega arith }
+call-ok S false (searches-goal g i n) f rest = search-ok S f g i n rest
+call-ok S false (peeks-goal g i r n) f rest = peek-ok S r g i n f rest
+call-ok S false (asks-any-future g i) f rest = record { rest = rest; says = tt; falls = omega arith }
 
 pub calls-ok : (S : Setting) (cs : List Call) (m : Bool) (f : Forest) → Ready S f → AllSay (S .I) (calls (S .limits) cs m f) × (agains (calls (S .limits) cs m f) ≤ potential S f)
 calls-ok S [] m f rest = (tt, omega arith)
 calls-ok S (c ∷ cs) m f rest =
     let k = call-ok S m c f rest in
-    let r = calls-ok S cs (marked m (callOn (S .limits) m c f .0)) (callOn (S .limits) m c f .2) (k .rest) in
+    let r = calls-ok S cs (marked m (call-on (S .limits) m c f .0)) (call-on (S .limits) m c f .2) (k .rest) in
     ((k .says, r .0), (let x = k .falls in let y = r .1 in omega arith))
 
 mem-map : (bs : List Body) (s : Strand) → List·Memᴰ s (map fresh bs) → (c : Body) × List·Memᴰ c bs × (fresh c ≡ s)

@@ -1,4 +1,4 @@
--- `may_take` is the test of `eligibleAt`.
+-- `may_take` is the test of `eligible-at`.
 use mathlib.Core.Path.{_≡_, refl, sym}
 use borrow.Author.Tests.{lt-ltb, le-ltb}
 use Rattle.rings.proofs.Laws.{not-not}

@@ -3,7 +3,7 @@ use mathlib.Core.Path.{_≡_, refl, sym, ap, _∙_}
 use mathlib.Core.Bool.{Bool, false}
 use Prim.Native.Nat.{ℕ}
 use lib.ListN.{getD, set}
-use Rattle.rings.specs.Rings.{linkedAt}
+use Rattle.rings.specs.Rings.{linked-at}
 use borrow.Author.Needs.{needs}
 use Rattle.rings.proofs.ring_enqueue.Statement.{statement}
 use Rattle.rings.proofs.ring_enqueue.Tie as tie
@@ -64,7 +64,7 @@ element-write-next-3 c = search needs
 returns : tie.Need-returns
 returns c =
     let a = c .before .before .before .before .args in (
-      ap (λ (b : Bool). linkedAt b (a .next .now) (getD (a .tail .now) (a .table) 0) (a .place)) (sym (eq-eqb _ _ (c .if1 .taken))),
+      ap (λ (b : Bool). linked-at b (a .next .now) (getD (a .tail .now) (a .table) 0) (a .place)) (sym (eq-eqb _ _ (c .if1 .taken))),
       refl,
       ap (λ (n : ℕ). set (a .len .now) (a .table) n) (c .before .more .ensures),
     )
@@ -73,8 +73,8 @@ returns c =
 returns-2 : tie.Need-returns-2
 returns-2 c =
     let a = c .before .before .before .before .before .before .args in (
-      ap (λ (l : ℕ). linkedAt false (a .next .now) l (a .place)) (c .before .wide .ensures .0)
-          ∙ ap (λ (b : Bool). linkedAt b (a .next .now) (getD (a .tail .now) (a .table) 0) (a .place)) (sym (ne-eqb _ _ (c .before .before .if1 .left))),
+      ap (λ (l : ℕ). linked-at false (a .next .now) l (a .place)) (c .before .wide .ensures .0)
+          ∙ ap (λ (b : Bool). linked-at b (a .next .now) (getD (a .tail .now) (a .table) 0) (a .place)) (sym (ne-eqb _ _ (c .before .before .if1 .left))),
       refl,
       ap (λ (n : ℕ). set (a .len .now) (a .table) n) (c .before .before .before .more .ensures),
     )

@@ -1,7 +1,7 @@
 -- `clause_line`: at each turn the literals that are left, put down from where the pen is, are all that the head leaves to say.
 use native.Mathlib.Omega.{arith}
 use Rattle.pen.specs.Pen.{pen, put-all}
-use Rattle.book.specs.View.{literalAt}
+use Rattle.book.specs.View.{literal-viewed}
 use Rattle.inspect.proofs.Lines.{literals-left, literals-step, clause-said}
 use Prim.Native.Nat.{_≤_, _<_, _-_, _*_}
 use mathlib.Core.Path.{_≡_, refl}
@@ -11,7 +11,7 @@ use Rattle.inspect.proofs.words.clause_line.Statement.{statement}
 use Rattle.inspect.proofs.words.clause_line.Tie as tie
 
 abbrev Inv-loop : tie.InvT-loop
-Inv-loop out₀ at goal c book count used₀ j₀ out used j = (j ≤ count) × (count ≤ 8) × (c < 256) × (length out ≡ length out₀) × (put-all (literals-left (literalAt book) (8 * c) count j) (pen out used) ≡ put-all (literals-left (literalAt book) (8 * c) count 0) (pen out₀ used₀))
+Inv-loop out₀ at goal c book count used₀ j₀ out used j = (j ≤ count) × (count ≤ 8) × (c < 256) × (length out ≡ length out₀) × (put-all (literals-left (literal-viewed book) (8 * c) count j) (pen out used) ≡ put-all (literals-left (literal-viewed book) (8 * c) count 0) (pen out₀ used₀))
 
 abbrev μ-loop : tie.MeasureT-loop
 μ-loop out₀ at goal c book count used₀ j₀ out used j = count - j
@@ -82,7 +82,7 @@ loop-again c =
       omega arith,
       omega arith,
       search needs,
-      literals-step (literalAt (start .args .t3)) (8 * start .args .c) (counted .wide8 .result) (turn .loop .j) _ _ _ _ (omega arith) (turn .loop .inv .4)
+      literals-step (literal-viewed (start .args .t3)) (8 * start .args .c) (counted .wide8 .result) (turn .loop .j) _ _ _ _ (omega arith) (turn .loop .inv .4)
           (between .between .ensures) (c .before .before .literal .ensures),
     )
 

@@ -1,7 +1,7 @@
 -- `clauses`: at each turn the clauses that are left, put down from where the pen is, are all that there is to say.
 use native.Mathlib.Omega.{arith}
 use Rattle.pen.specs.Pen.{pen, put-all}
-use Rattle.book.specs.View.{clauseAt}
+use Rattle.book.specs.View.{clause-viewed}
 use Rattle.inspect.proofs.Lines.{clauses-left, clauses-step, clauses-said, clauses-in}
 use Prim.Native.Nat.{_≤_, _<_, _-_}
 use mathlib.Core.Path.{_≡_, refl}
@@ -11,7 +11,7 @@ use Rattle.inspect.proofs.words.clauses.Statement.{statement}
 use Rattle.inspect.proofs.words.clauses.Tie as tie
 
 abbrev Inv-loop : tie.InvT-loop
-Inv-loop out₀ at g book first count used₀ k₀ out used k = (k ≤ count) × (count < 65536) × (first < 65536) × (length out ≡ length out₀) × (put-all (clauses-left g (clauseAt book) first count k) (pen out used) ≡ put-all (clauses-left g (clauseAt book) first count 0) (pen out₀ used₀))
+Inv-loop out₀ at g book first count used₀ k₀ out used k = (k ≤ count) × (count < 65536) × (first < 65536) × (length out ≡ length out₀) × (put-all (clauses-left g (clause-viewed book) first count k) (pen out used) ≡ put-all (clauses-left g (clause-viewed book) first count 0) (pen out₀ used₀))
 
 abbrev μ-loop : tie.MeasureT-loop
 μ-loop out₀ at g book first count used₀ k₀ out used k = count - k

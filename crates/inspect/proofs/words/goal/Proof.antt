@@ -1,5 +1,5 @@
 -- `goal`: its line, then its clauses.
-use Rattle.book.specs.View.{goalAt}
+use Rattle.book.specs.View.{goal-viewed}
 use Rattle.inspect.proofs.Lines.{goal-all}
 use borrow.Author.Needs.{needs}
 use Rattle.inspect.proofs.words.goal.Statement.{statement}
@@ -20,7 +20,7 @@ same-length c = search needs
 returns : tie.Need-returns
 returns c =
     let start = c .before .before .before .before .before .before .before .before .before .before in
-    goal-all (start .args .g) (goalAt (start .args .t3) (start .args .g)) _ _ _ (c .before .before .before .before .before .before .goal-line .ensures) (c .before .before .clauses .ensures)
+    goal-all (start .args .g) (goal-viewed (start .args .t3) (start .args .g)) _ _ _ (c .before .before .before .before .before .before .goal-line .ensures) (c .before .before .clauses .ensures)
 
 pub goal-spec : {M : Type 1} → statement M
 goal-spec =

@@ -1,6 +1,6 @@
 -- `goals`: at each turn the goals that are left, put down from where the pen is, are all that there is to say.
 use Rattle.pen.specs.Pen.{pen, put-all}
-use Rattle.book.specs.View.{goalAt}
+use Rattle.book.specs.View.{goal-viewed}
 use Rattle.inspect.proofs.Lines.{goals-left, goals-step, goals-said}
 use Prim.Native.Nat.{_-_}
 use mathlib.Core.Path.{_≡_, refl}
@@ -10,7 +10,7 @@ use Rattle.inspect.proofs.words.goals.Statement.{statement}
 use Rattle.inspect.proofs.words.goals.Tie as tie
 
 abbrev Inv-loop : tie.InvT-loop
-Inv-loop out₀ at book used₀ g₀ out used g = (length out ≡ length out₀) × (put-all (goals-left (goalAt book) (book .goals) g) (pen out used) ≡ put-all (goals-left (goalAt book) (book .goals) 0) (pen out₀ used₀))
+Inv-loop out₀ at book used₀ g₀ out used g = (length out ≡ length out₀) × (put-all (goals-left (goal-viewed book) (book .goals) g) (pen out used) ≡ put-all (goals-left (goal-viewed book) (book .goals) 0) (pen out₀ used₀))
 
 abbrev μ-loop : tie.MeasureT-loop
 μ-loop out₀ at book used₀ g₀ out used g = book .goals - g

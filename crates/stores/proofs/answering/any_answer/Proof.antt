@@ -7,14 +7,14 @@ use lib.ListN.{drop, getD}
 use borrow.Author.Needs.{needs}
 use Rattle.definitions.specs.Lists.{any-passes}
 use Rattle.rings.specs.Rings.{walk}
-use Rattle.stores.specs.Answering.{answerVariant}
+use Rattle.stores.specs.Answering.{answer-variant}
 use Rattle.stores.proofs.AnswerCases.{any-hit, any-miss, any-over, any-start}
 use Rattle.stores.proofs.answering.any_answer.Statement.{statement}
 use Rattle.stores.proofs.answering.any_answer.Tie as tie
 
 abbrev Inv-loop : tie.InvT-loop
 Inv-loop next tail len t from variant answers m prev₀ i₀ prev i =
-    any-passes (answerVariant answers variant) (drop (from - i) (walk (m - i) next prev)) ≡ any-passes (answerVariant answers variant) (drop from (walk (getD len t 0) next (getD tail t 0)))
+    any-passes (answer-variant answers variant) (drop (from - i) (walk (m - i) next prev)) ≡ any-passes (answer-variant answers variant) (drop from (walk (getD len t 0) next (getD tail t 0)))
 
 abbrev μ-loop : tie.MeasureT-loop
 μ-loop next tail len t from variant answers m prev₀ i₀ prev i = m - i
@@ -35,7 +35,7 @@ loop-holds : tie.Need-loop-holds Inv-loop μ-loop
 loop-holds c =
     let a = c .before .before .before .args in
     let b : ℕ = getD (a .tail .now) (a .t) 0 in
-    any-start (answerVariant (a .t1) (a .variant)) (a .next .now) (a .from) (c .before .long .result) b ∙ ap (λ (n : ℕ). any-passes (answerVariant (a .t1) (a .variant)) (drop (a .from) (walk n (a .next .now) b))) (c .before .long .ensures .0)
+    any-start (answer-variant (a .t1) (a .variant)) (a .next .now) (a .from) (c .before .long .result) b ∙ ap (λ (n : ℕ). any-passes (answer-variant (a .t1) (a .variant)) (drop (a .from) (walk n (a .next .now) b))) (c .before .long .ensures .0)
 
 wide-requires : tie.Need-wide-requires Inv-loop μ-loop
 wide-requires c κs = search needs
@@ -62,9 +62,9 @@ returns c =
     let m : ℕ = c .before .before .before .before .before .before .before .before .before .long .result in
     let e : getD (a .next .now) (l .prev) 0 ≡ c .before .before .before .wide2 .result =
     ap (λ (k : ℕ). getD (a .next .now) k 0) (sym (c .before .before .before .before .before .wide .ensures .0)) ∙ sym (c .before .before .before .wide2 .ensures .0) in
-    let t : leb (a .from) (l .i) && answerVariant (a .t1) (a .variant) (getD (a .next .now) (l .prev) 0) ≡ true =
-    ap (λ (k : ℕ). leb (a .from) (l .i) && answerVariant (a .t1) (a .variant) k) e ∙ sym (c .before .hit .ensures) ∙ c .if1 .taken in
-    sym (any-hit (answerVariant (a .t1) (a .variant)) (a .next .now) (a .from) m (l .i) (l .prev) (search needs) t) ∙ l .inv
+    let t : leb (a .from) (l .i) && answer-variant (a .t1) (a .variant) (getD (a .next .now) (l .prev) 0) ≡ true =
+    ap (λ (k : ℕ). leb (a .from) (l .i) && answer-variant (a .t1) (a .variant) k) e ∙ sym (c .before .hit .ensures) ∙ c .if1 .taken in
+    sym (any-hit (answer-variant (a .t1) (a .variant)) (a .next .now) (a .from) m (l .i) (l .prev) (search needs) t) ∙ l .inv
 
 add-i : tie.Need-add-i Inv-loop μ-loop
 add-i c = search needs
@@ -79,17 +79,17 @@ loop-again c =
     let m : ℕ = c .before .before .before .before .before .before .before .before .before .long .result in
     let e : getD (a .next .now) (l .prev) 0 ≡ c .before .before .before .wide2 .result =
     ap (λ (k : ℕ). getD (a .next .now) k 0) (sym (c .before .before .before .before .before .wide .ensures .0)) ∙ sym (c .before .before .before .wide2 .ensures .0) in
-    let t : leb (a .from) (l .i) && answerVariant (a .t1) (a .variant) (getD (a .next .now) (l .prev) 0) ≡ false =
-    ap (λ (k : ℕ). leb (a .from) (l .i) && answerVariant (a .t1) (a .variant) k) e ∙ sym (c .before .hit .ensures) ∙ c .if1 .left in
-    ap (λ (k : ℕ). any-passes (answerVariant (a .t1) (a .variant)) (drop ((a .from) - (l .i + 1)) (walk (m - (l .i + 1)) (a .next .now) (getD (a .next .now) k 0)))) (c .before .before .before .before .before .wide .ensures .0)
-    ∙ sym (any-miss (answerVariant (a .t1) (a .variant)) (a .next .now) (a .from) m (l .i) (l .prev) (search needs) t) ∙ l .inv
+    let t : leb (a .from) (l .i) && answer-variant (a .t1) (a .variant) (getD (a .next .now) (l .prev) 0) ≡ false =
+    ap (λ (k : ℕ). leb (a .from) (l .i) && answer-variant (a .t1) (a .variant) k) e ∙ sym (c .before .hit .ensures) ∙ c .if1 .left in
+    ap (λ (k : ℕ). any-passes (answer-variant (a .t1) (a .variant)) (drop ((a .from) - (l .i + 1)) (walk (m - (l .i + 1)) (a .next .now) (getD (a .next .now) k 0)))) (c .before .before .before .before .before .wide .ensures .0)
+    ∙ sym (any-miss (answer-variant (a .t1) (a .variant)) (a .next .now) (a .from) m (l .i) (l .prev) (search needs) t) ∙ l .inv
 
 returns-2 : tie.Need-returns-2 Inv-loop μ-loop
 returns-2 c =
     let a = c .before .before .before .before .before .args in
     let l = c .before .loop in
     let m : ℕ = c .before .before .before .long .result in
-    sym (any-over (answerVariant (a .t1) (a .variant)) (a .next .now) (a .from) m (l .i) (l .prev) (search needs)) ∙ l .inv
+    sym (any-over (answer-variant (a .t1) (a .variant)) (a .next .now) (a .from) m (l .i) (l .prev) (search needs)) ∙ l .inv
 
 pub any-answer-spec : {M : Type 1} → statement M
 any-answer-spec =

@@ -7,14 +7,14 @@ use lib.ListN.{drop, getD}
 use borrow.Author.Needs.{needs}
 use Rattle.definitions.specs.Lists.{any-passes}
 use Rattle.rings.specs.Rings.{walk}
-use Rattle.stores.specs.Answering.{strandVariant}
+use Rattle.stores.specs.Answering.{strand-variant}
 use Rattle.stores.proofs.AnswerCases.{any-hit, any-miss, any-over, any-start}
 use Rattle.stores.proofs.answering.any_strand.Statement.{statement}
 use Rattle.stores.proofs.answering.any_strand.Tie as tie
 
 abbrev Inv-loop : tie.InvT-loop
 Inv-loop next tail len t variant strands m prev₀ i₀ prev i =
-    any-passes (strandVariant strands variant) (drop (0 - i) (walk (m - i) next prev)) ≡ any-passes (strandVariant strands variant) (drop 0 (walk (getD len t 0) next (getD tail t 0)))
+    any-passes (strand-variant strands variant) (drop (0 - i) (walk (m - i) next prev)) ≡ any-passes (strand-variant strands variant) (drop 0 (walk (getD len t 0) next (getD tail t 0)))
 
 abbrev μ-loop : tie.MeasureT-loop
 μ-loop next tail len t variant strands m prev₀ i₀ prev i = m - i
@@ -35,7 +35,7 @@ loop-holds : tie.Need-loop-holds Inv-loop μ-loop
 loop-holds c =
     let a = c .before .before .before .args in
     let b : ℕ = getD (a .tail .now) (a .t) 0 in
-    any-start (strandVariant (a .t1) (a .variant)) (a .next .now) 0 (c .before .long .result) b ∙ ap (λ (n : ℕ). any-passes (strandVariant (a .t1) (a .variant)) (drop 0 (walk n (a .next .now) b))) (c .before .long .ensures .0)
+    any-start (strand-variant (a .t1) (a .variant)) (a .next .now) 0 (c .before .long .result) b ∙ ap (λ (n : ℕ). any-passes (strand-variant (a .t1) (a .variant)) (drop 0 (walk n (a .next .now) b))) (c .before .long .ensures .0)
 
 wide-requires : tie.Need-wide-requires Inv-loop μ-loop
 wide-requires c κs = search needs
@@ -62,9 +62,9 @@ returns c =
     let m : ℕ = c .before .before .before .before .before .before .before .before .before .long .result in
     let e : getD (a .next .now) (l .prev) 0 ≡ c .before .before .before .wide2 .result =
     ap (λ (k : ℕ). getD (a .next .now) k 0) (sym (c .before .before .before .before .before .wide .ensures .0)) ∙ sym (c .before .before .before .wide2 .ensures .0) in
-    let t : leb 0 (l .i) && strandVariant (a .t1) (a .variant) (getD (a .next .now) (l .prev) 0) ≡ true =
-    ap (λ (k : ℕ). leb 0 (l .i) && strandVariant (a .t1) (a .variant) k) e ∙ sym (c .before .hit .ensures) ∙ c .if1 .taken in
-    sym (any-hit (strandVariant (a .t1) (a .variant)) (a .next .now) 0 m (l .i) (l .prev) (search needs) t) ∙ l .inv
+    let t : leb 0 (l .i) && strand-variant (a .t1) (a .variant) (getD (a .next .now) (l .prev) 0) ≡ true =
+    ap (λ (k : ℕ). leb 0 (l .i) && strand-variant (a .t1) (a .variant) k) e ∙ sym (c .before .hit .ensures) ∙ c .if1 .taken in
+    sym (any-hit (strand-variant (a .t1) (a .variant)) (a .next .now) 0 m (l .i) (l .prev) (search needs) t) ∙ l .inv
 
 add-i : tie.Need-add-i Inv-loop μ-loop
 add-i c = search needs
@@ -79,17 +79,17 @@ loop-again c =
     let m : ℕ = c .before .before .before .before .before .before .before .before .before .long .result in
     let e : getD (a .next .now) (l .prev) 0 ≡ c .before .before .before .wide2 .result =
     ap (λ (k : ℕ). getD (a .next .now) k 0) (sym (c .before .before .before .before .before .wide .ensures .0)) ∙ sym (c .before .before .before .wide2 .ensures .0) in
-    let t : leb 0 (l .i) && strandVariant (a .t1) (a .variant) (getD (a .next .now) (l .prev) 0) ≡ false =
-    ap (λ (k : ℕ). leb 0 (l .i) && strandVariant (a .t1) (a .variant) k) e ∙ sym (c .before .hit .ensures) ∙ c .if1 .left in
-    ap (λ (k : ℕ). any-passes (strandVariant (a .t1) (a .variant)) (drop (0 - (l .i + 1)) (walk (m - (l .i + 1)) (a .next .now) (getD (a .next .now) k 0)))) (c .before .before .before .before .before .wide .ensures .0)
-    ∙ sym (any-miss (strandVariant (a .t1) (a .variant)) (a .next .now) 0 m (l .i) (l .prev) (search needs) t) ∙ l .inv
+    let t : leb 0 (l .i) && strand-variant (a .t1) (a .variant) (getD (a .next .now) (l .prev) 0) ≡ false =
+    ap (λ (k : ℕ). leb 0 (l .i) && strand-variant (a .t1) (a .variant) k) e ∙ sym (c .before .hit .ensures) ∙ c .if1 .left in
+    ap (λ (k : ℕ). any-passes (strand-variant (a .t1) (a .variant)) (drop (0 - (l .i + 1)) (walk (m - (l .i + 1)) (a .next .now) (getD (a .next .now) k 0)))) (c .before .before .before .before .before .wide .ensures .0)
+    ∙ sym (any-miss (strand-variant (a .t1) (a .variant)) (a .next .now) 0 m (l .i) (l .prev) (search needs) t) ∙ l .inv
 
 returns-2 : tie.Need-returns-2 Inv-loop μ-loop
 returns-2 c =
     let a = c .before .before .before .before .before .args in
     let l = c .before .loop in
     let m : ℕ = c .before .before .before .long .result in
-    sym (any-over (strandVariant (a .t1) (a .variant)) (a .next .now) 0 m (l .i) (l .prev) (search needs)) ∙ l .inv
+    sym (any-over (strand-variant (a .t1) (a .variant)) (a .next .now) 0 m (l .i) (l .prev) (search needs)) ∙ l .inv
 
 pub any-strand-spec : {M : Type 1} → statement M
 any-strand-spec =

@@ -4,14 +4,14 @@ use mathlib.Core.Path.{_≡_, _∙_, sym, ap}
 use native.Mathlib.Omega.{arith}
 use Prim.Native.Nat.{ℕ}
 use borrow.Author.Needs.{needs}
-use Rattle.stores.specs.Entries.{allFrom, within, coinductiveAt}
+use Rattle.stores.specs.Entries.{all-from, within, coinductive-at}
 use Rattle.stores.proofs.EntryCases.{all-here, all-next, all-over}
 use Rattle.stores.proofs.entries.coinductive_from.Statement.{statement}
 use Rattle.stores.proofs.entries.coinductive_from.Tie as tie
 
 abbrev Inv-loop : tie.InvT-loop
 Inv-loop table coinductive from depth m i₀ i =
-    (m ≡ within depth) × (m ≤ 64) × (allFrom (coinductiveAt table coinductive) i (m - i) ≡ allFrom (coinductiveAt table coinductive) from (within depth - from))
+    (m ≡ within depth) × (m ≤ 64) × (all-from (coinductive-at table coinductive) i (m - i) ≡ all-from (coinductive-at table coinductive) from (within depth - from))
 
 abbrev μ-loop : tie.MeasureT-loop
 μ-loop table coinductive from depth m i₀ i = m - i
@@ -22,7 +22,7 @@ upto-requires c κs = search needs
 loop-holds : tie.Need-loop-holds Inv-loop μ-loop
 loop-holds c =
     let a = c .before .args in
-    (c .upto .ensures, omega (arith, c .upto .ensures), ap (λ (m : ℕ). allFrom (coinductiveAt (a .table .now) (a .coinductive .now)) (a .from) (m - a .from)) (c .upto .ensures))
+    (c .upto .ensures, omega (arith, c .upto .ensures), ap (λ (m : ℕ). all-from (coinductive-at (a .table .now) (a .coinductive .now)) (a .from) (m - a .from)) (c .upto .ensures))
 
 element-copy-out-flag-at : tie.Need-element-copy-out-flag-at Inv-loop μ-loop
 element-copy-out-flag-at c = search needs
@@ -43,7 +43,7 @@ loop-again c =
     let m : ℕ = c .before .before .before .before .before .upto .result in (
       l .inv .0,
       l .inv .1,
-      sym (all-next (coinductiveAt (a .table .now) (a .coinductive .now)) m (l .i) (search needs) (sym (c .before .flag-at .ensures) ∙ c .if1 .taken)) ∙ l .inv .2,
+      sym (all-next (coinductive-at (a .table .now) (a .coinductive .now)) m (l .i) (search needs) (sym (c .before .flag-at .ensures) ∙ c .if1 .taken)) ∙ l .inv .2,
     )
 
 returns : tie.Need-returns Inv-loop μ-loop
@@ -51,14 +51,14 @@ returns c =
     let a = c .before .before .before .before .before .before .args in
     let l = c .before .before .before .before .loop in
     let m : ℕ = c .before .before .before .before .before .upto .result in
-    sym (all-here (coinductiveAt (a .table .now) (a .coinductive .now)) m (l .i) (search needs) (sym (c .before .flag-at .ensures) ∙ c .if1 .left)) ∙ l .inv .2
+    sym (all-here (coinductive-at (a .table .now) (a .coinductive .now)) m (l .i) (search needs) (sym (c .before .flag-at .ensures) ∙ c .if1 .left)) ∙ l .inv .2
 
 returns-2 : tie.Need-returns-2 Inv-loop μ-loop
 returns-2 c =
     let a = c .before .before .before .args in
     let l = c .before .loop in
     let m : ℕ = c .before .before .upto .result in
-    sym (all-over (coinductiveAt (a .table .now) (a .coinductive .now)) m (l .i) (search needs)) ∙ l .inv .2
+    sym (all-over (coinductive-at (a .table .now) (a .coinductive .now)) m (l .i) (search needs)) ∙ l .inv .2
 
 pub coinductive-from-spec : {M : Type 1} → statement M
 coinductive-from-spec =

@@ -10,7 +10,7 @@ use borrow.Author.Tests.{eq-eqb, ne-eqb}
 use lib.ListN.{getD}
 use lib.Dec.{eqb}
 use borrow.Author.Needs.{needs}
-use Rattle.stores.specs.Entries.{firstAt, within}
+use Rattle.stores.specs.Entries.{first-at, within}
 use Rattle.stores.proofs.EntryCases.{first-here, first-next, first-over}
 use Rattle.stores.proofs.entries.first_of.Statement.{statement}
 use Rattle.stores.proofs.entries.first_of.Tie as tie
@@ -20,7 +20,7 @@ test xs x j = eqb (getD xs j 0) x
 
 abbrev Inv-loop : tie.InvT-loop
 Inv-loop xs n x m i₀ i =
-    (i ≤ m) × (m ≡ within n) × (m ≤ 64) × (firstAt (λ j. eqb (getD xs j 0) x) i (m - i) ≡ firstAt (λ j. eqb (getD xs j 0) x) 0 (within n))
+    (i ≤ m) × (m ≡ within n) × (m ≤ 64) × (first-at (λ j. eqb (getD xs j 0) x) i (m - i) ≡ first-at (λ j. eqb (getD xs j 0) x) 0 (within n))
 
 abbrev μ-loop : tie.MeasureT-loop
 μ-loop xs n x m i₀ i = m - i
@@ -32,7 +32,7 @@ loop-holds : tie.Need-loop-holds Inv-loop μ-loop
 loop-holds c =
     let a = c .before .args in
     let m : ℕ = c .upto .result in
-    (omega arith, c .upto .ensures, omega (arith, c .upto .ensures), ap (firstAt (test (a .xs .now) (a .x)) 0) (sub-zero m ∙ c .upto .ensures))
+    (omega arith, c .upto .ensures, omega (arith, c .upto .ensures), ap (first-at (test (a .xs .now) (a .x)) 0) (sub-zero m ∙ c .upto .ensures))
 
 element-copy-out-if1 : tie.Need-element-copy-out-if1 Inv-loop μ-loop
 element-copy-out-if1 c = search needs

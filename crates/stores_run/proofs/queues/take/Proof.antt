@@ -1,4 +1,4 @@
--- `take` meets its contract: the model `takenStrand`.
+-- `take` meets its contract: the model `taken-strand`.
 use Rattle.stores_run.proofs.Owners.{take-of}
 use borrow.Author.Needs.{needs}
 use Rattle.stores_run.proofs.queues.take.Statement.{statement}
