@@ -1,6 +1,3 @@
--- What is promised of the definitions. `Demand` has the theorem, `Consequences` what it says of two small books.
-pub mod Plain
-pub mod Link
-pub mod Demand
-pub mod Consequences
-pub mod Asserts
+-- What is promised of the definitions, statements alone: `Claim` of the definitions has demand 3, `NeverAsserts` that no assert is met.
+-- The proofs stand in proofs/: `Demand` and `Asserts/Theorem` have the two theorems.
+pub mod NeverAsserts
