@@ -1,0 +1,95 @@
+-- A search as steps (logic.rs `root_answer`, `ensure_root_answer`): it is started, stands between two turns, goes on by one turn at each
+-- step, and may be cut short. A step that uses up the limit ends the search in Cut at once, so that a search that stands has a turn left.
+use Prim.Native.Nat.{ℕ, suc}
+use mathlib.Core.Bool.{true, false}
+use mathlib.Core.Option.{none, some}
+use mathlib.Core.List.{[]}
+use lib.Dec.{eqb, leb}
+use Rattle.definitions.specs.{TableIndex, TimeStamp, minimums-MAX}
+use Rattle.definitions.specs.Stop.{stop, go}
+use Rattle.definitions.specs.Table.{answer, next-answer-index}
+use Rattle.definitions.specs.Tables.{Forest, with-mark, table-at, increment-clock}
+use Rattle.definitions.specs.Stack.{push-entry}
+use Rattle.definitions.specs.Logic.{Floundered, SolveState, with-forest, Flow, continue, return-ok, return-err}
+use Rattle.definitions.specs.Turn.{turn, Searched, fail, cut, stopped, put-back, stored-answer}
+
+-- A search between two turns: which answer of which table it is for, how many turns it may do and has done, and the clock of its
+-- first push, which no other search has.
+pub record Standing : Type 0 where
+  pub state : SolveState
+  pub table : TableIndex
+  pub index : ℕ
+  pub limit : ℕ
+  pub done : ℕ
+  pub first : TimeStamp
+
+pub data Progress : Type 0 where
+  ended : Searched → Progress
+  stands : Standing → Progress
+
+-- the search is put back as `Drop` does, and says Cut
+abbrev pub cut-short : Standing → Searched
+cut-short w = put-back cut (w .done) (w .state)
+
+-- it stands, unless its turns are used up
+abbrev pub standing : Standing → Progress
+standing w = elim (leb (w .limit) (w .done)) [ true ↦ ended (cut-short w) | false ↦ stands w ]
+
+-- one turn more was done, and the state is this
+abbrev pub gone-on : Standing → SolveState → Standing
+gone-on w s = record {
+  state = s;
+  table = w .table;
+  index = w .index;
+  limit = w .limit;
+  done = suc (w .done);
+  first = w .first;
+}
+
+abbrev pub after-turn : Standing → Flow → Progress
+after-turn w (continue s) = standing (gone-on w s)
+after-turn w (return-ok s) = ended (put-back (stored-answer (s .forest) (w .table) (w .index)) (suc (w .done)) s)
+after-turn w (return-err e s) = ended (put-back (fail e) (suc (w .done)) s)
+
+-- a stop undoes its turn, puts the search back and marks the forest
+abbrev pub stop-short : Standing → (number : ℕ) → Searched
+stop-short w n = put-back (stopped n) (w .done) (with-forest (w .state) (with-mark (w .state .forest) n))
+
+-- one pass of the loop in `ensure_root_answer`
+abbrev pub step : Standing → Progress
+step w = elim (turn (w .state)) [ stop n ↦ ended (stop-short w n) | go flow ↦ after-turn w flow ]
+
+-- the first push
+abbrev pub pushes-root : (limit : ℕ) → TableIndex → (index : ℕ) → Forest → Progress
+pushes-root limit t i f = elim (increment-clock f) [
+  | stop n ↦ ended (record { ending = stopped n; turns = 0; forest = with-mark f n })
+  | go f′ ↦ standing (record {
+    state = record { forest = f′; stack = push-entry t minimums-MAX (f′ .clock) [] };
+    table = t;
+    index = i;
+    limit = limit;
+    done = 0;
+    first = f′ .clock;
+  })
+]
+
+-- all that is done before the first turn: a floundered table or a stored answer ends the search
+abbrev pub start : (limit : ℕ) → TableIndex → (index : ℕ) → Forest → Progress
+start limit t i f = elim (table-at f t) [
+  | stop n ↦ ended (record { ending = stopped n; turns = 0; forest = f })
+  | go table ↦ elim (table .floundered) [
+    | true ↦ ended (record { ending = fail Floundered; turns = 0; forest = f })
+    | false ↦ elim (answer table i) [
+      | some a ↦ ended (record { ending = stored-answer f t i; turns = 0; forest = f })
+      | none ↦ elim (eqb (next-answer-index table) i) [
+        | true ↦ pushes-root limit t i f
+        | false ↦ ended (record { ending = stopped 0; turns = 0; forest = f })
+      ]
+    ]
+  ]
+]
+
+-- step after step, until one ends the search
+pub data Ends : Progress → Searched → Type 0 where
+  at-once : {r : Searched} → Ends (ended r) r
+  after-step : {w : Standing} {r : Searched} → Ends (step w) r → Ends (stands w) r
