@@ -1,21 +1,22 @@
 -- Lists of delayed goals: the definitions' `other-than` and `same` at the head of a list, and the turns of the loops that follow them.
 use Prim.Native.Nat.{ℕ, suc, _+_, _≤_, _<_}
+use native.Mathlib.Omega.{arith}
 use mathlib.Core.Bool.{Bool, true, false, _&&_}
-use mathlib.Core.List.{List, [], _∷_, _++_}
+use mathlib.Core.List.{List, [], _∷_, _++_, append-nil}
 use mathlib.Core.Option.{Option, some}
 use mathlib.Core.Path.{_≡_, refl, sym, ap, ap₂, _∙_}
 use lib.Dec.{eqb}
-use lib.ListN.{length, take, drop, set, getD}
-use lib.Seq.{append-snoc}
+use lib.ListN.{length, take, drop, set, getD, replicate, length-append}
 use borrow.Author.Tests.{eq-eqb, ne-eqb}
 use Rattle.definitions.specs as said
 use Rattle.definitions.specs.Lists.{same}
 use Rattle.definitions.specs.Table.{equal-answer}
 use Rattle.definitions.specs.Turn.{other-than}
 use Rattle.strands.specs.declared.Answer.{Answer}
-use Rattle.strands.specs.Answers.{same-answer}
+use Rattle.strands.specs.declared.answers.Goals.{Goals}
+use Rattle.strands.specs.Answers.{goals-of, same-answer}
 use Rattle.strands.specs.View.{answer}
-use Rattle.strands.proofs.Lists.{left-next, left-none, take-one-more}
+use Rattle.strands.proofs.Lists.{left-next, left-none, take-next, sets-one-more}
 
 abbrev kept-by : ℕ → ℕ → List ℕ → Bool → List ℕ
 kept-by goal d ds b = elim b [ true ↦ other-than goal ds | false ↦ d ∷ other-than goal ds ]
@@ -26,21 +27,52 @@ other-kept goal d ds h = ap (kept-by goal d ds) (ne-eqb d goal h)
 other-dropped : (goal d : ℕ) (ds : List ℕ) → d ≡ goal → other-than goal (d ∷ ds) ≡ other-than goal ds
 other-dropped goal d ds h = ap (kept-by goal d ds) (eq-eqb d goal h)
 
--- A turn of the loop: what is kept so far, and what is left of the first n goals.
-module _ (goal n i : ℕ) (goals : List ℕ) (i-in : i < n) (n-in : n ≤ length goals) where
-  pub turn-kept : (kept : List ℕ) (count : ℕ) → count < length kept → (getD goals i 0 ≡ goal → ⊥)
-      → take (count + 1) (set kept count (getD goals i 0)) ++ other-than goal (drop (i + 1) (take n goals))
-      ≡ take count kept ++ other-than goal (drop i (take n goals))
-  turn-kept kept count room h =
-      let d : ℕ = getD goals i 0 in
-      let rest : List ℕ = drop (i + 1) (take n goals) in
-      ap (λ (l : List ℕ). l ++ other-than goal rest) (take-one-more count kept d room)
-      ∙ append-snoc (take count kept) d (other-than goal rest)
-      ∙ ap (λ (l : List ℕ). take count kept ++ l) (sym (other-kept goal d rest h) ∙ ap (other-than goal) (sym (left-next n i goals 0 i-in n-in)))
+-- one more goal at the end
+other-more-by : (goal d x : ℕ) (ds : List ℕ) (b : Bool) → other-than goal (ds ++ (d ∷ [])) ≡ other-than goal ds ++ other-than goal (d ∷ [])
+    → kept-by goal x (ds ++ (d ∷ [])) b ≡ kept-by goal x ds b ++ other-than goal (d ∷ [])
+other-more-by goal d x ds true e = e
+other-more-by goal d x ds false e = ap (λ (l : List ℕ). x ∷ l) e
 
-  pub turn-dropped : getD goals i 0 ≡ goal → other-than goal (drop (i + 1) (take n goals)) ≡ other-than goal (drop i (take n goals))
-  turn-dropped e =
-      sym (other-dropped goal (getD goals i 0) (drop (i + 1) (take n goals)) e) ∙ ap (other-than goal) (sym (left-next n i goals 0 i-in n-in))
+other-more : (goal d : ℕ) (ds : List ℕ) → other-than goal (ds ++ (d ∷ [])) ≡ other-than goal ds ++ other-than goal (d ∷ [])
+other-more goal d [] = refl
+other-more goal d (x ∷ ds) = other-more-by goal d x ds (eqb x goal) (other-more goal d ds)
+
+other-few-by : (goal x : ℕ) (ds : List ℕ) (b : Bool) → length (other-than goal ds) ≤ length ds → length (kept-by goal x ds b) ≤ suc (length ds)
+other-few-by goal x ds true h = omega arith
+other-few-by goal x ds false h = omega arith
+
+pub other-few : (goal : ℕ) (ds : List ℕ) → length (other-than goal ds) ≤ length ds
+other-few goal [] = omega arith
+other-few goal (x ∷ ds) = other-few-by goal x ds (eqb x goal) (other-few goal ds)
+
+-- A turn of the loop: what is kept of the first i goals, and of one more.
+module _ (goal i : ℕ) (goals : List ℕ) (i-in : i < length goals) where
+  abbrev kept-of : ℕ → List ℕ
+  kept-of k = other-than goal (take k goals)
+
+  pub turn-kept : (kept : List ℕ) (count : ℕ) → (getD goals i 0 ≡ goal → ⊥) → record { count = count; goals = kept } ≡ goals-of (kept-of i)
+      → record { count = count + 1; goals = set kept count (getD goals i 0) } ≡ goals-of (kept-of (i + 1))
+  turn-kept kept count h e =
+      let d : ℕ = getD goals i 0 in
+      let more : kept-of (i + 1) ≡ kept-of i ++ (d ∷ []) =
+      ap (other-than goal) (take-next i goals 0 i-in)
+      ∙ other-more goal d (take i goals)
+      ∙ ap (λ (l : List ℕ). kept-of i ++ l) (other-kept goal d [] h) in
+      let count-is : count ≡ length (kept-of i) = ap (λ (g : Goals). g .count) e in
+      let long : count + 1 ≡ length (kept-of i ++ (d ∷ [])) = omega (arith, length-append (kept-of i) (d ∷ [])) in
+      ap₂ (λ (k : ℕ) (l : List ℕ). record { count = k; goals = l }) long
+      (ap (λ (g : Goals). set (g .goals) count d) e ∙ sets-one-more (kept-of i) (replicate 8 0) 0 count d (omega arith))
+      ∙ ap goals-of (sym more)
+
+  pub turn-dropped : (g : Goals) → getD goals i 0 ≡ goal → g ≡ goals-of (kept-of i) → g ≡ goals-of (kept-of (i + 1))
+  turn-dropped g h e =
+      let d : ℕ = getD goals i 0 in
+      let same : kept-of (i + 1) ≡ kept-of i =
+      ap (other-than goal) (take-next i goals 0 i-in)
+      ∙ other-more goal d (take i goals)
+      ∙ ap (λ (l : List ℕ). kept-of i ++ l) (other-dropped goal d [] h)
+      ∙ append-nil (kept-of i) in
+      e ∙ ap goals-of (sym same)
 
 -- A turn of the loop that compares: what is left of the first n of two lists.
 module _ (n i : ℕ) (a b : List ℕ) (i-in : i < n) (n-a : n ≤ length a) (n-b : n ≤ length b) where

@@ -1,7 +1,5 @@
 -- Laws on lists, and for each file of src/ the facts over variables that its functions' proofs cite.
 pub mod Lists
-pub mod StrandCases
-pub mod NextCases
 pub mod LiteralCases
 pub mod FlounderCases
 pub mod DelayCases

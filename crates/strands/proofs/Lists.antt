@@ -8,8 +8,8 @@ use mathlib.Core.List.{List, [], _∷_, _++_, map, append-nil, append-assoc, map
 use mathlib.Core.Option.{Option, none, some}
 use mathlib.Core.Path.{_≡_, refl, sym, ap, ap₂, _∙_}
 use lib.Dec.{eqb, eqb·suc-zero}
-use lib.ListN.{length, take, drop, set, getD, getElem?, length-map, length-take, drop-of-length-le}
-use lib.Seq.{take-take, take-set-lt, take-suc-set, length-take-le, drop-cons, getD-take, take-suc}
+use lib.ListN.{length, take, drop, set, getD, getElem?, length-map, length-take, length-append, drop-of-length-le}
+use lib.Seq.{take-take, take-set-lt, take-suc-set, length-take-le, drop-cons, getD-take, take-suc, take-at, sets, sets-eq}
 use Rattle.definitions.specs.Lists.{push, remove, swap-remove, is-empty}
 
 -- how long an array of structs is: what owning it tells stands at the list's image
@@ -62,20 +62,30 @@ module _ {A : Type 0} where
   pub take-one-more : (n : ℕ) (l : List A) (a : A) → n < length l → take (n + 1) (set l n a) ≡ take n l ++ (a ∷ [])
   take-one-more n l a h = ap (λ (k : ℕ). take k (set l n a)) (add-one n) ∙ take-suc-set l n a h
 
-  take-next : (n : ℕ) (l : List A) (d : A) → n < length l → take (n + 1) l ≡ take n l ++ (getD l n d ∷ [])
+  pub take-next : (n : ℕ) (l : List A) (d : A) → n < length l → take (n + 1) l ≡ take n l ++ (getD l n d ∷ [])
   take-next n l d h = ap (λ (k : ℕ). take k l) (add-one n) ∙ take-suc l n d h
 
-  -- a turn of the loop that puts the first of one array after the first n of another
-  pub appended-next : (to more all : List A) (n i : ℕ) (d : A) → n + i < length all → i < length more
-      → take (n + i) all ≡ take n to ++ take i more
-      → take (n + (i + 1)) (set all (n + i) (getD more i d)) ≡ take n to ++ take (i + 1) more
-  appended-next to more all n i d p q e =
-      let m : n + (i + 1) ≡ n + i + 1 = omega arith in
-      ap (λ (k : ℕ). take k (set all (n + i) (getD more i d))) m
-      ∙ take-one-more (n + i) all (getD more i d) p
-      ∙ ap (λ (l : List A). l ++ (getD more i d ∷ [])) e
-      ∙ append-assoc (take n to) (take i more) (getD more i d ∷ [])
-      ∙ ap (λ (l : List A). take n to ++ l) (sym (take-next i more d q))
+  -- A run of stores into an array from its place i on: one more at the end, and what it leaves in front.
+  pub sets-one-more : (vs l : List A) (i k : ℕ) (a : A) → k ≡ i + length vs → set (sets l i vs) k a ≡ sets l i (vs ++ (a ∷ []))
+  sets-one-more [] l i k a e =
+      let same : k ≡ i = omega arith in
+      ap (λ (n : ℕ). set l n a) same
+  sets-one-more (v ∷ vs) l i k a e = sets-one-more vs (set l i v) (suc i) k a (omega arith)
+
+  pub take-sets : (vs l : List A) (i k : ℕ) → i + length vs ≤ length l → k ≡ i + length vs → take k (sets l i vs) ≡ take i l ++ vs
+  take-sets vs l i k room e =
+      let front : length (take i l) ≡ i = length-take-le i l (omega arith) in
+      ap (take k) (sets-eq vs l i room)
+      ∙ take-at (take i l ++ vs) (drop (i + length vs) l) k (omega (arith, length-append (take i l) vs))
+
+  -- a turn of the loop that copies the first ones of one array into another from its place n on
+  pub sets-next : (to more all : List A) (n i : ℕ) (d : A) → i < length more → all ≡ sets to n (take i more)
+      → set all (n + i) (getD more i d) ≡ sets to n (take (i + 1) more)
+  sets-next to more all n i d q e =
+      let long : length (take i more) ≡ i = length-take-le i more (omega arith) in
+      ap (λ (l : List A). set l (n + i) (getD more i d)) e
+      ∙ sets-one-more (take i more) to n (n + i) (getD more i d) (omega arith)
+      ∙ ap (sets to n) (sym (take-next i more d q))
 
   -- `swap_remove` of a list that has a last one
   swap-found : (l : List A) (i : ℕ) (last : A) → getElem? l (length l - 1) ≡ some last → swap-remove l i ≡ take (length l - 1) (set l i last)

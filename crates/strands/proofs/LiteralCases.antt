@@ -1,7 +1,6 @@
 -- A strand's literals as the view shows them: the facts that each return of literals.rt cites. They follow from the laws on lists, for
 -- an array of eight.
 use Prim.Native.Nat.{ℕ, suc, _+_, _-_, _≤_, _<_, min}
-use native.Mathlib.Numerals.{add-one}
 use native.Mathlib.Omega.{arith}
 use mathlib.Core.Bool.{Bool, true, false}
 use mathlib.Core.List.{List, map}
@@ -9,17 +8,18 @@ use mathlib.Core.Option.{none, some}
 use mathlib.Core.Path.{_≡_, refl, sym, ap, ap₂, _∙_}
 use lib.Dec.{eqb}
 use lib.ListN.{length, take, getD, getElem?}
+use borrow.Author.Tests.{lt-ltb, le-ltb, eq-eqb, ne-eqb}
 use Rattle.definitions.specs.Book as books
 use Rattle.definitions.specs.Lists.{is-empty}
 use Rattle.definitions.specs.Slg.{next-subgoal-index}
-use Rattle.definitions.specs.Strand.{with-subgoals, with-answer-time}
 use Rattle.book.specs.View.{meant}
 use Rattle.book.specs.declared.Literal.{Literal}
 use Rattle.strands.specs.declared.Strand.{Strand}
-use Rattle.strands.specs.Literals.{without-last, Answered}
-use Rattle.strands.specs.View.{Sound, clause, is-negative}
+use Rattle.strands.specs.declared.literals.Found.the-variants.{Nothing, There}
+use Rattle.strands.specs.Fields.{no-literal, with-literals, with-answer-time}
+use Rattle.strands.specs.Literals.{without-last, answered, subgoal-at}
+use Rattle.strands.specs.View.{clause, is-negative}
 use Rattle.strands.proofs.Lists.{length-view, view-at, view-past, view-empty, view-remove-last}
-use Rattle.strands.proofs.StrandCases.{no-literal}
 
 negative-by : (l : Literal) (b : Bool) → books.bit1 (l .kind) ≡ b → b ≡ is-negative (meant l)
 negative-by l true e = rw e
@@ -57,17 +57,24 @@ module _ (s : Strand) (long : length (s .literals) ≡ 8) where
       ap (λ (k : ℕ). map meant (take k (s .literals))) (e ∙ ap (λ (k : ℕ). min (s .«literal_count») k - 1) (sym long))
       ∙ sym (view-remove-last meant (s .«literal_count») (s .literals))
 
-  -- a literal less, and a time more
-  pub answered-sound : (s .«literal_count» ≡ 0 → ⊥) → Sound s → s .«literal_count» - 1 + s .«floundered_count» + (s .«answer_time» + 1) ≤ 8
-  answered-sound h o = omega (arith, o .few-literals)
+-- The ways out of `answered`, by the tests of the code.
+module _ (s : Strand) where
+  pub answered-none : s .«literal_count» ≡ 0 → answered s ≡ s
+  answered-none p = rw (eq-eqb (s .«literal_count») 0 p)
 
-  pub answered-last : Sound s → 0 < s .«literal_count» → (s .«literal_count» ≤ 8)
-      → with-answer-time (with-subgoals (clause s) (map meant (take (s .«literal_count» - 1) (s .literals)))) (s .«answer_time» + 1)
-      ≡ with-answer-time (without-last (clause s)) (suc (s .«answer_time»))
-  answered-last o p h =
-      ap₂ (λ (ls : List books.Literal) (t : ℕ). with-answer-time (with-subgoals (clause s) ls) t)
-      (removed (s .«literal_count» - 1) (omega arith)) (add-one (s .«answer_time»))
+  pub answered-many : (s .«literal_count» ≡ 0 → ⊥) → 8 < s .«literal_count» → answered s ≡ s
+  answered-many p q = rw (ne-eqb (s .«literal_count») 0 p, lt-ltb 8 (s .«literal_count») q)
 
--- where the code's tests leave a strand as it was: it has no literal, or is not sound
-pub answered-not : (s : Strand) → (Sound s → 0 < s .«literal_count» → ⊥) → Answered s s
-answered-not s never = record { last = λ o p. absurd (never o p); none-left = λ _. refl; kept = refl; sound = λ o. o }
+  pub answered-end : (s .«literal_count» ≡ 0 → ⊥) → s .«literal_count» ≤ 8 → s .«answer_time» ≡ 255 → answered s ≡ s
+  answered-end p q r = rw (ne-eqb (s .«literal_count») 0 p, le-ltb 8 (s .«literal_count») q, eq-eqb (s .«answer_time») 255 r)
+
+  pub answered-last : (s .«literal_count» ≡ 0 → ⊥) → s .«literal_count» ≤ 8 → (s .«answer_time» ≡ 255 → ⊥)
+      → answered s ≡ with-answer-time (with-literals s (s .literals) (s .«literal_count» - 1)) (s .«answer_time» + 1)
+  answered-last p q r = rw (ne-eqb (s .«literal_count») 0 p, le-ltb 8 (s .«literal_count») q, ne-eqb (s .«answer_time») 255 r)
+
+  -- The ways out of `subgoal_at`.
+  pub found-there : (i : ℕ) → i < min (s .«literal_count») 8 → subgoal-at s i ≡ There (getD (s .literals) i no-literal)
+  found-there i p = rw (lt-ltb i (min (s .«literal_count») 8) p)
+
+  pub found-nothing : (i : ℕ) → min (s .«literal_count») 8 ≤ i → subgoal-at s i ≡ Nothing
+  found-nothing i p = rw (le-ltb i (min (s .«literal_count») 8) p)

@@ -1,26 +1,57 @@
 -- What floundering and reconsidering do to a strand.
-use Prim.Native.Nat.{ℕ, suc, _<_}
-use mathlib.Core.Path.{_≡_}
-use Rattle.definitions.specs.Logic.{flounder-subgoal, reconsider-from, reconsider-floundered-subgoals}
-use Rattle.definitions.specs.Slg.{next-subgoal-index}
-use Rattle.definitions.specs.Stop.{go}
+use Prim.Native.Nat.{ℕ, zero, suc, _+_, _-_, min}
+use mathlib.Core.Bool.{Bool, true, false}
+use lib.Dec.{eqb, leb, ltb}
+use lib.ListN.{getD, set}
+use Rattle.strands.specs.declared.Floundered.{Floundered}
 use Rattle.strands.specs.declared.Strand.{Strand}
-use Rattle.strands.specs.View.{Sound, clause, Kept}
+use Rattle.strands.specs.Fields.{no-literal, no-floundered, with-literals, with-floundered}
 
--- the last literal of s is set aside; a strand with no literal is as it was
-pub record Flounders (s r : Strand) : Type 0 where
-  pub last : Sound s → 0 < s .«literal_count» → flounder-subgoal (clause s) (next-subgoal-index (clause s)) ≡ go (clause r)
-  pub none-left : s .«literal_count» ≡ 0 → r ≡ s
-  pub kept : Kept s r
-  pub sound : Sound s → Sound r
+-- the last literal with the strand's answer time, put after those that are floundered
+abbrev pub last-aside : Strand → Floundered
+last-aside s = record { literal = getD (s .literals) (s .«literal_count» - 1) no-literal; time = s .«answer_time» }
 
--- one turn of the loop, at index i: what is left to do for s is what is left for r below i
-pub record ReconsidersAt (i : ℕ) (s r : Strand) : Type 0 where
-  pub turn : Sound s → reconsider-from (suc i) (clause s) ≡ reconsider-from i (clause r)
-  pub kept : Kept s r
-  pub sound : Sound s → Sound r
+abbrev pub set-aside : Strand → Strand
+set-aside s =
+    with-floundered (with-literals s (s .literals) (s .«literal_count» - 1))
+    (set (s .floundered) (s .«floundered_count») (last-aside s)) (s .«floundered_count» + 1)
 
-pub record Reconsidered (s r : Strand) : Type 0 where
-  pub whole : Sound s → clause r ≡ reconsider-floundered-subgoals (clause s)
-  pub kept : Kept s r
-  pub sound : Sound s → Sound r
+-- `flounder_subgoal`. A strand with no literal, with more than eight or with no room for a floundered one is as it was.
+abbrev pub flounder-by : (none-left too-many full : Bool) → Strand → Strand
+flounder-by true too-many full s = s
+flounder-by false true full s = s
+flounder-by false false true s = s
+flounder-by false false false s = set-aside s
+
+abbrev pub flounder : Strand → Strand
+flounder s = flounder-by (eqb (s .«literal_count») 0) (ltb 8 (s .«literal_count»)) (leb 8 (s .«floundered_count»)) s
+
+-- the floundered literal at i returns, and the last floundered one takes its place
+abbrev pub taken-back : ℕ → Strand → Strand
+taken-back i s =
+    with-floundered
+    (with-literals s (set (s .literals) (s .«literal_count») (getD (s .floundered) i no-floundered .literal)) (s .«literal_count» + 1))
+    (set (s .floundered) i (getD (s .floundered) (s .«floundered_count» - 1) no-floundered)) (s .«floundered_count» - 1)
+
+-- One turn of the loop. The strand is as it was where more than eight are floundered, none stands at i, its time is not past, or eight
+-- literals stand already.
+abbrev pub reconsider-by : (too-many past late full : Bool) → ℕ → Strand → Strand
+reconsider-by true past late full i s = s
+reconsider-by false true late full i s = s
+reconsider-by false false true full i s = s
+reconsider-by false false false true i s = s
+reconsider-by false false false false i s = taken-back i s
+
+abbrev pub reconsider-at : ℕ → Strand → Strand
+reconsider-at i s =
+    reconsider-by (ltb 8 (s .«floundered_count»)) (leb (s .«floundered_count») i)
+    (leb (s .«answer_time») (getD (s .floundered) i no-floundered .time)) (leb 8 (s .«literal_count»)) i s
+
+-- the loop, at index i - 1 and down to 0
+abbrev pub reconsider-down : ℕ → Strand → Strand
+reconsider-down zero s = s
+reconsider-down (suc i) s = reconsider-down i (reconsider-at i s)
+
+-- `reconsider_floundered_subgoals`
+abbrev pub reconsider : Strand → Strand
+reconsider s = reconsider-down (min (s .«floundered_count») 8) s

@@ -1,6 +1,6 @@
 pub mod View
 pub mod Times
-pub mod NextAnswer
+pub mod Fields
 pub mod Literals
 pub mod Floundering
 pub mod Delaying

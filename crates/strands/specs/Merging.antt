@@ -1,25 +1,33 @@
 -- What taking an answer does to a strand.
-use Prim.Native.Nat.{suc, _<_}
-use mathlib.Core.Bool.{Bool, _||_}
-use mathlib.Core.Path.{_≡_}
+use Prim.Native.Nat.{suc}
+use mathlib.Core.Bool.{Bool, true, false, _||_}
+use lib.Dec.{eqb}
 use Rattle.definitions.specs as said
-use Rattle.definitions.specs.Slg.{delay}
-use Rattle.definitions.specs.Stop.{go, _>>=_}
-use Rattle.definitions.specs.Strand.{with-ambiguous, with-answer-time}
+use Rattle.definitions.specs.Strand as held
 use Rattle.strands.specs.declared.Answer.{Answer}
 use Rattle.strands.specs.declared.Strand.{Strand}
 use Rattle.strands.specs.declared.delaying.Delayed.{Delayed}
-use Rattle.strands.specs.Delaying.{delayed}
-use Rattle.strands.specs.Literals.{without-last}
-use Rattle.strands.specs.View.{Sound, clause, answer, Kept}
+use Rattle.strands.specs.Delaying.{delay-goals}
+use Rattle.strands.specs.Fields.{with-ambiguous}
+use Rattle.strands.specs.Literals.{answered}
+use Rattle.strands.specs.View.{answer}
 
 -- the clause that an answer leaves, as `merge-into` of the definitions has it for a positive literal
 abbrev pub taking : (ambiguous : Bool) → said.ExClause → said.ExClause
-taking ambiguous x = with-answer-time (with-ambiguous x (x .ambiguous || ambiguous)) (suc (x .answer-time))
+taking ambiguous x = held.with-answer-time (held.with-ambiguous x (x .ambiguous || ambiguous)) (suc (x .answer-time))
+
+-- By whether no literal is left, whether it is over and whether the answer is ambiguous: s is the strand as it was, t the one that has
+-- taken the answer.
+abbrev pub take-by : (none-left over ambiguous : Bool) → (s t : Strand) → Delayed
+take-by true over ambiguous s t = record { over = false; strand = s }
+take-by false true ambiguous s t = record { over = true; strand = s }
+take-by false false true s t = record { over = false; strand = with-ambiguous t true }
+take-by false false false s t = record { over = false; strand = t }
+
+-- the goals that the answer hands on are delayed once its literal is gone
+abbrev pub goals-taken : Answer → Strand → Delayed
+goals-taken a s = delay-goals (answer a .delayed-subgoals) (answered s)
 
 -- the answer a is taken for the last literal of s
-pub record TakesAnswer (s : Strand) (a : Answer) (r : Delayed) : Type 0 where
-  pub whole : Sound s → 0 < s .«literal_count»
-      → delayed r ≡ (delay (answer a .delayed-subgoals) (without-last (clause s)) >>= λ x. go (taking (a .ambiguous) x))
-  pub kept : Kept s (r .strand)
-  pub sound : Sound s → Sound (r .strand)
+abbrev pub take-answer : Answer → Strand → Delayed
+take-answer a s = take-by (eqb (s .«literal_count») 0) (goals-taken a s .over) (a .ambiguous) s (goals-taken a s .strand)

@@ -3,14 +3,11 @@ use crate::Answer;
 use crate::Strand;
 use crate::within;
 ghost use mathlib.Core.Path.{_≡_};
-ghost use mathlib.Core.Bool.{_&&_};
 ghost use Prim.Native.Nat.{_≤_};
-ghost use lib.Dec.{eqb};
 ghost use lib.ListN.{take};
 ghost use Rattle.definitions.specs.Lists.{same};
 ghost use Rattle.definitions.specs.Turn.{other-than};
-ghost use Rattle.strands.specs.View.{answer, SoundAnswer};
-ghost use Rattle.strands.specs.Answers.{blank-answer, answer-from, same-answer};
+ghost use Rattle.strands.specs.Answers.{blank-answer, goals-of, answer-of, same-answer};
 
 // The first `count` of the goals.
 struct Goals {
@@ -19,7 +16,7 @@ struct Goals {
 }
 
 pub fn blank_answer() -> Answer
-    ensures { λ r. ⌜ (answer r ≡ blank-answer) × SoundAnswer r ⌝ }
+    ensures { λ r. ⌜ r ≡ blank-answer ⌝ }
 {
     Answer {
         variant: 0,
@@ -32,7 +29,7 @@ pub fn blank_answer() -> Answer
 // A delayed goal equal to the table's own is dropped.
 fn other_than(goal: u8, goals: [u8; 8], n: usize) -> Goals
     requires { ⌜ n ≤ 8 ⌝ }
-    ensures { λ r. ⌜ (take (r .count) (r .goals) ≡ other-than goal (take n goals)) × (r .count ≤ 8) ⌝ }
+    ensures { λ r. ⌜ r ≡ goals-of (other-than goal (take n goals)) ⌝ }
 {
     let mut kept = [0u8; 8];
     let mut count: usize = 0;
@@ -50,7 +47,7 @@ fn other_than(goal: u8, goals: [u8; 8], n: usize) -> Goals
 
 // The answer that `pursue_answer` makes of a strand, for the table of this goal.
 pub fn answer_of(s: Strand, goal: u8) -> Answer
-    ensures { λ r. ⌜ (answer r ≡ answer-from s goal) × SoundAnswer r ⌝ }
+    ensures { λ r. ⌜ r ≡ answer-of s goal ⌝ }
 {
     let n = within(s.delayed_count);
     let goals = s.delayed;

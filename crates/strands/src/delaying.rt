@@ -3,11 +3,12 @@ use crate::Answer;
 use crate::Strand;
 use crate::within;
 ghost use mathlib.Core.Path.{_≡_};
-ghost use mathlib.Core.List.{[], _∷_, _++_};
+ghost use mathlib.Core.List.{[], _∷_};
 ghost use Prim.Native.Nat.{_+_, _≤_};
 ghost use lib.ListN.{take};
+ghost use lib.Seq.{sets};
 ghost use Rattle.strands.specs.View.{answer};
-ghost use Rattle.strands.specs.Delaying.{Delays};
+ghost use Rattle.strands.specs.Delaying.{delay-goals};
 
 // A strand with goals delayed, or over: the ninth is stopped by 24, and the strand is as it was.
 pub struct Delayed {
@@ -16,7 +17,7 @@ pub struct Delayed {
 }
 
 pub fn delay_goal(s: Strand, goal: u8) -> Delayed
-    ensures { λ r. ⌜ Delays s (goal ∷ []) r ⌝ }
+    ensures { λ r. ⌜ r ≡ delay-goals (goal ∷ []) s ⌝ }
 {
     let n = within(s.delayed_count);
     if n == 8 {
@@ -34,10 +35,10 @@ pub fn delay_goal(s: Strand, goal: u8) -> Delayed
     }
 }
 
-// The first n of one array and then the first m of another.
+// An array from its place n on overwritten with the first m of another.
 fn appended(to: [u8; 8], n: usize, more: [u8; 8], m: usize) -> [u8; 8]
     requires { ⌜ n + m ≤ 8 ⌝ }
-    ensures { λ r. ⌜ take (n + m) r ≡ take n to ++ take m more ⌝ }
+    ensures { λ r. ⌜ r ≡ sets to n (take m more) ⌝ }
 {
     let mut all = to;
     let mut i = 0;
@@ -50,7 +51,7 @@ fn appended(to: [u8; 8], n: usize, more: [u8; 8], m: usize) -> [u8; 8]
 
 // The delayed goals of an answer that the strand takes.
 pub fn delay_answer(s: Strand, a: Answer) -> Delayed
-    ensures { λ r. ⌜ Delays s (answer a .delayed-subgoals) r ⌝ }
+    ensures { λ r. ⌜ r ≡ delay-goals (answer a .delayed-subgoals) s ⌝ }
 {
     let n = within(s.delayed_count);
     let m = within(a.delayed_count);

@@ -2,15 +2,12 @@
 use crate::Selected;
 use crate::Strand;
 ghost use mathlib.Core.Path.{_≡_};
-ghost use mathlib.Core.Option.{none};
 ghost use mathlib.Core.Bool.{true};
-ghost use Rattle.definitions.specs.Strand.{with-pursued, with-selected, with-ex-clause, with-ambiguous};
-ghost use Rattle.strands.specs.View.{Sound, view, clause, selected};
-ghost use Rattle.strands.specs.NextAnswer.{after, next-of, NextAnswer};
+ghost use Rattle.strands.specs.Fields.{with-pursued, with-selected, with-ambiguous, after, next-of};
 
 // The strand is pursued at this time.
 pub fn pursued(s: Strand, time: u64) -> Strand
-    ensures { λ r. ⌜ (view r ≡ with-pursued (view s) time) × (Sound s → Sound r) ⌝ }
+    ensures { λ r. ⌜ r ≡ with-pursued s time ⌝ }
 {
     let mut t = s;
     t.last_pursued_time = time;
@@ -18,20 +15,20 @@ pub fn pursued(s: Strand, time: u64) -> Strand
 }
 
 pub fn deselected(s: Strand) -> Strand
-    ensures { λ r. ⌜ (view r ≡ with-selected (view s) none) × (Sound s → Sound r) ⌝ }
+    ensures { λ r. ⌜ r ≡ with-selected s Selected.Nothing ⌝ }
 {
     let k = Selected::Nothing;
     Strand { selected: k, ..s }
 }
 
 pub fn select(s: Strand, k: Selected) -> Strand
-    ensures { λ r. ⌜ (view r ≡ with-selected (view s) (selected k)) × (Sound s → Sound r) ⌝ }
+    ensures { λ r. ⌜ r ≡ with-selected s k ⌝ }
 {
     Strand { selected: k, ..s }
 }
 
 pub fn made_ambiguous(s: Strand) -> Strand
-    ensures { λ r. ⌜ (view r ≡ with-ex-clause (view s) (with-ambiguous (clause s) true)) × (Sound s → Sound r) ⌝ }
+    ensures { λ r. ⌜ r ≡ with-ambiguous s true ⌝ }
 {
     let mut t = s;
     t.ambiguous = true;
@@ -67,7 +64,7 @@ fn next_selected(k: Selected) -> Selected
 
 // The copy of the strand for the next answer. It keeps the last pursued time, so that this stack entry won't take it again.
 pub fn next_answer_strand(s: Strand) -> Strand
-    ensures { λ r. ⌜ NextAnswer s r ⌝ }
+    ensures { λ r. ⌜ r ≡ with-selected s (next-of (s .selected)) ⌝ }
 {
     let k = s.selected;
     let next = next_selected(k);

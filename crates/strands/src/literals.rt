@@ -4,15 +4,13 @@ use crate::Strand;
 use crate::within;
 use book::Literal;
 ghost use mathlib.Core.Path.{_≡_};
-ghost use Prim.Native.Nat.{_<_};
-ghost use lib.ListN.{length, getElem?};
+ghost use lib.ListN.{length};
 ghost use Rattle.definitions.specs.Book.{goal-of};
 ghost use Rattle.definitions.specs.Lists.{is-empty};
 ghost use Rattle.definitions.specs.Slg.{next-subgoal-index};
-ghost use Rattle.definitions.specs.Strand.{with-ex-clause};
 ghost use Rattle.book.specs.View.{meant};
-ghost use Rattle.strands.specs.View.{Sound, view, clause, is-negative};
-ghost use Rattle.strands.specs.Literals.{literal-of, without-last, Answered};
+ghost use Rattle.strands.specs.View.{clause, is-negative};
+ghost use Rattle.strands.specs.Literals.{subgoal-at, last-removed, answered};
 
 // What stands at an index.
 pub enum Found {
@@ -60,7 +58,7 @@ pub fn next_subgoal_index(s: Strand) -> usize
 }
 
 pub fn subgoal_at(s: Strand, i: usize) -> Found
-    ensures { λ r. ⌜ literal-of r ≡ getElem? (clause s .subgoals) i ⌝ }
+    ensures { λ r. ⌜ r ≡ subgoal-at s i ⌝ }
 {
     let n = within(s.literal_count);
     if i < n {
@@ -71,7 +69,7 @@ pub fn subgoal_at(s: Strand, i: usize) -> Found
 }
 
 pub fn last_subgoal(s: Strand) -> Found
-    ensures { λ r. ⌜ literal-of r ≡ getElem? (clause s .subgoals) (next-subgoal-index (clause s)) ⌝ }
+    ensures { λ r. ⌜ r ≡ subgoal-at s (next-subgoal-index (clause s)) ⌝ }
 {
     let i = next_subgoal_index(s);
     subgoal_at(s, i)
@@ -79,7 +77,7 @@ pub fn last_subgoal(s: Strand) -> Found
 
 // The last literal is removed: it was answered, or is delayed.
 pub fn without_last(s: Strand) -> Strand
-    ensures { λ r. ⌜ (view r ≡ with-ex-clause (view s) (without-last (clause s))) × (Sound s → Sound r) ⌝ }
+    ensures { λ r. ⌜ r ≡ last-removed s ⌝ }
 {
     let i = next_subgoal_index(s);
     let mut t = s;
@@ -90,7 +88,7 @@ pub fn without_last(s: Strand) -> Strand
 // The last literal is removed for an answer that it got, and answer time rises. The two go together: a literal less makes room for
 // a time more.
 pub fn answered(s: Strand) -> Strand
-    ensures { λ r. ⌜ Answered s r ⌝ }
+    ensures { λ r. ⌜ r ≡ answered s ⌝ }
 {
     let n = s.literal_count;
     let time = s.answer_time;

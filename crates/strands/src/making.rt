@@ -6,14 +6,9 @@ use crate::Strand;
 use crate::within;
 use book::Literal;
 ghost use mathlib.Core.Path.{_≡_};
-ghost use mathlib.Core.List.{map};
 ghost use Prim.Native.Nat.{_≤_};
 ghost use lib.ListN.{take};
-ghost use Rattle.definitions.specs.Logic.{initial-strand};
-ghost use Rattle.definitions.specs.Turn.{create-refinement-strand};
-ghost use Rattle.book.specs.View.{meant};
-ghost use Rattle.strands.specs.View.{Sound, view, answer};
-ghost use Rattle.strands.specs.Making.{clause-of, nothing, positive, refinement};
+ghost use Rattle.strands.specs.Making.{new-strand, blank-strand, strand-of, positives, refine};
 
 // The refinement strand of an answer, if it has one.
 pub struct Refinement {
@@ -21,9 +16,15 @@ pub struct Refinement {
     pub strand: Strand,
 }
 
-// All zero, with nothing selected.
-pub fn blank() -> Strand
-    ensures { λ r. ⌜ (view r ≡ initial-strand nothing) × Sound r ⌝ }
+// A strand that nobody has pursued: nothing is floundered, delayed or selected.
+fn new_strand(
+    variant: u16,
+    outsized: bool,
+    ambiguous: bool,
+    literals: [Literal; 8],
+    count: u8,
+) -> Strand
+    ensures { λ r. ⌜ r ≡ new-strand variant outsized ambiguous literals count ⌝ }
 {
     let l = Literal {
         goal: 0,
@@ -36,38 +37,46 @@ pub fn blank() -> Strand
     };
     Strand {
         last_pursued_time: 0,
-        variant: 0,
-        outsized: false,
-        ambiguous: false,
+        variant,
+        outsized,
+        ambiguous,
         answer_time: 0,
-        literal_count: 0,
+        literal_count: count,
         floundered_count: 0,
         delayed_count: 0,
-        literals: [l; 8],
+        literals,
         floundered: [f; 8],
         delayed: [0; 8],
         selected: Selected::Nothing,
     }
 }
 
+// All zero.
+pub fn blank() -> Strand
+    ensures { λ r. ⌜ r ≡ blank-strand ⌝ }
+{
+    let l = Literal {
+        goal: 0,
+        kind: 0,
+        want: 0,
+    };
+    new_strand(0, false, false, [l; 8], 0)
+}
+
 // A clause's strand: its variant, its flags (bit 0 "cannot prove", bit 1 outsized) and its literals.
 pub fn initial_strand(variant: u16, flags: u8, literals: [Literal; 8], count: u8) -> Strand
-    ensures { λ r. ⌜ (view r ≡ initial-strand (clause-of variant flags literals count)) × Sound r ⌝ }
+    ensures { λ r. ⌜ r ≡ strand-of variant flags literals count ⌝ }
 {
     let n = within(count);
-    let mut t = blank();
-    t.variant = variant;
-    t.ambiguous = flags % 2 == 1;
-    t.outsized = flags / 2 % 2 == 1;
-    t.literals = literals;
-    t.literal_count = n as u8;
-    t
+    let ambiguous = flags % 2 == 1;
+    let outsized = flags / 2 % 2 == 1;
+    new_strand(variant, outsized, ambiguous, literals, n as u8)
 }
 
 // The first n goals as positive literals that want any variant.
 fn positives(goals: [u8; 8], n: usize) -> [Literal; 8]
     requires { ⌜ n ≤ 8 ⌝ }
-    ensures { λ r. ⌜ map meant (take n r) ≡ map positive (take n goals) ⌝ }
+    ensures { λ r. ⌜ r ≡ positives (take n goals) ⌝ }
 {
     let l = Literal {
         goal: 0,
@@ -88,26 +97,21 @@ fn positives(goals: [u8; 8], n: usize) -> [Literal; 8]
     made
 }
 
-// `create_refinement_strand`: the answer's delayed goals are the literals.
+// `create_refinement_strand`: the answer's delayed goals are the literals. Where none is made the strand is blank.
 pub fn create_refinement_strand(a: Answer) -> Refinement
-    ensures { λ r. ⌜ (refinement r ≡ create-refinement-strand (answer a)) × Sound (r .strand) ⌝ }
+    ensures { λ r. ⌜ r ≡ refine a ⌝ }
 {
-    let b = blank();
-    let n = within(a.delayed_count);
-    if n == 0 {
+    if a.delayed_count == 0 {
+        let b = blank();
         return Refinement {
             made: false,
             strand: b,
         };
     }
+    let n = within(a.delayed_count);
     let goals = a.delayed;
     let ls = positives(goals, n);
-    let mut t = b;
-    t.variant = a.variant;
-    t.outsized = false;
-    t.ambiguous = a.ambiguous;
-    t.literals = ls;
-    t.literal_count = n as u8;
+    let t = new_strand(a.variant, false, a.ambiguous, ls, n as u8);
     Refinement {
         made: true,
         strand: t,

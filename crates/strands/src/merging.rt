@@ -6,21 +6,38 @@ use crate::delaying::Delayed;
 use crate::delaying::delay_answer;
 use crate::fields::made_ambiguous;
 use crate::literals::answered;
-ghost use Rattle.strands.specs.Merging.{TakesAnswer};
+ghost use mathlib.Core.Path.{_≡_};
+ghost use Rattle.strands.specs.Merging.{take-answer};
 
-// The last literal is removed and answer time rises; the answer's delayed goals are the strand's, and its ambiguity too.
+// The last literal is removed and answer time rises; the answer's delayed goals are the strand's, and its ambiguity too. Over, or with
+// no literal to take it for, the strand is as it was.
 pub fn take_answer(s: Strand, a: Answer) -> Delayed
-    ensures { λ r. ⌜ TakesAnswer s a r ⌝ }
+    ensures { λ r. ⌜ r ≡ take-answer a s ⌝ }
 {
+    if s.literal_count == 0 {
+        return Delayed {
+            over: false,
+            strand: s,
+        };
+    }
     let t = answered(s);
     let d = delay_answer(t, a);
+    if d.over {
+        return Delayed {
+            over: true,
+            strand: s,
+        };
+    }
+    let u = d.strand;
     if a.ambiguous {
-        let u = d.strand;
         let v = made_ambiguous(u);
         return Delayed {
-            over: d.over,
+            over: false,
             strand: v,
         };
     }
-    d
+    Delayed {
+        over: false,
+        strand: u,
+    }
 }

@@ -1,13 +1,20 @@
--- `answer_of` makes the definitions' answer: the goals within the array are those that the view shows.
+-- `answer_of` keeps of the goals within the array, which are those that the view shows.
 use Prim.Native.Nat.{ℕ}
+use native.Mathlib.Omega.{arith}
 use mathlib.Core.List.{List}
 use mathlib.Core.Path.{_≡_, ap, _∙_}
-use lib.ListN.{length}
+use lib.ListN.{length, take, length-take}
 use borrow.Author.Needs.{needs}
 use Rattle.definitions.specs.Turn.{other-than}
+use Rattle.strands.specs.declared.answers.Goals.{Goals}
+use Rattle.strands.specs.Answers.{goals-of}
+use Rattle.strands.proofs.AnswerCases.{other-few}
 use Rattle.strands.proofs.Lists.{shown}
 use Rattle.strands.proofs.answers.answer_of.Statement.{statement}
 use Rattle.strands.proofs.answers.answer_of.Tie as tie
+
+strand-long : (c : tie.Start) → length (c .args .s .delayed) ≡ 8
+strand-long c = search needs
 
 within-requires : tie.Need-within-requires
 within-requires c κs = search needs
@@ -16,19 +23,26 @@ other-than-requires : tie.Need-other-than-requires
 other-than-requires c κs = search needs
 
 cast-t7 : tie.Need-cast-t7
-cast-t7 c = search needs
+cast-t7 c =
+    let o = c .before .before .other-than in
+    let called = c .before .before .before .before in
+    let a = called .before .args in
+    let n = called .within in
+    let kept = ap (λ (g : Goals). g .count) (o .ensures) in
+    let few = other-few (a .goal) (take (n .result) (a .s .delayed)) in
+    let shows = length-take (n .result) (a .s .delayed) in
+    record { fits = omega (arith, n .ensures) }
 
 returns : tie.Need-returns
 returns c =
     let o = c .before .before .other-than in
-    let w = c .before .before .before .before .within in
-    let s = c .before .before .before .before .before .args .s in
-    let goal = c .before .before .before .before .before .args .goal in
-    let e : length (s .delayed) ≡ 8 = search needs in (
-      ap (λ (ds : List ℕ). record { variant = s .variant; delayed-subgoals = ds; ambiguous = s .ambiguous })
-          (o .ensures .0 ∙ ap (other-than goal) (shown 8 (s .«delayed_count») (w .result) (s .delayed) e (w .ensures))),
-      record { delayed-long = search needs; few-delayed = o .ensures .1 },
-    )
+    let called = c .before .before .before .before in
+    let a = called .before .args in
+    let s = a .s in
+    let n = called .within in
+    let long : length (s .delayed) ≡ 8 = strand-long (called .before) in
+    ap (λ (g : Goals). record { variant = s .variant; ambiguous = s .ambiguous; «delayed_count» = g .count; delayed = g .goals })
+    (o .ensures ∙ ap (λ (ds : List ℕ). goals-of (other-than (a .goal) ds)) (shown 8 (s .«delayed_count») (n .result) (s .delayed) long (n .ensures)))
 
 pub answer-of-spec : {M : Type 1} → statement M
 answer-of-spec = tie.close (tie.spec within-requires other-than-requires cast-t7 returns)

@@ -1,24 +1,23 @@
--- The loop of `appended`: the first n + i of the array are the first n of one and the first i of the other.
+-- The loop of `appended`: the first i of the other array are written.
 use Prim.Native.Nat.{ℕ, _+_, _-_, _≤_}
 use native.Mathlib.Omega.{arith}
-use mathlib.Core.List.{_++_, append-nil}
-use mathlib.Core.Path.{_≡_, sym, ap, _∙_}
+use mathlib.Core.List.{List}
+use mathlib.Core.Path.{_≡_, refl, _∙_}
 use lib.ListN.{length, take, getD, length-set}
+use lib.Seq.{sets}
 use borrow.Author.Needs.{needs}
-use Rattle.strands.proofs.Lists.{appended-next}
+use Rattle.strands.proofs.Lists.{sets-next}
 use Rattle.strands.proofs.delaying.appended.Statement.{statement}
 use Rattle.strands.proofs.delaying.appended.Tie as tie
 
 abbrev Inv-loop : tie.InvT-loop
-Inv-loop n m more all₀ i₀ all i = (i ≤ m) × (length all ≡ 8) × (take (n + i) all ≡ take n all₀ ++ take i more)
+Inv-loop n m more all₀ i₀ all i = (i ≤ m) × (length all ≡ 8) × (all ≡ sets all₀ n (take i more))
 
 abbrev μ-loop : tie.MeasureT-loop
 μ-loop n m more all₀ i₀ all i = m - i
 
 loop-holds : tie.Need-loop-holds Inv-loop μ-loop
-loop-holds c =
-    let z : c .args .n + 0 ≡ c .args .n = omega arith in
-    (omega arith, search needs, ap (λ (k : ℕ). take k (c .args .to)) z ∙ sym (append-nil (take (c .args .n) (c .args .to))))
+loop-holds c = (omega arith, search needs, refl)
 
 array-read-all : tie.Need-array-read-all Inv-loop μ-loop
 array-read-all c = search needs
@@ -38,19 +37,17 @@ loop-less c = search needs
 loop-again : tie.Need-loop-again Inv-loop μ-loop
 loop-again c =
     let a = c .before .before .args in
-    let v = c .before .loop .inv in
+    let l = c .before .loop in
     let q : length (a .t3) ≡ 8 = search needs in (
       omega arith,
-      length-set (c .before .loop .all) (a .n + c .before .loop .i) (getD (a .t3) (c .before .loop .i) 0) ∙ v .1,
-      appended-next (a .to) (a .t3) (c .before .loop .all) (a .n) (c .before .loop .i) 0 (omega arith) (omega arith) (v .2),
+      length-set (l .all) (a .n + l .i) (getD (a .t3) (l .i) 0) ∙ l .inv .1,
+      sets-next (a .to) (a .t3) (l .all) (a .n) (l .i) 0 (omega arith) (l .inv .2),
     )
 
 returns : tie.Need-returns Inv-loop μ-loop
 returns c =
-    let a = c .before .before .args in
-    let v = c .before .loop .inv in
-    let e : c .before .loop .i ≡ a .m = omega arith in
-    rw e at (v .2)
+    let e : c .before .loop .i ≡ c .before .before .args .m = omega arith in
+    rw e at (c .before .loop .inv .2)
 
 pub appended-spec : {M : Type 1} → statement M
 appended-spec =

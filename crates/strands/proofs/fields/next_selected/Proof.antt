@@ -3,7 +3,7 @@ use Prim.Native.Nat.{ℕ}
 use mathlib.Core.Path.{sym, ap, _∙_}
 use borrow.Author.Needs.{needs}
 use Rattle.strands.specs.declared.Selected.the-variants.{Subgoal}
-use Rattle.strands.specs.NextAnswer.{next-of}
+use Rattle.strands.specs.Fields.{next-of}
 use Rattle.strands.proofs.fields.next_selected.Statement.{statement}
 use Rattle.strands.proofs.fields.next_selected.Tie as tie
 

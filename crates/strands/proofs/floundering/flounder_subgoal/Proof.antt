@@ -1,10 +1,8 @@
--- `flounder_subgoal` is the definition of the same name at the last literal; a sound strand has room for it.
+-- `flounder_subgoal` is its model at each way out.
 use native.Mathlib.Omega.{arith}
-use mathlib.Core.Path.{_≡_, refl, _∙_}
-use lib.ListN.{length, length-set}
+use mathlib.Core.Path.{sym}
 use borrow.Author.Needs.{needs}
-use Rattle.strands.proofs.FlounderCases.{flounders-not, flounders-last, last-aside}
-use Rattle.strands.proofs.Lists.{length-mapped}
+use Rattle.strands.proofs.FlounderCases.{flounder-none, flounder-many, flounder-full, flounder-last}
 use Rattle.strands.proofs.floundering.flounder_subgoal.Statement.{statement}
 use Rattle.strands.proofs.floundering.flounder_subgoal.Tie as tie
 
@@ -15,13 +13,13 @@ cast-m : tie.Need-cast-m
 cast-m c = search needs
 
 returns : tie.Need-returns
-returns c = flounders-not (c .before .args .t1) (λ o p. omega (arith, o .few-literals))
+returns c = sym (flounder-none (c .before .args .t1) (c .if1 .taken))
 
 returns-2 : tie.Need-returns-2
-returns-2 c = flounders-not (c .before .before .args .t1) (λ o p. omega (arith, o .few-literals))
+returns-2 c = sym (flounder-many (c .before .before .args .t1) (c .before .if1 .left) (c .if2 .taken))
 
 returns-3 : tie.Need-returns-3
-returns-3 c = flounders-not (c .before .before .before .args .t1) (λ o p. omega (arith, o .few-literals))
+returns-3 c = sym (flounder-full (c .before .before .before .args .t1) (c .before .before .if1 .left) (c .before .if2 .left) (c .if3 .taken))
 
 sub-last : tie.Need-sub-last
 sub-last c = search needs
@@ -49,21 +47,10 @@ cast-t-2 c = search needs
 
 returns-4 : tie.Need-returns-4
 returns-4 c =
-    let s = c .before .before .before .before .args .t1 in
-    let e : length (s .literals) ≡ 8 = search (length-mapped, needs) in
-    let f : length (s .floundered) ≡ 8 = search (length-mapped, needs) in
-    record {
-      last = λ o p. flounders-last s e f (c .before .before .before .if1 .left) (omega arith) (omega arith);
-      none-left = λ z. absurd (c .before .before .before .if1 .left z);
-      kept = refl;
-      sound = λ o. record {
-        literals-long = o .literals-long;
-        floundered-long = length-set (s .floundered) (s .«floundered_count») (last-aside s e f) ∙ o .floundered-long;
-        delayed-long = o .delayed-long;
-        few-literals = omega (arith, o .few-literals);
-        few-delayed = o .few-delayed;
-      };
-    }
+    let full = c .before in
+    let many = full .before in
+    let none-left = many .before in
+    sym (flounder-last (none-left .before .args .t1) (none-left .if1 .left) (many .if2 .left) (full .if3 .left))
 
 pub flounder-subgoal-spec : {M : Type 1} → statement M
 flounder-subgoal-spec =

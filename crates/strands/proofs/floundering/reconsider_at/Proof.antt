@@ -1,12 +1,8 @@
--- A turn of the loop of `reconsider_floundered_subgoals`, at one index: each return is a case of the definition.
-use Prim.Native.Nat.{_-_}
+-- A turn of the loop of `reconsider_floundered_subgoals` is its model at each way out.
 use native.Mathlib.Omega.{arith}
-use mathlib.Core.Path.{_≡_, refl, _∙_}
-use lib.ListN.{length, length-set, getD}
+use mathlib.Core.Path.{sym}
 use borrow.Author.Needs.{needs}
-use Rattle.strands.proofs.FlounderCases.{reconsiders-not, past, stays, returns-at}
-use Rattle.strands.proofs.Lists.{length-mapped}
-use Rattle.strands.proofs.StrandCases.{no-floundered}
+use Rattle.strands.proofs.FlounderCases.{reconsider-many, reconsider-past, reconsider-late, reconsider-full, reconsider-back}
 use Rattle.strands.proofs.floundering.reconsider_at.Statement.{statement}
 use Rattle.strands.proofs.floundering.reconsider_at.Tie as tie
 
@@ -17,14 +13,12 @@ cast-m : tie.Need-cast-m
 cast-m c = search needs
 
 returns : tie.Need-returns
-returns c = reconsiders-not (c .before .args .i) (c .before .args .t1) (λ o. absurd (omega (arith, o .few-literals)))
+returns c = sym (reconsider-many (c .before .args .i) (c .before .args .t1) (c .if1 .taken))
 
 returns-2 : tie.Need-returns-2
 returns-2 c =
     let a = c .before .before .args in
-    let e : length (a .t1 .literals) ≡ 8 = search (length-mapped, needs) in
-    let f : length (a .t1 .floundered) ≡ 8 = search (length-mapped, needs) in
-    reconsiders-not (a .i) (a .t1) (λ o. past (a .t1) e f (a .i) (c .if2 .taken))
+    sym (reconsider-past (a .i) (a .t1) (c .before .if1 .left) (c .if2 .taken))
 
 mul-f : tie.Need-mul-f
 mul-f c = search needs
@@ -34,15 +28,15 @@ element-copy-out-f c = search needs
 
 returns-3 : tie.Need-returns-3
 returns-3 c =
-    let a = c .before .before .before .before .before .args in
-    let e : length (a .t1 .literals) ≡ 8 = search (length-mapped, needs) in
-    let f : length (a .t1 .floundered) ≡ 8 = search (length-mapped, needs) in
-    reconsiders-not (a .i) (a .t1) (λ o. stays (a .t1) e f (a .i) (omega arith) (omega arith) (c .if3 .taken))
+    let past = c .before .before .before in
+    let a = past .before .before .args in
+    sym (reconsider-late (a .i) (a .t1) (omega arith) (omega arith) (c .if3 .taken))
 
 returns-4 : tie.Need-returns-4
 returns-4 c =
-    let a = c .before .before .before .before .before .before .args in
-    reconsiders-not (a .i) (a .t1) (λ o. absurd (omega (arith, o .few-literals)))
+    let past = c .before .before .before .before in
+    let a = past .before .before .args in
+    sym (reconsider-full (a .i) (a .t1) (omega arith) (omega arith) (c .before .if3 .left) (c .if4 .taken))
 
 sub-last : tie.Need-sub-last
 sub-last c = search needs
@@ -76,21 +70,10 @@ cast-t-2 c = search needs
 
 returns-5 : tie.Need-returns-5
 returns-5 c =
-    let a = c .before .before .before .before .before .before .before .before .args in
-    let s = a .t1 in
-    let e : length (s .literals) ≡ 8 = search (length-mapped, needs) in
-    let f : length (s .floundered) ≡ 8 = search (length-mapped, needs) in
-    record {
-      turn = λ o. returns-at s e f (a .i) (omega arith) (omega arith) (omega arith) (c .before .before .before .if3 .left);
-      kept = refl;
-      sound = λ o. record {
-        literals-long = length-set (s .literals) (s .«literal_count») (getD (s .floundered) (a .i) no-floundered .literal) ∙ o .literals-long;
-        floundered-long = length-set (s .floundered) (a .i) (getD (s .floundered) (s .«floundered_count» - 1) no-floundered) ∙ o .floundered-long;
-        delayed-long = o .delayed-long;
-        few-literals = omega (arith, o .few-literals);
-        few-delayed = o .few-delayed;
-      };
-    }
+    let late = c .before .before .before in
+    let past = late .before .before .before in
+    let a = past .before .before .args in
+    sym (reconsider-back (a .i) (a .t1) (omega arith) (omega arith) (late .if3 .left) (omega arith))
 
 pub reconsider-at-spec : {M : Type 1} → statement M
 reconsider-at-spec =

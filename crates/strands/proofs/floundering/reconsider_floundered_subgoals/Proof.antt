@@ -1,14 +1,15 @@
--- The loop from the end: its invariant is the definition's `reconsider-from` at the counter.
-use mathlib.Core.Path.{_≡_}
-use lib.ListN.{length}
+-- The loop from the end: what is left to do for the strand in hand is what there was to do for the one at the start.
+use mathlib.Core.Path.{_≡_, sym, ap, _∙_}
+use Prim.Native.Nat.{ℕ, _-_}
 use borrow.Author.Needs.{needs}
-use Rattle.strands.proofs.FlounderCases.{Reconsidering, begun, goes-on, ended}
-use Rattle.strands.proofs.Lists.{length-mapped}
+use Rattle.strands.specs.declared.Strand.{Strand}
+use Rattle.strands.specs.Floundering.{reconsider-down}
+use Rattle.strands.proofs.FlounderCases.{reconsider-turn, reconsider-ended}
 use Rattle.strands.proofs.floundering.reconsider_floundered_subgoals.Statement.{statement}
 use Rattle.strands.proofs.floundering.reconsider_floundered_subgoals.Tie as tie
 
 abbrev Inv-loop : tie.InvT-loop
-Inv-loop n t₀ left₀ t left = Reconsidering n t₀ t left
+Inv-loop n t₀ left₀ t left = reconsider-down left t ≡ reconsider-down n t₀
 
 abbrev μ-loop : tie.MeasureT-loop
 μ-loop n t₀ left₀ t left = left
@@ -17,9 +18,7 @@ within-requires : tie.Need-within-requires Inv-loop μ-loop
 within-requires c κs = search needs
 
 loop-holds : tie.Need-loop-holds Inv-loop μ-loop
-loop-holds c =
-    let e : length (c .before .args .s .floundered) ≡ 8 = search (length-mapped, needs) in
-    begun (c .within .result) (c .before .args .s) e (c .within .ensures)
+loop-holds c = search needs
 
 sub-i : tie.Need-sub-i Inv-loop μ-loop
 sub-i c = search needs
@@ -36,14 +35,17 @@ loop-less c = search needs
 loop-again : tie.Need-loop-again Inv-loop μ-loop
 loop-again c =
     let l = c .before .before .loop in
-    let k = c .before .before .before in
-    goes-on (k .within .result) (k .before .args .s) (l .t) (c .reconsider-at .result) (l .left) (c .before .loop-test .taken) (l .inv) (c .reconsider-at .ensures)
+    ap (λ (r : Strand). reconsider-down (l .left - 1) r) (c .reconsider-at .ensures)
+    ∙ reconsider-turn (l .left) (l .t) (c .before .loop-test .taken)
+    ∙ l .inv
 
 returns : tie.Need-returns Inv-loop μ-loop
 returns c =
     let l = c .before .loop in
     let k = c .before .before in
-    ended (k .within .result) (k .before .args .s) (l .t) (l .left) (c .loop-test .left) (l .inv)
+    reconsider-ended (l .left) (l .t) (c .loop-test .left)
+    ∙ l .inv
+    ∙ ap (λ (n : ℕ). reconsider-down n (k .before .args .s)) (k .within .ensures)
 
 pub reconsider-floundered-subgoals-spec : {M : Type 1} → statement M
 reconsider-floundered-subgoals-spec =

@@ -1,10 +1,8 @@
 -- A literal stands at each index below the count, and none past it.
 use native.Mathlib.Omega.{arith}
-use mathlib.Core.Path.{_≡_}
-use lib.ListN.{length}
+use mathlib.Core.Path.{sym}
 use borrow.Author.Needs.{needs}
-use Rattle.strands.proofs.Lists.{length-mapped}
-use Rattle.strands.proofs.LiteralCases.{found-at, found-past}
+use Rattle.strands.proofs.LiteralCases.{found-there, found-nothing}
 use Rattle.strands.proofs.literals.subgoal_at.Statement.{statement}
 use Rattle.strands.proofs.literals.subgoal_at.Tie as tie
 
@@ -20,14 +18,12 @@ element-copy-out-t11 c = search needs
 returns : tie.Need-returns
 returns c =
     let a = c .before .before .before .args in
-    let e : length (a .t1 .literals) ≡ 8 = search (length-mapped, needs) in
-    found-at (a .t1) e (a .i) (omega arith)
+    sym (found-there (a .t1) (a .i) (omega arith))
 
 returns-2 : tie.Need-returns-2
 returns-2 c =
     let a = c .before .before .args in
-    let e : length (a .t1 .literals) ≡ 8 = search (length-mapped, needs) in
-    found-past (a .t1) e (a .i) (omega arith)
+    sym (found-nothing (a .t1) (a .i) (omega arith))
 
 pub subgoal-at-spec : {M : Type 1} → statement M
 subgoal-at-spec =

@@ -1,21 +1,16 @@
--- The loop of `positives`: the literals made so far mean the goals passed.
+-- The loop of `positives`: the literals made so far are those of the goals passed.
 use Prim.Native.Nat.{_-_, _≤_}
 use native.Mathlib.Omega.{arith}
-use mathlib.Core.List.{List, map}
-use mathlib.Core.Path.{_≡_, sym, ap, _∙_}
+use mathlib.Core.Path.{_≡_, _∙_}
 use lib.ListN.{length, take, getD, length-set}
 use borrow.Author.Needs.{needs}
-use Rattle.definitions.specs.Book as said
-use Rattle.definitions.specs.Lists.{push}
-use Rattle.book.specs.View.{meant}
-use Rattle.book.specs.declared.Literal.{Literal}
-use Rattle.strands.specs.Making.{positive}
-use Rattle.strands.proofs.Lists.{view-push, view-next}
+use Rattle.strands.specs.Making.{wants-any, positives}
+use Rattle.strands.proofs.MakeCases.{positives-next}
 use Rattle.strands.proofs.making.positives.Statement.{statement}
 use Rattle.strands.proofs.making.positives.Tie as tie
 
 abbrev Inv-loop : tie.InvT-loop
-Inv-loop n goals made₀ i₀ made i = (i ≤ n) × (length made ≡ 8) × (map meant (take i made) ≡ map positive (take i goals))
+Inv-loop n goals made₀ i₀ made i = (i ≤ n) × (length made ≡ 8) × (made ≡ positives (take i goals))
 
 abbrev μ-loop : tie.MeasureT-loop
 μ-loop n goals made₀ i₀ made i = n - i
@@ -42,13 +37,10 @@ loop-again : tie.Need-loop-again Inv-loop μ-loop
 loop-again c =
     let a = c .before .before .args in
     let l = c .before .loop in
-    let q : length (a .t1) ≡ 8 = search needs in
-    let p : Literal = record { goal = getD (a .t1) (l .i) 0; kind = 0; want = 0 } in (
+    let long : length (a .t1) ≡ 8 = search needs in (
       omega arith,
-      length-set (l .made) (l .i) p ∙ l .inv .1,
-      sym (view-push meant (l .i) (l .made) p (omega arith))
-          ∙ ap (λ (ls : List said.Literal). push ls (meant p)) (l .inv .2)
-          ∙ sym (view-next positive (l .i) (a .t1) 0 (omega arith)),
+      length-set (l .made) (l .i) (wants-any (getD (a .t1) (l .i) 0)) ∙ l .inv .1,
+      positives-next (a .t1) (l .i) (l .made) (omega arith) (l .inv .2),
     )
 
 returns : tie.Need-returns Inv-loop μ-loop
