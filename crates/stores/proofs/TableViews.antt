@@ -1,167 +1,209 @@
--- What the operations on the tables' own numbers do to the view, and that `SoundTables` is kept: a new table, the answer mode, and what is
--- read of a table. From the laws of `set` and of spans.
-use Prim.Native.Nat.{ℕ, suc, _≤_, _<_}
+-- What the operations on the answers do to the view, each as the definition does, and that `SoundAnswers` is kept: lookup, count, a new
+-- answer, freeing them all, and `mark_floundered`, which frees answers and strands. From the theorems on places and the laws of spans.
+use Prim.Native.Nat.{ℕ, suc, _+_, _≤_, _<_}
 use native.Mathlib.Omega.{arith}
-use native.Mathlib.Numerals.{add-one}
 use mathlib.Core.Path.{_≡_, refl, sym, ap, ap₂, subst, _∙_}
-use mathlib.Core.Bool.{Bool, true, false, _&&_}
+use mathlib.Core.Bool.{Bool, true, false}
 use mathlib.Core.Option.{none, some}
-use mathlib.Core.List.{List, [], map}
-use lib.ListN.{getD, set, length-set, getElem?}
+use mathlib.Core.List.{List, [], _∷_, _++_, map}
+use lib.ListN.{length, getD, set, length-map, length-set, replicate, length-replicate}
 use lib.Seq.{getD-set-same, getD-set-other}
 use lib.Dec.{ltb}
-use borrow.Author.Tests.{lt-ltb}
+use borrow.Author.Tests.{lt-ltb, ne-eqb, ltb-true, ltb-false}
 use Rattle.definitions.specs as said
+use Rattle.definitions.specs.Lists.{push, total}
 use Rattle.definitions.specs.Strand as said-strand
-use Rattle.definitions.specs.Table.{Table, new, with-mode, mark-floundered}
-use Rattle.definitions.specs.Stop.{Stops, go, _>>=_, unwrap}
-use Rattle.definitions.specs.Tables.{insert-table, Forest, with-tables, table-at, change-table}
-use Rattle.stores.specs.declared.Strands.{Strands}
-use Rattle.stores.specs.declared.Answers.{Answers}
-use Rattle.stores.specs.declared.Tables.{Tables}
-use Rattle.stores.specs.View.{ring, flag, mode, held-table, tables, strand-at, answer-at}
-use Rattle.stores.specs.Sound.{SoundTables, flag-number}
-use Rattle.stores.specs.Entries.{set-if, add-if, flag-at}
-use Rattle.stores.specs.Tabling.{goal-if, table-goal-at, inserted, moded}
-use Rattle.stores.proofs.Spans.{span-at, span-past, span-same, span-set, span-push}
+use Rattle.definitions.specs.Table.{Table, with-answers, mark-floundered, answer, next-answer-index}
+use Rattle.rings.specs.Lists.{one, times}
+use Rattle.rings.specs.Rings.{PlaceAt}
+use Rattle.rings.proofs.Counts.{all-map, map-append, map-cong, absent-all, times-append, times-self}
+use Rattle.rings.proofs.RingViews.{below-top}
+use Rattle.strands.specs.declared.Answer.{Answer}
+use Rattle.strands.specs.View.{SoundAnswer}
+use Rattle.strands.specs.View as view
+use Rattle.stores.specs.declared.queue.Strands.{Strands}
+use Rattle.stores.specs.declared.table.Answers.{Answers}
+use Rattle.stores.specs.declared.tables.Tables.{Tables}
+use Rattle.stores.specs.Numbers.{free, flag, set-if}
+use Rattle.stores.specs.Places.{ring, enqueued, freed, free-place, moved-to, blank-places}
+use Rattle.stores.specs.View.{unread-answer, answer-at, strand-at, held-table, tables}
+use Rattle.stores.specs.Sound.{waiting, SoundPlaces, SoundAnswers, SoundTables}
+use Rattle.stores.specs.Queue.{strands-of, cleared}
+use Rattle.stores.specs.Table.{marked, answers-of, answer-stored, cleared-answers, BlankAnswers}
+use Rattle.stores.proofs.ListsAlike.{times-at}
+use Rattle.stores.proofs.PlacesWaiting.{is-or-not, sound-grown, total-waiting}
+use Rattle.stores.proofs.ListsSpans.{span-set, map-elem, map-elem-past}
+use Rattle.stores.proofs.PlacesViews.{length-ring, enqueued-own, enqueued-other, enqueued-sound, blank-places-sound}
+use Rattle.stores.proofs.PlacesCases.{Freed, freed-sound}
+use Rattle.stores.proofs.PlacesMoves.{moved-own, moved-other, moved-sound}
+use Rattle.stores.specs.declared.places.Places.{Places}
 
-pub flag-of : (b : Bool) → flag (flag-number b) ≡ b
-flag-of true = refl
-flag-of false = refl
+-- THE LIST OF TABLES, when the answers of one change
+pub answers-changed : (ts : Tables) (s : Strands) (a a′ : Answers) (t : ℕ) → t < ts .count → ((u : ℕ) → u < ts .count → (u ≡ t → ⊥) → answers-of a′ u ≡ answers-of a u)
+    → tables ts s a′ ≡ set (tables ts s a) t (with-answers (held-table ts s a t) (answers-of a′ t))
+answers-changed ts s a a′ t h other =
+    span-set (held-table ts s a) (held-table ts s a′) (ts .count) t h (λ u k d. ap (with-answers (held-table ts s a u)) (other u k d))
 
--- the tables that are made, and no other
-pub table-there : (ts : Tables) (s : Strands) (a : Answers) (t : ℕ) → t < ts .count → getElem? (tables ts s a) t ≡ some (held-table ts s a t)
-table-there ts s a t h = span-at (held-table ts s a) (ts .count) t h
-
-pub table-past : (ts : Tables) (s : Strands) (a : Answers) (t : ℕ) → ts .count ≤ t → getElem? (tables ts s a) t ≡ none
-table-past ts s a t h = span-past (held-table ts s a) (ts .count) t h
-
--- a forest with these tables: `tables[t]`, and the table changed
-module _ (ts : Tables) (s : Strands) (a : Answers) (f : Forest) (is : f .tables ≡ tables ts s a) (t : ℕ) (h : t < ts .count) where
-  pub table-at-is : table-at f t ≡ go (held-table ts s a t)
-  table-at-is = ap (λ (l : List Table). unwrap (getElem? l t)) is ∙ ap unwrap (table-there ts s a t h)
-
-  pub change-is : (change : Table → Table) (after : List Table) → after ≡ set (tables ts s a) t (change (held-table ts s a t)) → change-table f t change ≡ go (with-tables f after)
-  change-is change after e =
-      ap (λ (r : Stops Table). r >>= λ x. go (with-tables f (set (f .tables) t (change x)))) table-at-is
-      ∙ ap (λ (l : List Table). go (with-tables f (set l t (change (held-table ts s a t))))) is ∙ ap (λ (l : List Table). go (with-tables f l)) (sym e)
-
--- READ: what `flag_at` and `goal_at` say of a table that is made
-module _ (ts : Tables) (s : Strands) (a : Answers) (sound : SoundTables ts) (t : ℕ) (h : t < ts .count) where
-  near : ltb t 64 ≡ true
-  near = lt-ltb t 64 (omega (arith, sound .few))
-
-  pub flag-at-is : (l : List ℕ) → flag-at t l ≡ flag (getD l t 0)
-  flag-at-is l = ap (λ (b : Bool). b && flag (getD l t 0)) near
-
-  pub floundered-view : flag-at t (ts .floundered) ≡ held-table ts s a t .floundered
-  floundered-view = flag-at-is (ts .floundered)
-
-  pub coinductive-view : flag-at t (ts .coinductive) ≡ held-table ts s a t .coinductive-goal
-  coinductive-view = flag-at-is (ts .coinductive)
-
-  pub mode-view : flag-at t (ts .complete) ≡ said.is-complete (held-table ts s a t .answer-mode)
-  mode-view = flag-at-is (ts .complete) ∙ by-flag (flag (getD (ts .complete) t 0))
+-- LOOKUP: what stands at the place that `ring_at` finds
+module _ (ts : Tables) (s : Strands) (a : Answers) (t i r : ℕ) (found : PlaceAt (ring (a .places) t) i r) (sound : SoundPlaces (a .places) (ts .count) []) where
+  pub answer-there : r < 256 → answer (held-table ts s a t) i ≡ some (answer-at a r)
+  answer-there h = go (ltb i (length (ring (a .places) t))) refl
     where
-      by-flag : (b : Bool) → b ≡ said.is-complete (elim b [ true ↦ said.Complete | false ↦ said.Ambiguous ])
-      by-flag true = refl
-      by-flag false = refl
+      go : (b : Bool) → ltb i (length (ring (a .places) t)) ≡ b → answer (held-table ts s a t) i ≡ some (answer-at a r)
+      go true e =
+          let k : i < length (ring (a .places) t) = ltb-true i (length (ring (a .places) t)) e in
+          map-elem (answer-at a) (ring (a .places) t) i 0 k ∙ ap (λ (q : ℕ). some (answer-at a q)) (sym (found .there k))
+      go false e = absurd (omega (arith, found .past (ltb-false i (length (ring (a .places) t)) e)))
 
-  pub goal-view : table-goal-at t (ts .goal) ≡ held-table ts s a t .table-goal
-  goal-view = ap (λ (b : Bool). goal-if b (getD (ts .goal) t 0)) near
+  pub answer-past : 256 ≤ r → answer (held-table ts s a t) i ≡ none
+  answer-past h = go (ltb i (length (ring (a .places) t))) refl
+    where
+      go : (b : Bool) → ltb i (length (ring (a .places) t)) ≡ b → answer (held-table ts s a t) i ≡ none
+      go true e =
+          let k : i < length (ring (a .places) t) = ltb-true i (length (ring (a .places) t)) e in
+          let q : getD (ring (a .places) t) i 0 < a .places .top =
+          below-top (a .places .next) (a .places .tail) (a .places .len) (a .places .top) (sound .rings) t (getD (ring (a .places) t) i 0) (times-at (ring (a .places) t) i k) in
+          absurd (omega (arith, found .there k, sound .rings .room))
+      go false e = map-elem-past (answer-at a) (ring (a .places) t) i (ltb-false i (length (ring (a .places) t)) e)
 
-abbrev table-of : (goal coinductive floundered complete : ℕ) → List said.Answer → List said-strand.Strand → Table
-table-of g c f m rs ss = record { table-goal = g; coinductive-goal = flag c; floundered = flag f; answers = rs; strands = ss; answer-mode = mode m }
+-- HOW MANY: of a table, and of all
+pub answer-count-is : (ts : Tables) (s : Strands) (a : Answers) (t : ℕ) → next-answer-index (held-table ts s a t) ≡ getD (a .places .len) t 0
+answer-count-is ts s a t = length-map (ring (a .places) t) (answer-at a) ∙ length-ring (a .places) t
 
-table-is : (g g′ c c′ f f′ m m′ : ℕ) (rs rs′ : List said.Answer) (ss ss′ : List said-strand.Strand) → g ≡ g′ → c ≡ c′ → f ≡ f′ → m ≡ m′ → rs ≡ rs′ → ss ≡ ss′
-    → table-of g c f m rs ss ≡ table-of g′ c′ f′ m′ rs′ ss′
-table-is g g′ c c′ f f′ m m′ rs rs′ ss ss′ a b d e r q = cc
+pub held-is : (ts : Tables) (s : Strands) (a : Answers) → total (λ t. length (t .answers)) (tables ts s a) ≡ waiting (a .places) (ts .count)
+held-is ts s a = total-waiting (held-table ts s a) (λ t. length (t .answers)) (a .places) (λ u. length-map (ring (a .places) u) (answer-at a)) (ts .count)
 
--- the definitions' new table, floundered or not
-abbrev pub new-table : (goal : ℕ) → (coinductive floundered : Bool) → Table
-new-table g co true = mark-floundered (new g co)
-new-table g co false = new g co
+-- for one table more, which has no answer
+pub answers-grown : (a : Answers) (n : ℕ) → n < free → SoundAnswers a n → SoundAnswers a (suc n)
+answers-grown a n room sound = record {
+  places = sound-grown (a .places) n [] room (sound .places);
+  long = sound .long;
+  stored = λ t q h k. go t q (ltb t n) refl h k;
+}
+  where
+    go : (t q : ℕ) (b : Bool) → ltb t n ≡ b → t < suc n → 1 ≤ times q (ring (a .places) t) → SoundAnswer (getD (a .answers) q unread-answer)
+    go t q true e h k = sound .stored t q (ltb-true t n e) k
+    go t q false e h k = absurd (omega (arith, ap (times q) (sound .places .empty t (ltb-false t n e) (λ d. omega arith))))
 
-new-is : (g : ℕ) (co fl : Bool) → table-of g (flag-number co) (flag-number fl) 1 [] [] ≡ new-table g co fl
-new-is g true true = refl
-new-is g true false = refl
-new-is g false true = refl
-new-is g false false = refl
+-- A NEW ANSWER
+module _ (a : Answers) (n t : ℕ) (x : Answer) (h : t < n) (sound : SoundAnswers a n) (good : SoundAnswer x) (room : free-place (a .places) < 256) where
+  abbrev q : ℕ
+  q = free-place (a .places)
 
--- INSERT, where there is room
-module _ (ts : Tables) (s : Strands) (a : Answers) (g : ℕ) (co fl : Bool) (sound : SoundTables ts) (room : ts .count < 64) where
-  abbrev n : ℕ
-  n = ts .count
+  abbrev f : Freed (a .places) n [] (freed (a .places)) q
+  f = freed-sound (a .places) n [] (sound .places) room
 
+  small : t < 256
+  small = omega (arith, sound .places .few)
+
+  own : ring (enqueued t q (freed (a .places))) t ≡ ring (a .places) t ++ (q ∷ [])
+  own = enqueued-own (freed (a .places)) n [] q t (f .sound) small ∙ ap (λ (l : List ℕ). l ++ (q ∷ [])) (f .same t h)
+
+  other : (u : ℕ) → u < n → (u ≡ t → ⊥) → ring (enqueued t q (freed (a .places))) u ≡ ring (a .places) u
+  other u k d = enqueued-other (freed (a .places)) n [] q t (f .sound) small u d ∙ f .same u k
+
+  -- the place waited nowhere
+  apart : (u : ℕ) → u < n → times q (ring (a .places) u) ≡ 0
+  apart u k = sym (ap (times q) (f .same u k)) ∙ f .sound .apart q u (omega (arith, times-self q))
+
+  here : getD (set (a .answers) q x) q unread-answer ≡ x
+  here = getD-set-same (a .answers) q x unread-answer (omega (arith, sound .long))
+
+  away : (u : ℕ) → (u ≡ q → ⊥) → getD (set (a .answers) q x) u unread-answer ≡ getD (a .answers) u unread-answer
+  away u d = getD-set-other (a .answers) q u x unread-answer d
+
+  kept : (u : ℕ) → u < n → map (answer-at (answer-stored t x a)) (ring (a .places) u) ≡ answers-of a u
+  kept u k = map-cong (answer-at (answer-stored t x a)) (answer-at a) (ring (a .places) u)
+      (all-map (λ y d. ap view.answer (away y d)) (ring (a .places) u) (absent-all q (ring (a .places) u) (apart u k)))
+
+  pub stored-answer-own : answers-of (answer-stored t x a) t ≡ push (answers-of a t) (view.answer x)
+  stored-answer-own =
+      ap (map (answer-at (answer-stored t x a))) own ∙ map-append (answer-at (answer-stored t x a)) (ring (a .places) t) (q ∷ [])
+      ∙ ap₂ (λ (l : List said.Answer) (y : said.Answer). push l y) (kept t h) (ap view.answer here)
+
+  pub stored-answer-other : (u : ℕ) → u < n → (u ≡ t → ⊥) → answers-of (answer-stored t x a) u ≡ answers-of a u
+  stored-answer-other u k d = ap (map (answer-at (answer-stored t x a))) (other u k d) ∙ kept u k
+
+  pub stored-answer-sound : SoundAnswers (answer-stored t x a) n
+  stored-answer-sound = record {
+    places = enqueued-sound (freed (a .places)) n [] q t h (f .sound);
+    long = length-set (a .answers) q x ∙ sound .long;
+    stored = λ u y k i. is-or-not q (λ z. 1 ≤ times z (ring (enqueued t q (freed (a .places))) u) → SoundAnswer (getD (set (a .answers) q x) z unread-answer))
+        (λ j. subst SoundAnswer (sym here) good)
+        (λ z d j. subst SoundAnswer (sym (away z d)) (old u z k d j)) y i;
+  }
+    where
+      old : (u z : ℕ) → u < n → (z ≡ q → ⊥) → 1 ≤ times z (ring (enqueued t q (freed (a .places))) u) → SoundAnswer (getD (a .answers) z unread-answer)
+      old u z k d j = is-or-not t (λ v. v < n → 1 ≤ times z (ring (enqueued t q (freed (a .places))) v) → SoundAnswer (getD (a .answers) z unread-answer))
+          (λ i c. sound .stored t z h (omega (arith, ap (times z) own, times-append z (ring (a .places) t) (q ∷ []), absent)))
+          (λ v e i c. sound .stored v z i (subst (λ (l : List ℕ). 1 ≤ times z l) (other v i e) c)) u k j
+        where
+          absent : times z (q ∷ []) ≡ 0
+          absent = omega (arith, ap one (ne-eqb z q d))
+
+  pub stored-answer-view : (ts : Tables) (s : Strands) → ts .count ≡ n
+      → tables ts s (answer-stored t x a) ≡ set (tables ts s a) t (with-answers (held-table ts s a t) (push (answers-of a t) (view.answer x)))
+  stored-answer-view ts s e =
+      answers-changed ts s a (answer-stored t x a) t (omega arith) (λ u k d. stored-answer-other u (omega arith) d)
+      ∙ ap (λ (l : List said.Answer). set (tables ts s a) t (with-answers (held-table ts s a t) l)) stored-answer-own
+
+-- FREE THEM ALL
+pub cleared-answers-sound : (a : Answers) (n t : ℕ) → t < n → SoundAnswers a n → SoundAnswers (cleared-answers t a) n
+cleared-answers-sound a n t h sound = record {
+  places = moved-sound (a .places) n [] t h (sound .places);
+  long = sound .long;
+  stored = λ u q k i. is-or-not t (λ v. v < n → 1 ≤ times q (ring (moved-to t free (a .places)) v) → SoundAnswer (getD (a .answers) q unread-answer))
+      (λ j c. absurd (omega (arith, ap (times q) (moved-own (a .places) n [] t h (sound .places)))))
+      (λ v d j c. sound .stored v q j (subst (λ (l : List ℕ). 1 ≤ times q l) (moved-other (a .places) n [] t h (sound .places) v (λ e. omega (arith, sound .places .few)) d) c)) u k i;
+}
+
+-- MARK FLOUNDERED: the flag, and no answers and no strands
+module _ (ts : Tables) (s : Strands) (a : Answers) (held : List ℕ) (t : ℕ) (h : t < ts .count) (sound : SoundTables ts) (ss : SoundPlaces (s .places) (ts .count) held) (rs : SoundPlaces (a .places) (ts .count) []) where
   abbrev ts′ : Tables
-  ts′ = record { count = suc n; goal = set (ts .goal) n g; coinductive = set (ts .coinductive) n (flag-number co); floundered = set (ts .floundered) n (flag-number fl); complete = set (ts .complete) n 1 }
+  ts′ = record { count = ts .count; goal = ts .goal; coinductive = ts .coinductive; floundered = set (ts .floundered) t 1; complete = ts .complete }
 
-  inserted-is : inserted g co fl ts ≡ ts′
-  inserted-is =
-      ap (λ (b : Bool). record { count = add-if b n; goal = set-if b n g (ts .goal); coinductive = set-if b n (flag-number co) (ts .coinductive); floundered = set-if b n (flag-number fl) (ts .floundered); complete = set-if b n 1 (ts .complete) }) (lt-ltb n 64 room)
-      ∙ ap (λ (m : ℕ). record { count = m; goal = set (ts .goal) n g; coinductive = set (ts .coinductive) n (flag-number co); floundered = set (ts .floundered) n (flag-number fl); complete = set (ts .complete) n 1 }) (add-one n)
+  marked-is : marked t ts ≡ ts′
+  marked-is = ap (λ (b : Bool). record { count = ts .count; goal = ts .goal; coinductive = ts .coinductive; floundered = set-if b t 1 (ts .floundered); complete = ts .complete }) (lt-ltb t 64 (omega (arith, sound .few)))
 
-  pub inserted-count : inserted g co fl ts .count ≡ suc (ts .count)
-  inserted-count = ap (λ (r : Tables). r .count) inserted-is
-
-  pub inserted-sound : SoundTables (inserted g co fl ts)
-  inserted-sound = subst SoundTables (sym inserted-is) (record {
-    few = omega arith;
-    long-goal = length-set (ts .goal) n g ∙ sound .long-goal;
-    long-coinductive = length-set (ts .coinductive) n (flag-number co) ∙ sound .long-coinductive;
-    long-floundered = length-set (ts .floundered) n (flag-number fl) ∙ sound .long-floundered;
-    long-complete = length-set (ts .complete) n 1 ∙ sound .long-complete;
-  })
-
-  old-table : (u : ℕ) → u < n → held-table ts′ s a u ≡ held-table ts s a u
-  old-table u h =
-      let d : u ≡ n → ⊥ = λ e. omega arith in
-      table-is (getD (ts′ .goal) u 0) (getD (ts .goal) u 0) (getD (ts′ .coinductive) u 0) (getD (ts .coinductive) u 0) (getD (ts′ .floundered) u 0) (getD (ts .floundered) u 0) (getD (ts′ .complete) u 0) (getD (ts .complete) u 0)
-      (map (answer-at a) (ring (a .places) u)) (map (answer-at a) (ring (a .places) u)) (map (strand-at s) (ring (s .places) u)) (map (strand-at s) (ring (s .places) u))
-      (getD-set-other (ts .goal) n u g 0 d) (getD-set-other (ts .coinductive) n u (flag-number co) 0 d) (getD-set-other (ts .floundered) n u (flag-number fl) 0 d) (getD-set-other (ts .complete) n u 1 0 d) refl refl
-
-  module _ (no-answers : ring (a .places) n ≡ []) (no-strands : ring (s .places) n ≡ []) where
-    new-at : held-table ts′ s a n ≡ new-table g co fl
-    new-at =
-        table-is (getD (ts′ .goal) n 0) g (getD (ts′ .coinductive) n 0) (flag-number co) (getD (ts′ .floundered) n 0) (flag-number fl) (getD (ts′ .complete) n 0) 1
-        (map (answer-at a) (ring (a .places) n)) [] (map (strand-at s) (ring (s .places) n)) []
-        (getD-set-same (ts .goal) n g 0 (omega (arith, sound .long-goal))) (getD-set-same (ts .coinductive) n (flag-number co) 0 (omega (arith, sound .long-coinductive)))
-        (getD-set-same (ts .floundered) n (flag-number fl) 0 (omega (arith, sound .long-floundered))) (getD-set-same (ts .complete) n 1 0 (omega (arith, sound .long-complete)))
-        (ap (map (answer-at a)) no-answers) (ap (map (strand-at s)) no-strands)
-        ∙ new-is g co fl
-
-    pub inserted-new : held-table (inserted g co fl ts) s a (ts .count) ≡ new-table g co fl
-    inserted-new = ap (λ (r : Tables). held-table r s a n) inserted-is ∙ new-at
-
-    -- the definitions' `insert` of a new table, which has neither answers nor strands yet
-    pub inserted-view : tables (inserted g co fl ts) s a ≡ insert-table (new-table g co fl) (tables ts s a)
-    inserted-view =
-        ap (λ (r : Tables). tables r s a) inserted-is ∙ span-push (held-table ts′ s a) n
-        ∙ ap₂ (λ (l : List Table) (t : Table). insert-table t l) (span-same (held-table ts s a) (held-table ts′ s a) n old-table) new-at
-
--- THE ANSWER MODE
-module _ (ts : Tables) (s : Strands) (a : Answers) (t : ℕ) (b : Bool) (sound : SoundTables ts) (h : t < ts .count) where
-  moded-is : moded t b ts ≡ record { count = ts .count; goal = ts .goal; coinductive = ts .coinductive; floundered = ts .floundered; complete = set (ts .complete) t (flag-number b) }
-  moded-is =
-      ap (λ (c : Bool). record { count = ts .count; goal = ts .goal; coinductive = ts .coinductive; floundered = ts .floundered; complete = set-if c t (flag-number b) (ts .complete) })
-      (lt-ltb t 64 (omega (arith, sound .few)))
-
-  pub moded-sound : SoundTables (moded t b ts)
-  moded-sound = subst SoundTables (sym moded-is) (record {
+  pub marked-sound : SoundTables (marked t ts)
+  marked-sound = subst SoundTables (sym marked-is) (record {
     few = sound .few;
     long-goal = sound .long-goal;
     long-coinductive = sound .long-coinductive;
-    long-floundered = sound .long-floundered;
-    long-complete = length-set (ts .complete) t (flag-number b) ∙ sound .long-complete;
+    long-floundered = length-set (ts .floundered) t 1 ∙ sound .long-floundered;
+    long-complete = sound .long-complete;
   })
 
-  abbrev mode-of : Bool → said.AnswerMode
-  mode-of c = elim c [ true ↦ said.Complete | false ↦ said.Ambiguous ]
+  abbrev table-with : ℕ → (floundered : ℕ) → List said.Answer → List said-strand.Strand → Table
+  table-with u f l m = record { table-goal = getD (ts .goal) u 0; coinductive-goal = flag (getD (ts .coinductive) u 0); floundered = flag f; answers = l; strands = m; answer-mode = held-table ts s a u .answer-mode }
 
-  pub moded-view : tables (moded t b ts) s a ≡ set (tables ts s a) t (with-mode (held-table ts s a t) (elim b [ true ↦ said.Complete | false ↦ said.Ambiguous ]))
-  moded-view =
-      ap (λ (r : Tables). tables r s a) moded-is
-      ∙ span-set (held-table ts s a) (held-table (record { count = ts .count; goal = ts .goal; coinductive = ts .coinductive; floundered = ts .floundered; complete = set (ts .complete) t (flag-number b) }) s a) (ts .count) t h
-      (λ u k d. ap (λ (m : ℕ). with-mode (held-table ts s a u) (mode m)) (getD-set-other (ts .complete) t u (flag-number b) 0 d))
-      ∙ ap (λ (m : said.AnswerMode). set (tables ts s a) t (with-mode (held-table ts s a t) m))
-      (ap mode (getD-set-same (ts .complete) t (flag-number b) 0 (omega (arith, sound .few, sound .long-complete))) ∙ ap mode-of (flag-of b))
+  table-is : (u f f′ : ℕ) (l l′ : List said.Answer) (m m′ : List said-strand.Strand) → f ≡ f′ → l ≡ l′ → m ≡ m′ → table-with u f l m ≡ table-with u f′ l′ m′
+  table-is u f f′ l l′ m m′ e c d = ap₂ (λ (x : List said.Answer) (y : List said-strand.Strand). table-with u f x y) c d ∙ ap (λ (x : ℕ). table-with u x l′ m′) e
+
+  pub marked-view : tables (marked t ts) (cleared t s) (cleared-answers t a) ≡ set (tables ts s a) t (mark-floundered (held-table ts s a t))
+  marked-view =
+      ap (λ (r : Tables). tables r (cleared t s) (cleared-answers t a)) marked-is
+      ∙ span-set (held-table ts s a) (held-table ts′ (cleared t s) (cleared-answers t a)) (ts .count) t h
+      (λ u k d. table-is u (getD (set (ts .floundered) t 1) u 0) (getD (ts .floundered) u 0) (answers-of (cleared-answers t a) u) (answers-of a u) (strands-of (cleared t s) u) (strands-of s u)
+      (getD-set-other (ts .floundered) t u 1 0 d)
+      (ap (map (answer-at a)) (moved-other (a .places) (ts .count) [] t h rs u (λ e. omega (arith, rs .few)) d))
+      (ap (map (strand-at s)) (moved-other (s .places) (ts .count) held t h ss u (λ e. omega (arith, ss .few)) d)))
+      ∙ ap (set (tables ts s a) t)
+      (table-is t (getD (set (ts .floundered) t 1) t 0) 1 (answers-of (cleared-answers t a) t) [] (strands-of (cleared t s) t) []
+      (getD-set-same (ts .floundered) t 1 0 (omega (arith, sound .few, sound .long-floundered)))
+      (ap (map (answer-at a)) (moved-own (a .places) (ts .count) [] t h rs)) (ap (map (strand-at s)) (moved-own (s .places) (ts .count) held t h ss)))
+
+-- BLANK
+blank-answers-of : (l : List Answer) → length l ≡ 256 → BlankAnswers (record { answers = l; places = blank-places })
+blank-answers-of l long = record {
+  places = refl;
+  sound = record {
+    places = blank-places-sound;
+    long = long;
+    stored = λ t q h k. absurd (omega arith);
+  };
+}
+
+pub blank-answers : (x : Answer) (p : Places) → p ≡ blank-places → BlankAnswers (record { answers = replicate 256 x; places = p })
+blank-answers x p e =
+    subst (λ (r : Places). BlankAnswers (record { answers = replicate 256 x; places = r })) (sym e) (blank-answers-of (replicate 256 x) (length-replicate 256 x))

@@ -1,18 +1,19 @@
 -- When the stores are sound: all that an operation rests on.
 use Prim.Native.Nat.{ℕ, zero, suc, _+_, _≤_, _<_}
 use mathlib.Core.Path.{_≡_}
-use mathlib.Core.Bool.{Bool, true, false}
-use mathlib.Core.List.{List, [], _∷_}
+use mathlib.Core.List.{List, []}
 use lib.ListN.{length, getD}
 use Rattle.rings.specs.Lists.{times}
 use Rattle.rings.specs.Rings.{RingSound}
 use Rattle.strands.specs.View.{Sound, SoundAnswer}
-use Rattle.stores.specs.declared.Places.{Places}
-use Rattle.stores.specs.declared.Strands.{Strands}
-use Rattle.stores.specs.declared.Answers.{Answers}
-use Rattle.stores.specs.declared.Tables.{Tables}
-use Rattle.stores.specs.declared.Stack.{Stack}
-use Rattle.stores.specs.View.{free, ring, unread-strand, unread-answer}
+use Rattle.stores.specs.declared.places.Places.{Places}
+use Rattle.stores.specs.declared.queue.Strands.{Strands}
+use Rattle.stores.specs.declared.table.Answers.{Answers}
+use Rattle.stores.specs.declared.tables.Tables.{Tables}
+use Rattle.stores.specs.declared.stack.Stack.{Stack}
+use Rattle.stores.specs.Numbers.{free, flag-number}
+use Rattle.stores.specs.Places.{ring}
+use Rattle.stores.specs.View.{unread-strand, unread-answer}
 
 -- the lengths of the first n rings together
 abbrev pub waiting : Places → ℕ → ℕ
@@ -29,10 +30,6 @@ pub record SoundPlaces (p : Places) (n : ℕ) (held : List ℕ) : Type 0 where
   pub once : (q : ℕ) → times q held ≤ 1
   pub used : (q : ℕ) → 1 ≤ times q held → q < p .top
   pub all : waiting p n + length (ring p free) + length held ≡ p .top
-
-abbrev pub flag-number : Bool → ℕ
-flag-number true = 1
-flag-number false = 0
 
 -- a strand that is in use: it is sound, and the numbers beside it are its own
 pub record InUse (s : Strands) (q : ℕ) : Type 0 where

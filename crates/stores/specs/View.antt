@@ -1,6 +1,6 @@
 -- What the stores mean: the tables and the stack of the definitions that they hold.
 use Prim.Native.Nat.{ℕ, zero, suc}
-use mathlib.Core.Bool.{Bool, true, false, not}
+use mathlib.Core.Bool.{true, false}
 use mathlib.Core.Option.{Option, none, some}
 use mathlib.Core.List.{List, [], _∷_, map}
 use lib.ListN.{getD}
@@ -11,23 +11,16 @@ use Rattle.definitions.specs.Table as table
 use Rattle.definitions.specs.Tables as forest
 use Rattle.definitions.specs.Stack as stack
 use Rattle.book.specs.View.{span}
-use Rattle.rings.specs.Rings.{ring-of}
 use Rattle.strands.specs.declared.Strand.{Strand}
 use Rattle.strands.specs.declared.Answer.{Answer}
 use Rattle.strands.specs.declared.Selected.the-variants.{Nothing}
 use Rattle.strands.specs.View.{view, answer}
-use Rattle.stores.specs.declared.Places.{Places}
-use Rattle.stores.specs.declared.Strands.{Strands}
-use Rattle.stores.specs.declared.Answers.{Answers}
-use Rattle.stores.specs.declared.Tables.{Tables}
-use Rattle.stores.specs.declared.Stack.{Stack}
-
--- the ring of the free places
-abbrev pub free : ℕ
-free = 64
-
-abbrev pub ring : Places → ℕ → List ℕ
-ring p t = ring-of (p .next) (p .tail) (p .len) t
+use Rattle.stores.specs.declared.queue.Strands.{Strands}
+use Rattle.stores.specs.declared.table.Answers.{Answers}
+use Rattle.stores.specs.declared.tables.Tables.{Tables}
+use Rattle.stores.specs.declared.stack.Stack.{Stack}
+use Rattle.stores.specs.Numbers.{flag}
+use Rattle.stores.specs.Places.{ring}
 
 -- what is read past a store's end
 abbrev pub unread-strand : Strand
@@ -41,9 +34,6 @@ strand-at s p = view (getD (s .strands) p unread-strand)
 
 abbrev pub answer-at : Answers → ℕ → said.Answer
 answer-at a p = answer (getD (a .answers) p unread-answer)
-
-abbrev pub flag : ℕ → Bool
-flag n = not (eqb n 0)
 
 abbrev pub mode : ℕ → said.AnswerMode
 mode n = elim (flag n) [ true ↦ said.Complete | false ↦ said.Ambiguous ]

@@ -11,12 +11,12 @@ use borrow.Author.Tests.{lt-ltb, le-ltb}
 use Rattle.rings.specs.Rings.{linked, lengthened, RingTook, RingMove}
 use Rattle.rings.proofs.Counts.{true-false}
 use Rattle.strands.specs.declared.Strand.{Strand}
-use Rattle.stores.specs.declared.Strands.{Strands}
-use Rattle.stores.specs.Sound.{flag-number}
-use Rattle.stores.specs.Placing.{places, TookPlace}
-use Rattle.stores.specs.Storing.{with-places, test-at}
-use Rattle.stores.proofs.PlaceMoves.{taken-is, moved-is}
-use Rattle.stores.proofs.StrandStores.{stored-is}
+use Rattle.stores.specs.declared.queue.Strands.{Strands}
+use Rattle.stores.specs.Numbers.{flag-number}
+use Rattle.stores.specs.Places.{places, TookPlace}
+use Rattle.stores.specs.Queue.{with-places, test-at}
+use Rattle.stores.proofs.PlacesMoves.{taken-is, moved-is}
+use Rattle.stores.proofs.QueueStores.{stored-is}
 use Rattle.stores_run.specs.Owner.{Puts, Takes, Clears}
 
 module _ (s : Strands) (t : ℕ) (x : Strand) (n′ l′ : List ℕ) (m′ q : ℕ) (took : TookPlace (s .places .next) (s .places .tail) (s .places .len) (s .places .top) n′ l′ m′ q) where

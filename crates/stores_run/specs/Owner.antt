@@ -5,10 +5,10 @@ use mathlib.Core.Bool.{true, false}
 use mathlib.Core.List.{List}
 use lib.Dec.{ltb}
 use Rattle.strands.specs.declared.Strand.{Strand}
-use Rattle.stores.specs.declared.Strands.{Strands}
+use Rattle.stores.specs.declared.queue.Strands.{Strands}
 use Rattle.stores.specs.Sound.{SoundStrands}
-use Rattle.stores.specs.Placing.{free-place}
-use Rattle.stores.specs.Storing.{stored, taken-strand, strand-place, cleared}
+use Rattle.stores.specs.Places.{free-place}
+use Rattle.stores.specs.Queue.{stored, taken-strand, strand-place, cleared}
 use Rattle.stores_run.specs.declared.queues.Placed.{Placed}
 use Rattle.stores_run.specs.declared.queues.Took.{Took}
 

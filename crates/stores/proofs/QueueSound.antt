@@ -1,0 +1,212 @@
+-- The operations on the strand store keep `SoundStrands`, with the list of held places grown or shrunk. From the theorems on places.
+use Prim.Native.Nat.{ℕ, suc, _+_, _≤_, _<_}
+use native.Mathlib.Omega.{arith}
+use mathlib.Core.Path.{_≡_, refl, sym, ap, subst, _∙_}
+use mathlib.Core.Bool.{Bool, true, false}
+use mathlib.Core.List.{List, [], _∷_, _++_}
+use lib.ListN.{length, getD, set, length-set, replicate, length-replicate}
+use lib.Seq.{getD-set-same, getD-set-other}
+use lib.Dec.{eqb, ltb}
+use borrow.Author.Tests.{ltb-true, ltb-false}
+use Rattle.rings.specs.Lists.{one, times}
+use Rattle.rings.proofs.Counts.{times-append, times-self, times-out}
+use Rattle.strands.specs.declared.Strand.{Strand}
+use Rattle.strands.specs.View.{Sound}
+use Rattle.stores.specs.declared.places.Places.{Places}
+use Rattle.stores.specs.declared.queue.Strands.{Strands}
+use Rattle.stores.specs.Numbers.{free, flag-number}
+use Rattle.stores.specs.Places.{ring, enqueued, taken-at, freed, free-place, moved-to, blank-places}
+use Rattle.stores.specs.View.{unread-strand}
+use Rattle.stores.specs.Sound.{SoundPlaces, InUse, SoundStrands}
+use Rattle.stores.specs.Queue.{with-places, written, enqueued-strand, given, cleared, freed-strands, Ready, BlankStrands}
+use Rattle.stores.proofs.ListsAlike.{Alike, times-at, times-cases}
+use Rattle.stores.proofs.PlacesWaiting.{is-or-not, sound-alike, sound-grown}
+use Rattle.stores.proofs.PlacesViews.{enqueued-own, enqueued-other, enqueued-sound, given-sound, given-other, taken-own, taken-other, taken-sound, blank-places-sound}
+use Rattle.stores.proofs.PlacesCases.{freed-sound}
+use Rattle.stores.proofs.PlacesMoves.{moved-own, moved-other, moved-sound}
+
+in-use : (s : Strands) (p′ : Places) (q : ℕ) → InUse s q → InUse (with-places s p′) q
+in-use s p′ q u = record { sound = u .sound; time = u .time; ambiguous = u .ambiguous }
+
+-- other places, the same strands: what the rings must give
+with-sound : (s : Strands) (n : ℕ) (held held′ : List ℕ) (p′ : Places) → SoundStrands s n held → SoundPlaces p′ n held′
+    → ((t q : ℕ) → t < n → 1 ≤ times q (ring p′ t) → InUse s q) → ((q : ℕ) → 1 ≤ times q held′ → InUse s q)
+    → SoundStrands (with-places s p′) n held′
+with-sound s n held held′ p′ sound ps waits holds = record {
+  places = ps;
+  long = sound .long;
+  long-time = sound .long-time;
+  long-ambiguous = sound .long-ambiguous;
+  queued = λ t q h k. in-use s p′ q (waits t q h k);
+  in-hand = λ q k. in-use s p′ q (holds q k);
+}
+
+pub strands-alike : (s : Strands) (n : ℕ) (held held′ : List ℕ) → Alike held held′ → SoundStrands s n held → SoundStrands s n held′
+strands-alike s n held held′ a sound = record {
+  places = sound-alike (s .places) n held held′ a (sound .places);
+  long = sound .long;
+  long-time = sound .long-time;
+  long-ambiguous = sound .long-ambiguous;
+  queued = sound .queued;
+  in-hand = λ q k. sound .in-hand q (omega (arith, a q));
+}
+
+-- for one table more, whose queue is empty
+pub strands-grown : (s : Strands) (n : ℕ) (held : List ℕ) → n < free → SoundStrands s n held → SoundStrands s (suc n) held
+strands-grown s n held room sound = record {
+  places = sound-grown (s .places) n held room (sound .places);
+  long = sound .long;
+  long-time = sound .long-time;
+  long-ambiguous = sound .long-ambiguous;
+  queued = λ t q h k. go t q (ltb t n) refl h k;
+  in-hand = sound .in-hand;
+}
+  where
+    go : (t q : ℕ) (b : Bool) → ltb t n ≡ b → t < suc n → 1 ≤ times q (ring (s .places) t) → InUse s q
+    go t q true e h k = sound .queued t q (ltb-true t n e) k
+    go t q false e h k = absurd (omega (arith, ap (times q) (sound .places .empty t (ltb-false t n e) (λ d. omega arith))))
+
+-- WRITE
+module _ (s : Strands) (n : ℕ) (held : List ℕ) (q : ℕ) (ready : Ready s n held q) (x : Strand) where
+  here : 1 ≤ times q (q ∷ held)
+  here = omega (arith, times-self q)
+
+  within : q < 256
+  within = omega (arith, ready .places .used q here, ready .places .rings .room)
+
+  use-here : Sound x → InUse (written q x s) q
+  use-here sound =
+      let a : getD (set (s .strands) q x) q unread-strand ≡ x = getD-set-same (s .strands) q x unread-strand (omega (arith, within, ready .long)) in
+      let b : getD (set (s .time) q (x .«last_pursued_time»)) q 0 ≡ x .«last_pursued_time» =
+      getD-set-same (s .time) q (x .«last_pursued_time») 0 (omega (arith, within, ready .long-time)) in
+      let c : getD (set (s .ambiguous) q (flag-number (x .ambiguous))) q 0 ≡ flag-number (x .ambiguous) =
+      getD-set-same (s .ambiguous) q (flag-number (x .ambiguous)) 0 (omega (arith, within, ready .long-ambiguous)) in
+      record {
+        sound = subst Sound (sym a) sound;
+        time = b ∙ ap (λ (y : Strand). y .«last_pursued_time») (sym a);
+        ambiguous = c ∙ ap (λ (y : Strand). flag-number (y .ambiguous)) (sym a);
+      }
+
+  use-there : (u : ℕ) → (u ≡ q → ⊥) → InUse s u → InUse (written q x s) u
+  use-there u d i =
+      let a : getD (set (s .strands) q x) u unread-strand ≡ getD (s .strands) u unread-strand = getD-set-other (s .strands) q u x unread-strand d in
+      record {
+        sound = subst Sound (sym a) (i .sound);
+        time = getD-set-other (s .time) q u (x .«last_pursued_time») 0 d ∙ i .time ∙ ap (λ (y : Strand). y .«last_pursued_time») (sym a);
+        ambiguous = getD-set-other (s .ambiguous) q u (flag-number (x .ambiguous)) 0 d ∙ i .ambiguous ∙ ap (λ (y : Strand). flag-number (y .ambiguous)) (sym a);
+      }
+
+  waits-away : (t u : ℕ) → 1 ≤ times u (ring (s .places) t) → u ≡ q → ⊥
+  waits-away t u k e = omega (arith, k, ap (λ (y : ℕ). times y (ring (s .places) t)) e, ready .places .apart q t here)
+
+  -- a sound strand is written at a place that is ready for it
+  pub written-sound : Sound x → SoundStrands (written q x s) n (q ∷ held)
+  written-sound sound = record {
+    places = ready .places;
+    long = length-set (s .strands) q x ∙ ready .long;
+    long-time = length-set (s .time) q (x .«last_pursued_time») ∙ ready .long-time;
+    long-ambiguous = length-set (s .ambiguous) q (flag-number (x .ambiguous)) ∙ ready .long-ambiguous;
+    queued = λ t u h k. use-there u (waits-away t u k) (ready .queued t u h k);
+    in-hand = λ u k. is-or-not q (λ v. 1 ≤ times v (q ∷ held) → InUse (written q x s) v)
+        (λ i. use-here sound)
+        (λ v d i. use-there v d (ready .in-hand v (times-cases v q held i (1 ≤ times v held) (λ e. absurd (d e)) (λ j. j)))) u k;
+  }
+
+-- a held place is ready for another strand
+pub held-ready : (s : Strands) (n : ℕ) (held : List ℕ) (q : ℕ) → SoundStrands s n (q ∷ held) → Ready s n held q
+held-ready s n held q sound = record {
+  places = sound .places;
+  long = sound .long;
+  long-time = sound .long-time;
+  long-ambiguous = sound .long-ambiguous;
+  queued = sound .queued;
+  in-hand = λ u k. sound .in-hand u (omega arith);
+}
+
+-- TAKE A PLACE
+pub freed-ready : (s : Strands) (n : ℕ) (held : List ℕ) → SoundStrands s n held → free-place (s .places) < 256
+    → Ready (freed-strands s) n held (free-place (s .places))
+freed-ready s n held sound h =
+    let f = freed-sound (s .places) n held (sound .places) h in
+    record {
+      places = f .sound;
+      long = sound .long;
+      long-time = sound .long-time;
+      long-ambiguous = sound .long-ambiguous;
+      queued = λ t u i k. in-use s (freed (s .places)) u (sound .queued t u i (subst (λ (l : List ℕ). 1 ≤ times u l) (f .same t i) k));
+      in-hand = λ u k. in-use s (freed (s .places)) u (sound .in-hand u k);
+    }
+
+-- ENQUEUE
+pub enqueue-sound : (s : Strands) (n : ℕ) (held : List ℕ) (t q : ℕ) → t < n → SoundStrands s n (q ∷ held) → SoundStrands (enqueued-strand t q s) n held
+enqueue-sound s n held t q h sound =
+    with-sound s n (q ∷ held) held (enqueued t q (s .places)) sound (enqueued-sound (s .places) n held q t h (sound .places))
+    (λ u x k i. is-or-not t (λ v. v < n → 1 ≤ times x (ring (enqueued t q (s .places)) v) → InUse s x)
+    (λ a b. own x (eqb x q) refl (rw own-ring at b))
+    (λ v d a b. sound .queued v x a (rw (enqueued-other (s .places) n held q t (sound .places) small v d) at b)) u k i)
+    (λ x k. sound .in-hand x (omega arith))
+  where
+    small : t < 256
+    small = omega (arith, sound .places .few)
+
+    own-ring : ring (enqueued t q (s .places)) t ≡ ring (s .places) t ++ (q ∷ [])
+    own-ring = enqueued-own (s .places) n held q t (sound .places) small
+
+    own : (x : ℕ) (b : Bool) → eqb x q ≡ b → 1 ≤ times x (ring (s .places) t ++ (q ∷ [])) → InUse s x
+    own x true e k = sound .in-hand x (omega (arith, ap one e))
+    own x false e k = sound .queued t x h (omega (arith, ap one e, times-append x (ring (s .places) t) (q ∷ [])))
+
+-- GIVE BACK
+pub given-strand-sound : (s : Strands) (n : ℕ) (held : List ℕ) (q : ℕ) → SoundStrands s n (q ∷ held) → SoundStrands (given q s) n held
+given-strand-sound s n held q sound =
+    with-sound s n (q ∷ held) held (enqueued free q (s .places)) sound (given-sound (s .places) n held q (sound .places))
+    (λ u x k i. sound .queued u x k (rw (given-other (s .places) n held q (sound .places) u k) at i))
+    (λ x k. sound .in-hand x (omega arith))
+
+-- TAKE the first eligible strand: its place is held
+module _ (s : Strands) (n : ℕ) (held : List ℕ) (t j : ℕ) (h : t < n) (sound : SoundStrands s n held) (there : j < length (ring (s .places) t)) where
+  small : t < 256
+  small = omega (arith, sound .places .few)
+
+  fewer : (x : ℕ) → times x (ring (taken-at t j (s .places)) t) ≤ times x (ring (s .places) t)
+  fewer x = rw (taken-own (s .places) n held t j (sound .places) small there) (omega (arith, times-out x (ring (s .places) t) j there))
+
+  pub taken-at-sound : SoundStrands (with-places s (taken-at t j (s .places))) n (getD (ring (s .places) t) j 0 ∷ held)
+  taken-at-sound =
+      with-sound s n held (getD (ring (s .places) t) j 0 ∷ held) (taken-at t j (s .places)) sound (taken-sound (s .places) n held t j h (sound .places) there)
+      (λ u x k i. is-or-not t (λ v. v < n → 1 ≤ times x (ring (taken-at t j (s .places)) v) → InUse s x)
+      (λ a b. sound .queued t x h (omega (arith, fewer x)))
+      (λ v d a b. sound .queued v x a (rw (taken-other (s .places) n held t j (sound .places) small there v d) at b)) u k i)
+      (λ x k. times-cases x (getD (ring (s .places) t) j 0) held k (InUse s x)
+      (λ e. subst (InUse s) (sym e) (sound .queued t (getD (ring (s .places) t) j 0) h (times-at (ring (s .places) t) j there)))
+      (λ i. sound .in-hand x i))
+
+-- TAKE ALL of a table's strands: their places are free
+pub cleared-sound : (s : Strands) (n : ℕ) (held : List ℕ) (t : ℕ) → t < n → SoundStrands s n held → SoundStrands (cleared t s) n held
+cleared-sound s n held t h sound =
+    with-sound s n held held (moved-to t free (s .places)) sound (moved-sound (s .places) n held t h (sound .places))
+    (λ u x k i. is-or-not t (λ v. v < n → 1 ≤ times x (ring (moved-to t free (s .places)) v) → InUse s x)
+    (λ a b. absurd (omega (arith, ap (times x) (moved-own (s .places) n held t h (sound .places)))))
+    (λ v d a b. sound .queued v x a (rw (moved-other (s .places) n held t h (sound .places) v (λ e. omega (arith, sound .places .few)) d) at b)) u k i)
+    (λ x k. sound .in-hand x k)
+
+-- BLANK
+blank-strands-of : (l : List Strand) → length l ≡ 256 → BlankStrands (record { strands = l; time = replicate 256 0; ambiguous = replicate 256 0; places = blank-places })
+blank-strands-of l long = record {
+  places = refl;
+  time = refl;
+  ambiguous = refl;
+  sound = record {
+    places = blank-places-sound;
+    long = long;
+    long-time = length-replicate {A = ℕ} 256 0;
+    long-ambiguous = length-replicate {A = ℕ} 256 0;
+    queued = λ t q h k. absurd (omega arith);
+    in-hand = λ q k. absurd (omega arith);
+  };
+}
+
+pub blank-strands : (x : Strand) (p : Places) → p ≡ blank-places → BlankStrands (record { strands = replicate 256 x; time = replicate 256 0; ambiguous = replicate 256 0; places = p })
+blank-strands x p e =
+    subst (λ (r : Places). BlankStrands (record { strands = replicate 256 x; time = replicate 256 0; ambiguous = replicate 256 0; places = r })) (sym e)
+    (blank-strands-of (replicate 256 x) (length-replicate 256 x))

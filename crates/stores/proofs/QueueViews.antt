@@ -1,0 +1,169 @@
+-- What the operations on the strand store do to the view of the tables: each is the definition's, at the one table that it names. From
+-- the theorems on places and the laws of spans.
+use Prim.Native.Nat.{ℕ, _<_}
+use native.Mathlib.Omega.{arith}
+use mathlib.Core.Path.{_≡_, refl, sym, ap, ap₂, subst, _∙_}
+use mathlib.Core.Bool.{Bool, true, false, not, _&&_}
+use mathlib.Core.Option.{Option, none, some}
+use mathlib.Core.List.{List, [], _∷_, map}
+use lib.ListN.{length, getD, set, length-map}
+use lib.Seq.{getD-set-same, getD-set-other}
+use lib.Dec.{eqb, ltb}
+use borrow.Author.Tests.{ltb-true}
+use Rattle.definitions.specs as said
+use Rattle.definitions.specs.Lists.{push, position, rotate-left}
+use Rattle.definitions.specs.Strand as said-strand
+use Rattle.definitions.specs.Table.{with-strands, enqueue-strand, take-strands, pop-front, dequeue-next-strand-that}
+use Rattle.definitions.specs.Turn as turns
+use Rattle.rings.specs.Lists.{first-index, times, turned}
+use Rattle.rings.proofs.Counts.{all-map, map-append, map-cong, absent-all}
+use Rattle.strands.specs.declared.Strand.{Strand}
+use Rattle.strands.specs.View.{view}
+use Rattle.stores.specs.declared.queue.Strands.{Strands}
+use Rattle.stores.specs.declared.table.Answers.{Answers}
+use Rattle.stores.specs.declared.tables.Tables.{Tables}
+use Rattle.stores.specs.Places.{ring, taken-at, taken-if, free-place, first-of}
+use Rattle.stores.specs.View.{unread-strand, strand-at, mode, held-table, tables}
+use Rattle.stores.specs.Numbers.{flag, flag-number, place-if}
+use Rattle.stores.specs.Sound.{SoundPlaces, InUse, SoundStrands}
+use Rattle.stores.specs.Queue.{with-places, strands-of, written, enqueued-strand, given, test-at, taken-strand, strand-place, any-strand, cleared, freed-strands}
+use Rattle.stores.proofs.ListsSpans.{span-same, span-set, first-if, position-is, first-map, first-cong, rotate-front, map-turned, map-at, all-times}
+use Rattle.stores.proofs.PlacesViews.{enqueued-own, enqueued-other, given-other, taken-own, taken-other}
+use Rattle.stores.proofs.PlacesCases.{freed-sound}
+use Rattle.stores.proofs.PlacesMoves.{moved-own, moved-other}
+
+-- THE LIST OF TABLES, when the strands of one change or of none
+module _ (ts : Tables) (a : Answers) (s s′ : Strands) where
+  pub tables-kept : ((u : ℕ) → u < ts .count → strands-of s′ u ≡ strands-of s u) → tables ts s′ a ≡ tables ts s a
+  tables-kept h = span-same (held-table ts s a) (held-table ts s′ a) (ts .count) (λ u k. ap (with-strands (held-table ts s a u)) (h u k))
+
+  pub tables-changed : (t : ℕ) → t < ts .count → ((u : ℕ) → u < ts .count → (u ≡ t → ⊥) → strands-of s′ u ≡ strands-of s u)
+      → tables ts s′ a ≡ set (tables ts s a) t (with-strands (held-table ts s a t) (strands-of s′ t))
+  tables-changed t h other =
+      span-set (held-table ts s a) (held-table ts s′ a) (ts .count) t h (λ u k d. ap (with-strands (held-table ts s a u)) (other u k d))
+
+-- WRITE at a place that waits nowhere
+pub written-here : (s : Strands) (q : ℕ) (x : Strand) → q < 256 → length (s .strands) ≡ 256 → strand-at (written q x s) q ≡ view x
+written-here s q x h long = ap view (getD-set-same (s .strands) q x unread-strand (omega arith))
+
+pub written-away : (s : Strands) (q : ℕ) (x : Strand) (u : ℕ) → (u ≡ q → ⊥) → strand-at (written q x s) u ≡ strand-at s u
+written-away s q x u d = ap view (getD-set-other (s .strands) q u x unread-strand d)
+
+pub written-queue : (s : Strands) (q : ℕ) (x : Strand) (t : ℕ) → times q (ring (s .places) t) ≡ 0 → strands-of (written q x s) t ≡ strands-of s t
+written-queue s q x t away =
+    map-cong (strand-at (written q x s)) (strand-at s) (ring (s .places) t) (all-map (λ u d. written-away s q x u d) (ring (s .places) t) (absent-all q (ring (s .places) t) away))
+
+-- ENQUEUE
+module _ (s : Strands) (n : ℕ) (held : List ℕ) (t q : ℕ) (h : t < n) (sound : SoundPlaces (s .places) n (q ∷ held)) where
+  small : t < 256
+  small = omega (arith, sound .few)
+
+  pub enqueue-own : strands-of (enqueued-strand t q s) t ≡ push (strands-of s t) (strand-at s q)
+  enqueue-own = ap (map (strand-at s)) (enqueued-own (s .places) n held q t sound small) ∙ map-append (strand-at s) (ring (s .places) t) (q ∷ [])
+
+  pub enqueue-other : (u : ℕ) → (u ≡ t → ⊥) → strands-of (enqueued-strand t q s) u ≡ strands-of s u
+  enqueue-other u d = ap (map (strand-at s)) (enqueued-other (s .places) n held q t sound small u d)
+
+  -- the definitions' `enqueue_strand`, at table t alone
+  pub enqueue-view : (ts : Tables) (a : Answers) → ts .count ≡ n
+      → tables ts (enqueued-strand t q s) a ≡ set (tables ts s a) t (enqueue-strand (strand-at s q) (held-table ts s a t))
+  enqueue-view ts a e =
+      tables-changed ts a s (enqueued-strand t q s) t (omega arith) (λ u k d. enqueue-other u d)
+      ∙ ap (λ (l : List said-strand.Strand). set (tables ts s a) t (with-strands (held-table ts s a t) l)) enqueue-own
+
+-- GIVE BACK, and a place taken: no queue changes
+pub given-view : (ts : Tables) (a : Answers) (s : Strands) (held : List ℕ) (q : ℕ) → SoundPlaces (s .places) (ts .count) (q ∷ held)
+    → tables ts (given q s) a ≡ tables ts s a
+given-view ts a s held q sound =
+    tables-kept ts a s (given q s) (λ u k. ap (map (strand-at s)) (given-other (s .places) (ts .count) held q sound u k))
+
+pub freed-view : (ts : Tables) (a : Answers) (s : Strands) (held : List ℕ) → SoundPlaces (s .places) (ts .count) held → free-place (s .places) < 256
+    → tables ts (freed-strands s) a ≡ tables ts s a
+freed-view ts a s held sound h =
+    tables-kept ts a s (freed-strands s) (λ u k. ap (map (strand-at s)) (freed-sound (s .places) (ts .count) held sound h .same u k))
+
+-- TAKE ALL
+pub cleared-view : (ts : Tables) (a : Answers) (s : Strands) (held : List ℕ) (t : ℕ) → t < ts .count → SoundPlaces (s .places) (ts .count) held
+    → tables ts (cleared t s) a ≡ set (tables ts s a) t (take-strands (held-table ts s a t))
+cleared-view ts a s held t h sound =
+    tables-changed ts a s (cleared t s) t h (λ u k d. ap (map (strand-at s)) (moved-other (s .places) (ts .count) held t h sound u (λ e. omega (arith, sound .few)) d))
+    ∙ ap (λ (l : List ℕ). set (tables ts s a) t (with-strands (held-table ts s a t) (map (strand-at s) l))) (moved-own (s .places) (ts .count) held t h sound)
+
+-- TAKE THE FIRST ELIGIBLE. The numbers beside the strands test as the strands do.
+flag-of : (b : Bool) → not (eqb (flag-number b) 0) ≡ b
+flag-of true = refl
+flag-of false = refl
+
+is-mode : (k : ℕ) → said.is-complete (mode k) ≡ flag k
+is-mode k = go (flag k)
+  where
+    go : (b : Bool) → said.is-complete (elim b [ true ↦ said.Complete | false ↦ said.Ambiguous ]) ≡ b
+    go true = refl
+    go false = refl
+
+pub test-is : (s : Strands) (clock k q : ℕ) → InUse s q → test-at clock (flag k) s q ≡ turns.eligible clock (mode k) (strand-at s q)
+test-is s clock k q u =
+    ap₂ (λ (x y : ℕ). ltb x clock && not (flag k && not (eqb y 0))) (u .time) (u .ambiguous)
+    ∙ ap₂ (λ (b c : Bool). ltb (strand-at s q .last-pursued-time) clock && not (b && c)) (sym (is-mode k)) (flag-of (getD (s .strands) q unread-strand .ambiguous))
+
+module _ (ts : Tables) (a : Answers) (s : Strands) (held : List ℕ) (t clock : ℕ) (h : t < ts .count) (sound : SoundStrands s (ts .count) held) where
+  abbrev complete : Bool
+  complete = flag (getD (ts .complete) t 0)
+
+  abbrev test : said-strand.Strand → Bool
+  test = turns.eligible clock (mode (getD (ts .complete) t 0))
+
+  abbrev places : List ℕ
+  places = ring (s .places) t
+
+  abbrev j : ℕ
+  j = first-of (test-at clock complete s) t (s .places)
+
+  first-is : first-index test (strands-of s t) ≡ j
+  first-is = first-map test (strand-at s) places
+      ∙ sym (first-cong (test-at clock complete s) (λ q. test (strand-at s q)) places
+      (all-times (λ q. test-at clock complete s q ≡ test (strand-at s q)) places (λ q k. test-is s clock (getD (ts .complete) t 0) q (sound .queued t q h k))))
+
+  found : (b : Bool) → any-strand clock complete t s ≡ b → position test (strands-of s t) ≡ first-if b j
+  found b e = position-is test (strands-of s t) ∙ ap₂ (λ (i m : ℕ). first-if (ltb i m) i) first-is (length-map places (strand-at s)) ∙ ap (λ (c : Bool). first-if c j) e
+
+  -- none where none is found
+  pub taken-none : any-strand clock complete t s ≡ false → dequeue-next-strand-that test (held-table ts s a t) ≡ none
+  taken-none e =
+      ap (λ (o : Option ℕ). elim o [ none ↦ none | some first ↦ pop-front (with-strands (held-table ts s a t) (rotate-left (strands-of s t) first)) ]) (found false e)
+
+  module _ (e : any-strand clock complete t s ≡ true) where
+    there : j < length places
+    there = ltb-true j (length places) e
+
+    taken-is : taken-strand clock complete t s ≡ with-places s (taken-at t j (s .places))
+    taken-is = ap (λ (b : Bool). with-places s (taken-if b t j (s .places))) e
+
+    pub place-is : strand-place clock complete t s ≡ getD (ring (s .places) t) (first-of (test-at clock complete s) t (s .places)) 0
+    place-is = ap (λ (b : Bool). place-if b (getD places j 0)) e
+
+    fits : t < 256
+    fits = omega (arith, sound .places .few)
+
+    own : strands-of (with-places s (taken-at t j (s .places))) t ≡ turned j (strands-of s t)
+    own = ap (map (strand-at s)) (taken-own (s .places) (ts .count) held t j (sound .places) fits there) ∙ map-turned (strand-at s) j places
+
+    other : (u : ℕ) → (u ≡ t → ⊥) → strands-of (with-places s (taken-at t j (s .places))) u ≡ strands-of s u
+    other u d = ap (map (strand-at s)) (taken-other (s .places) (ts .count) held t j (sound .places) fits there u d)
+
+    -- what the queue gives, and what it leaves: those behind, and then those before
+    pub taken-view : dequeue-next-strand-that test (held-table ts s a t) ≡ some (strand-at s (strand-place clock complete t s), held-table ts (taken-strand clock complete t s) a t)
+    taken-view =
+        let l : List said-strand.Strand = strands-of s t in
+        let d : said-strand.Strand = strand-at s 256 in
+        let k : j < length l = omega (arith, there, length-map places (strand-at s)) in
+        let f : rotate-left l j ≡ strand-at s (getD places j 0) ∷ turned j l = rotate-front l j d k ∙ ap (λ (x : said-strand.Strand). x ∷ turned j l) (map-at (strand-at s) places j 0 d there) in
+        ap (λ (o : Option ℕ). elim o [ none ↦ none | some first ↦ pop-front (with-strands (held-table ts s a t) (rotate-left l first)) ]) (found true e)
+        ∙ ap (λ (m : List said-strand.Strand). pop-front (with-strands (held-table ts s a t) m)) f
+        ∙ ap₂ (λ (x : said-strand.Strand) (m : List said-strand.Strand). some (x, with-strands (held-table ts s a t) m)) (ap (strand-at s) (sym place-is))
+        (sym own ∙ ap (λ (r : Strands). strands-of r t) (sym taken-is))
+
+    -- no other table changes
+    pub taken-tables : tables ts (taken-strand clock complete t s) a ≡ set (tables ts s a) t (held-table ts (taken-strand clock complete t s) a t)
+    taken-tables = subst (λ (r : Strands). tables ts r a ≡ set (tables ts s a) t (held-table ts r a t)) (sym taken-is)
+        (tables-changed ts a s (with-places s (taken-at t j (s .places))) t h (λ u k d. other u d))

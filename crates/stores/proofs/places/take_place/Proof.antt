@@ -1,0 +1,33 @@
+-- `take_place` meets its contract: each way out cites its case.
+use Rattle.stores.proofs.PlacesCases.{took-free, took-fresh, took-none}
+use borrow.Author.Needs.{needs}
+use Rattle.stores.proofs.places.take_place.Statement.{statement}
+use Rattle.stores.proofs.places.take_place.Tie as tie
+
+element-copy-out-if1 : tie.Need-element-copy-out-if1
+element-copy-out-if1 c = search needs
+
+ring-pop-requires : tie.Need-ring-pop-requires
+ring-pop-requires c κs = search needs
+
+returns : tie.Need-returns
+returns c =
+    let a = c .before .before .before .before .before .args in
+    took-free (a .next .now) (a .tail .now) (a .len .now) (a .top .now) (search needs) (c .ring-pop .last .0) (c .ring-pop .last .1 .1 .0) (c .ring-pop .result) (c .ring-pop .ensures)
+
+add-top : tie.Need-add-top
+add-top c = search needs
+
+returns-2 : tie.Need-returns-2
+returns-2 c =
+    let a = c .before .before .before .before .args in
+    took-fresh (a .next .now) (a .tail .now) (a .len .now) (a .top .now) (search needs) (search needs)
+
+returns-3 : tie.Need-returns-3
+returns-3 c =
+    let a = c .before .before .before .before .args in
+    took-none (a .next .now) (a .tail .now) (a .len .now) (a .top .now) (search needs) (search needs)
+
+pub take-place-spec : {M : Type 1} → statement M
+take-place-spec =
+    tie.close (tie.spec element-copy-out-if1 ring-pop-requires returns add-top returns-2 returns-3)
