@@ -1,7 +1,11 @@
--- Laws on lists, and for each file of src/ the facts over variables that its functions' proofs cite.
+-- Laws on lists; for each file of src/ the facts over variables that its functions' proofs cite (Cases), and what its models mean and
+-- keep (Views).
 pub mod Lists
+pub mod FieldViews
 pub mod LiteralCases
+pub mod LiteralViews
 pub mod FlounderCases
+pub mod FlounderViews
 pub mod DelayCases
 pub mod MergeCases
 pub mod MakeCases
