@@ -8,7 +8,6 @@ use lib.ListN.{length}
 use lib.Seq.{sets}
 use borrow.Author.Tests.{lt-ltb, le-ltb}
 use Rattle.strands.specs.declared.Strand.{Strand}
-use Rattle.strands.specs.declared.delaying.Delayed.{Delayed}
 use Rattle.strands.specs.Delaying.{held, delay-by, delay-goals}
 use Rattle.strands.specs.Fields.{with-delayed}
 

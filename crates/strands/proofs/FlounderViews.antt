@@ -1,6 +1,6 @@
 -- Floundering and reconsidering mean what the definitions do at the last literal and at each index; nothing but the clause changes, and
 -- soundness is kept.
-use Prim.Native.Nat.{ℕ, zero, suc, _+_, _-_, _≤_, _<_, min}
+use Prim.Native.Nat.{ℕ, zero, suc, _-_, _≤_, _<_, min}
 use native.Mathlib.Nat.{min-eq-left}
 use native.Mathlib.Omega.{arith}
 use mathlib.Core.Bool.{Bool, true, false}
@@ -8,8 +8,8 @@ use mathlib.Core.List.{List}
 use mathlib.Core.Option.{Option, none, some}
 use mathlib.Core.Path.{_≡_, refl, sym, ap, ap₂, _∙_}
 use lib.Dec.{eqb, leb, ltb}
-use lib.ListN.{length, getD, getElem?, set, length-set}
-use borrow.Author.Tests.{ltb-true, ltb-false, leb-true, leb-false, lt-ltb, le-ltb, eqb-false}
+use lib.ListN.{length, getD, getElem?, length-set}
+use borrow.Author.Tests.{ltb-true, leb-true, leb-false, lt-ltb, le-ltb, eqb-false}
 use Rattle.definitions.specs as said
 use Rattle.definitions.specs.Book as books
 use Rattle.definitions.specs.Lists.{push, remove, swap-remove}
@@ -20,7 +20,7 @@ use Rattle.definitions.specs.Strand.{with-floundered}
 use Rattle.book.specs.View.{meant}
 use Rattle.strands.specs.declared.Strand.{Strand}
 use Rattle.strands.specs.Fields.{no-literal, no-floundered}
-use Rattle.strands.specs.Floundering.{last-aside, set-aside, flounder-by, flounder, taken-back, reconsider-by, reconsider-at, reconsider-down, reconsider}
+use Rattle.strands.specs.Floundering.{last-aside, flounder-by, flounder, taken-back, reconsider-by, reconsider-at, reconsider-down, reconsider}
 use Rattle.strands.specs.View.{Sound, clause, floundered, Kept}
 use Rattle.strands.proofs.FieldViews.{kept-on}
 use Rattle.strands.proofs.FlounderCases.{flounder-last}

@@ -7,6 +7,10 @@ pub mod LiteralViews
 pub mod FlounderCases
 pub mod FlounderViews
 pub mod DelayCases
+pub mod DelayViews
 pub mod MergeCases
+pub mod MergeViews
 pub mod MakeCases
+pub mod MakeViews
 pub mod AnswerCases
+pub mod AnswerViews

@@ -1,5 +1,5 @@
 -- The loop of `other_than`: what is kept so far is what the definition keeps of the goals passed.
-use Prim.Native.Nat.{ℕ, _-_, _≤_}
+use Prim.Native.Nat.{_-_, _≤_}
 use native.Mathlib.Omega.{arith}
 use mathlib.Core.Path.{_≡_, _∙_}
 use lib.ListN.{length, take, getD, length-set}

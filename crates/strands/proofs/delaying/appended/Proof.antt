@@ -1,7 +1,6 @@
 -- The loop of `appended`: the first i of the other array are written.
-use Prim.Native.Nat.{ℕ, _+_, _-_, _≤_}
+use Prim.Native.Nat.{_+_, _-_, _≤_}
 use native.Mathlib.Omega.{arith}
-use mathlib.Core.List.{List}
 use mathlib.Core.Path.{_≡_, refl, _∙_}
 use lib.ListN.{length, take, getD, length-set}
 use lib.Seq.{sets}

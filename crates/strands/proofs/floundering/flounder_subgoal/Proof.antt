@@ -1,5 +1,4 @@
 -- `flounder_subgoal` is its model at each way out.
-use native.Mathlib.Omega.{arith}
 use mathlib.Core.Path.{sym}
 use borrow.Author.Needs.{needs}
 use Rattle.strands.proofs.FlounderCases.{flounder-none, flounder-many, flounder-full, flounder-last}

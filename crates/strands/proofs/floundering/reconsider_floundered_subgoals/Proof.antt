@@ -1,5 +1,5 @@
 -- The loop from the end: what is left to do for the strand in hand is what there was to do for the one at the start.
-use mathlib.Core.Path.{_≡_, sym, ap, _∙_}
+use mathlib.Core.Path.{_≡_, ap, _∙_}
 use Prim.Native.Nat.{ℕ, _-_}
 use borrow.Author.Needs.{needs}
 use Rattle.strands.specs.declared.Strand.{Strand}

@@ -1,16 +1,10 @@
 -- `create_refinement_strand` is its model at both ways out: the goals within the array are those that the view shows.
-use Prim.Native.Nat.{ℕ}
-use mathlib.Core.Bool.{true, false}
-use mathlib.Core.List.{List}
-use mathlib.Core.Path.{_≡_, sym, ap, ap₂, _∙_}
+use mathlib.Core.Bool.{false}
+use mathlib.Core.Path.{_≡_, sym, ap, _∙_}
 use lib.ListN.{length}
 use borrow.Author.Needs.{needs}
-use Rattle.book.specs.declared.Literal.{Literal}
 use Rattle.strands.specs.declared.Strand.{Strand}
-use Rattle.strands.specs.declared.making.Refinement.{Refinement}
-use Rattle.strands.specs.Making.{new-strand, positives}
-use Rattle.strands.proofs.Lists.{shown}
-use Rattle.strands.proofs.MakeCases.{refine-none, refine-some}
+use Rattle.strands.proofs.MakeCases.{refine-none, says-refined}
 use Rattle.strands.proofs.making.create_refinement_strand.Statement.{statement}
 use Rattle.strands.proofs.making.create_refinement_strand.Tie as tie
 
@@ -45,12 +39,8 @@ returns-2 c =
     let n = called .within in
     let some-delayed = called .before in
     let start = some-delayed .before .before in
-    let a = start .args .a in
-    ap (λ (s : Strand). record { made = true; strand = s })
-    (c .new-strand .ensures
-    ∙ ap₂ (λ (ls : List Literal) (k : ℕ). new-strand (a .variant) false (a .ambiguous) ls k)
-    (made .ensures ∙ ap positives (shown 8 (a .«delayed_count») (n .result) (a .delayed) (answer-long start) (n .ensures))) (n .ensures))
-    ∙ sym (refine-some a (some-delayed .if1 .left))
+    says-refined (start .args .a) (n .result) (made .result) (c .new-strand .result) (answer-long start) (n .ensures) (some-delayed .if1 .left)
+    (made .ensures) (c .new-strand .ensures)
 
 pub create-refinement-strand-spec : {M : Type 1} → statement M
 create-refinement-strand-spec =

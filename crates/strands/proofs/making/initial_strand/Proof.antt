@@ -1,9 +1,6 @@
 -- The strand is made with the count kept within the array.
-use Prim.Native.Nat.{ℕ}
-use mathlib.Core.Path.{ap, _∙_}
 use borrow.Author.Needs.{needs}
-use Rattle.definitions.specs.Book.{bit0, bit1}
-use Rattle.strands.specs.Making.{new-strand}
+use Rattle.strands.proofs.MakeCases.{says-initial}
 use Rattle.strands.proofs.making.initial_strand.Statement.{statement}
 use Rattle.strands.proofs.making.initial_strand.Tie as tie
 
@@ -19,8 +16,8 @@ new-strand-requires c κs = search needs
 returns : tie.Need-returns
 returns c =
     let a = c .before .before .args in
-    c .new-strand .ensures
-    ∙ ap (λ (n : ℕ). new-strand (a .variant) (bit1 (a .flags)) (bit0 (a .flags)) (a .literals) n) (c .before .within .ensures)
+    says-initial (a .variant) (a .flags) (a .literals) (a .count) (c .before .within .result) (c .new-strand .result) (c .before .within .ensures)
+    (c .new-strand .ensures)
 
 pub initial-strand-spec : {M : Type 1} → statement M
 initial-strand-spec =

@@ -4,7 +4,6 @@ use mathlib.Core.Path.{refl, sym, ap, _∙_}
 use borrow.Author.Needs.{needs}
 use borrow.Author.Tests.{ne-eqb}
 use Rattle.strands.specs.declared.Strand.{Strand}
-use Rattle.strands.specs.declared.delaying.Delayed.{Delayed}
 use Rattle.strands.proofs.MergeCases.{take-none, says-taken}
 use Rattle.strands.proofs.merging.take_answer.Statement.{statement}
 use Rattle.strands.proofs.merging.take_answer.Tie as tie
