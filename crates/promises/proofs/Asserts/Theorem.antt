@@ -22,6 +22,7 @@ use Rattle.promises.proofs.Asserts.Safe.{true-false, NotZero, case-safe
 use Rattle.promises.proofs.Asserts.Lists.{at-place}
 use Rattle.promises.proofs.Asserts.Sound.{Reached, SoundForest}
 use Rattle.promises.proofs.Asserts.Making.{makes}
+use Rattle.promises.proofs.Asserts.Returning.{passes-find}
 use Rattle.promises.proofs.Asserts.Unwinding.{Ended}
 use Rattle.promises.proofs.Asserts.Searches.{Fine, Well, mark-kept, root-answers}
 use Rattle.promises.proofs.Asserts.Peeks.{PeekWell, peeks-well}
@@ -122,4 +123,7 @@ forests-sound n [] f s = tt
 forests-sound n (c ∷ cs) f s = let r = call-keeps f s c in (r .1, forests-sound n cs (call f c .1) (r .1))
 
 pub never-asserts : NeverAsserts
-never-asserts bytes limit f e cs = calls-keep (length (f .book)) cs f (made-sound bytes limit f e)
+never-asserts = record {
+  in-calls = λ bytes limit f e cs. calls-keep (length (f .book)) cs f (made-sound bytes limit f e);
+  in-reconsidering = λ x. passes-find (length (x .floundered-subgoals)) x (omega arith);
+}
