@@ -28,24 +28,25 @@ make bytes limit = elim (read bytes) [
 abbrev pub is-marked : Forest → Bool
 is-marked f = not (eqb (f .mark) 0)
 
--- `iter_answers`, its first statement: the goal's table, or stop 22, which marks
+-- `iter_answers`, its first statement: the goal's table, or stop 22, which marks. `others` are the live strands that are in no queue.
 pub record Opened : Type 0 where
   pub table : Stops TableIndex
   pub forest : Forest
 
-abbrev pub opened : Forest → (goal : ℕ) → Opened
-opened f goal = elim (get-or-create-table-for-ucanonical-goal 0 f goal) [
+abbrev pub opened : (others : ℕ) → Forest → (goal : ℕ) → Opened
+opened others f goal = elim (get-or-create-table-for-ucanonical-goal others f goal) [
   | stop n ↦ record { table = stop n; forest = with-mark f n }
   | go r ↦ record { table = go (r .0); forest = r .1 }
 ]
 
+-- between calls every live strand is in a queue
 abbrev pub open-goal : Forest → (goal : ℕ) → Refusable Opened
 open-goal f goal =
     unless
     (is-marked f refuses 20
     ∷ leb (length (f .book)) goal refuses 9
     ∷ [])
-    (opened f goal)
+    (opened 0 f goal)
 
 -- no table with this index is made
 abbrev pub not-made : Forest → ℕ → Bool

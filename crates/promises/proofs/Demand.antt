@@ -33,7 +33,7 @@ use Rattle.promises.proofs.Link.Calls.{The, Betw, Left, goes-on, is-ove
 
 module _ (f : Forest) (marked : is-marked f ≡ true) where
   marked-open : (g : ℕ) → call f (opens g) ≡ (refusal 20, f)
-  marked-open g = ap (λ o. elim o [ refused n ↦ (refusal n, f) | accepted r ↦ (table (r .table), r .forest) ]) (unless-stop (is-marked f refuses 20) (leb (length (f .book)) g refuses 9 ∷ []) (opened f g) marked)
+  marked-open g = ap (λ o. elim o [ refused n ↦ (refusal n, f) | accepted r ↦ (table (r .table), r .forest) ]) (unless-stop (is-marked f refuses 20) (leb (length (f .book)) g refuses 9 ∷ []) (opened 0 f g) marked)
 
   marked-search : (t i n : ℕ) → call f (searches t i n) ≡ (refusal 20, f)
   marked-search t i n = ap (λ o. elim o [ refused n ↦ (refusal n, f) | accepted r ↦ (searched (r .ending) (r .turns), r .forest) ])

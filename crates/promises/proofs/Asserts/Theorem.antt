@@ -57,7 +57,7 @@ abbrev Answered : (n : ℕ) → Reply × Forest → Type 0
 Answered n r = Quiet (r .0) × SoundForest n (r .1)
 
 module _ {n : ℕ} (f : Forest) (s : SoundForest n f) where
-  opened-well : (goal : ℕ) → goal < n → QuietStop (opened f goal .table) × SoundForest n (opened f goal .forest)
+  opened-well : (goal : ℕ) → goal < n → QuietStop (opened 0 f goal .table) × SoundForest n (opened 0 f goal .forest)
   opened-well goal lt = case-safe (λ (o : Opened). QuietStop (o .table) × SoundForest n (o .forest)) (makes s 0 goal (let o = s .few-strands in omega arith) lt)
       (λ m z. (z, mark-kept m s .sound))
       (λ r x. (tt, x .kept .sound))
@@ -65,7 +65,7 @@ module _ {n : ℕ} (f : Forest) (s : SoundForest n f) where
   opens-well : (goal : ℕ) (o : Refusable Opened) → open-goal f goal ≡ o → Answered n (elim o [ refused m ↦ (refusal m, f) | accepted r ↦ (table (r .table), r .forest) ])
   opens-well goal (refused m) e = (tt, s)
   opens-well goal (accepted r) e =
-      let a = all-pass (is-marked f refuses 20 ∷ leb (length (f .book)) goal refuses 9 ∷ []) (opened f goal) r e in
+      let a = all-pass (is-marked f refuses 20 ∷ leb (length (f .book)) goal refuses 9 ∷ []) (opened 0 f goal) r e in
       let lt = leb-false (length (f .book)) goal (a .0 .1 .0) in
       let same = s .goals in
       subst (λ o. QuietStop (o .table) × SoundForest n (o .forest)) (a .1) (opened-well goal (omega arith))

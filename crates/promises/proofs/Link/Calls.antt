@@ -174,7 +174,7 @@ module _ {book : Book} (sound : Sound book) (limit : ℕ) (level : ℕ → ℕ) 
     open-not-20 b n (inr (inl (e, k))) q = omega arith
     open-not-20 b n (inr (inr x)) q = x
 
-    opening : (g : ℕ) (o : Refusable Opened) → Comes (is-marked F refuses 20 ∷ leb (length book) g refuses 9 ∷ []) (opened F g) o
+    opening : (g : ℕ) (o : Refusable Opened) → Comes (is-marked F refuses 20 ∷ leb (length book) g refuses 9 ∷ []) (opened 0 F g) o
         → (s : Reply × Forest) → s ≡ elim o [ refused n ↦ (refusal n, F) | accepted r ↦ (table (r .table), r .forest) ] → CallOK p (opens g) (s .0) (s .1)
     opening g (refused k) (turned-down x) s e = subst (λ (z : Reply × Forest). CallOK p (opens g) (z .0) (z .1)) (sym e) (record { says = open-not-20 (leb (length book) g) k x; left = stays (refusal k) refl refl })
     opening g (accepted R) (let-through x) s e =
@@ -185,7 +185,7 @@ module _ {book : Book} (sound : Sound book) (limit : ℕ) (level : ℕ → ℕ) 
         (record { says = tt; left = goes-on (M.make p g) refl (between-at (m .agree) (made-ready g)) (omega arith) }))
 
     call-open : (g : ℕ) → CallOK p (opens g) (call F (opens g) .0) (call F (opens g) .1)
-    call-open g = opening g (open-goal F g) (comes (is-marked F refuses 20 ∷ leb (length book) g refuses 9 ∷ []) (opened F g)) (call F (opens g)) refl
+    call-open g = opening g (open-goal F g) (comes (is-marked F refuses 20 ∷ leb (length book) g refuses 9 ∷ []) (opened 0 F g)) (call F (opens g)) refl
 
     asking : (t i v : ℕ) (o : Refusable Bool) (s : Reply × Forest) → s ≡ elim o [ refused n ↦ (refusal n, F) | accepted b ↦ (future b, F) ] → CallOK p (asks-future t i v) (s .0) (s .1)
     asking t i v (refused n) s e = subst (λ (z : Reply × Forest). CallOK p (asks-future t i v) (z .0) (z .1)) (sym e) (record { says = tt; left = stays (refusal n) refl refl })
