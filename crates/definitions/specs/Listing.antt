@@ -69,7 +69,7 @@ list-from (suc more) goal t i f =
 -- one goal: it is opened, then peeked at
 abbrev pub list-goal : (goal : ℕ) → Forest → Listed
 list-goal goal f =
-    let o = opened f goal in
+    let o = opened 0 f goal in
     elim (o .table) [
       | stop n ↦ record { lines = line goal 0 (stopped n) ∷ []; stops = true; forest = o .forest }
       | go t ↦ list-from 257 goal t 0 (o .forest)
