@@ -15,9 +15,10 @@ use Rattle.definitions.specs.Strand.{Strand}
 use Rattle.definitions.specs.Table.{Table, enqueue-strand, answer, next-answer-index}
 use Rattle.definitions.specs.Tables.{Tables, Forest, with-mark, with-tables, table-at, change-table, increment-clock}
 use Rattle.definitions.specs.Stack.{Stack}
-use Rattle.definitions.specs.Logic.{SolveState, with-forest, Flow, continue, return-ok, return-err, unwind-callers, drop-state}
+use Rattle.definitions.specs.Logic.{RootSearchFail, SolveState, with-forest, Flow, continue, return-ok, return-err}
+use Rattle.definitions.specs.Logic.{unwind-callers, drop-state}
 use Rattle.definitions.specs.Turn.{Ending, found, fail, cut, stopped, Searched}
-use Rattle.definitions.specs.Turn.{put-back, stored-answer, turn, search-turns, begin, root-answer}
+use Rattle.definitions.specs.Turn.{put-back, stored-answer, ok-ending, turn, search-turns, begin, root-answer}
 use Rattle.definitions.specs.Forest.{Peeked, is-invalid, is-exceeded, skip-invalid, peek-rounds}
 use Rattle.promises.proofs.Link.Tables.{same-some}
 use Rattle.promises.proofs.Asserts.Safe.{false-true, case-option, case-bool, case-stops, stop-go, unwrapped}
@@ -91,6 +92,14 @@ drop-keeps f (e ∷ es) = case-option (KeepsAnswers f) (e .active-strand)
 
 -- A search.
 
+module _ {B : Type 0} (P : B → Type 0) where
+  case-flow : (flow : Flow) {x y : SolveState → B} {z : RootSearchFail → SolveState → B} →
+      ((s : SolveState) → P (x s)) → ((s : SolveState) → P (y s)) → ((e : RootSearchFail) (s : SolveState) → P (z e s)) →
+      P (elim flow [ continue s ↦ x s | return-ok s ↦ y s | return-err e s ↦ z e s ])
+  case-flow (continue s) p q r = p s
+  case-flow (return-ok s) p q r = q s
+  case-flow (return-err e s) p q r = r e s
+
 module _ (root index : ℕ) where
   abbrev StoredIn : Forest → Ending → Type 0
   StoredIn f e = is-found e ≡ true → index < answers-at f root
@@ -112,21 +121,17 @@ module _ (root index : ℕ) where
       (λ n e q. false-true q)
       (λ f e q. let same = subst (KeepsAnswers (s .forest)) e (drop-keeps (s .forest) (s .stack)) root in let o = x q in omega arith)
 
-  on-flow : (limit done : ℕ) → ((s : SolveState) → Stored (search-turns limit (suc done) root index s)) →
-      (flow : Flow) → Stored (elim flow [
-        | continue s′ ↦ search-turns limit (suc done) root index s′
-        | return-ok s′ ↦ put-back (stored-answer (s′ .forest) root index) (suc done) s′
-        | return-err e s′ ↦ put-back (fail e) (suc done) s′
-      ])
-  on-flow limit done ih (continue s) = ih s
-  on-flow limit done ih (return-ok s) = puts-stored (stored-answer (s .forest) root index) (suc done) s (stored-there (s .forest))
-  on-flow limit done ih (return-err e s) = puts-stored (fail e) (suc done) s (λ q. false-true q)
+  ok-stored : (s : SolveState) → StoredIn (s .forest) (ok-ending s root index)
+  ok-stored s = case-bool (StoredIn (s .forest)) (is-empty (s .stack)) (λ b. stored-there (s .forest)) (λ b q. false-true q)
 
   turns-stored : (limit done : ℕ) (s : SolveState) → Stored (search-turns limit done root index s)
   turns-stored zero done s = puts-stored cut done s (λ q. false-true q)
   turns-stored (suc limit) done s = case-stops Stored (turn s)
       (λ n e. puts-stored (stopped n) done (with-forest s (with-mark (s .forest) n)) (λ q. false-true q))
-      (λ flow e. on-flow limit done (turns-stored limit (suc done)) flow)
+      (λ flow e. case-flow Stored flow
+      (λ s′. turns-stored limit (suc done) s′)
+      (λ s′. puts-stored (ok-ending s′ root index) (suc done) s′ (ok-stored s′))
+      (λ r s′. puts-stored (fail r) (suc done) s′ (λ q. false-true q)))
 
   begin-stored : (limit : ℕ) (f : Forest) → Stored (begin limit root index f)
   begin-stored limit f = case-stops Stored (increment-clock f) (λ n e q. false-true q) (λ g e. turns-stored limit 0 _)
