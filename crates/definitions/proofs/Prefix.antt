@@ -1,9 +1,9 @@
--- How a byte string is read is settled by its first 16,384 bytes (`read-take`, at the end): a program that reads no more of an input
--- than that gives every input its number or its book.
+-- How a byte string is read is settled by its first 16,384 bytes (`read-take`): a program that reads no more of an input than that
+-- gives every input its number or its book. And a book that is written has at most 13,441 (`write-short`, at the end).
 --
 -- A book so far has room for so many bytes of commands (`room`), and each command that is accepted takes at least its own bytes of it.
 -- So a command that is refused, or the end, comes while bytes enough are left to settle it. Assumes nothing.
-use Prim.Native.Nat.{ℕ, zero, suc, _+_, _-_, _*_, _<_, _≤_}
+use Prim.Native.Nat.{ℕ, zero, suc, _+_, _-_, _*_, _/_, _%_, _<_, _≤_}
 use native.Mathlib.Omega.{arith}
 use native.Mathlib.Decide.{decLe}
 use mathlib.Core.Bool.{Bool, true, false, not}
@@ -17,7 +17,8 @@ use Rattle.definitions.specs.Refusal.{Refusable, refused, accepted, _ref
 use Rattle.definitions.specs.Book.{Literal, Positive, Negative, Clause, Goal, Book, clause-count, byte, u16, bit0, bit1}
 use Rattle.definitions.specs.Book.{Command, goal, clause, positive, negative, end, unknown, command, width, is-end}
 use Rattle.definitions.specs.Book.{with-clauses, add-clause, add-to-last, add-literal, last-literals, literals-so-far, goals-name}
-use Rattle.definitions.specs.Book.{literal-command, apply-command, whole-command, read-from, read}
+use Rattle.definitions.specs.Book.{literal-command, apply-command, whole-command, read-from, read, largest-book, read-ahead}
+use Rattle.definitions.specs.Book.{flag, write-literals, write-clauses, write-goals, write, ClausesWithin, GoalsWithin, Within}
 use Rattle.definitions.proofs.RoundTrip.{clause-count-append, whole-apply}
 
 -- Cases that can't be.
@@ -240,12 +241,39 @@ prefix (b ∷ bs) more zero book h =
     ∙ by-result (command b) bs more book (whole-command (command b) bs book) (omega arith) refl
     (λ next k. prefix bs more (width (command b)) next k)
 
-long-enough : (bytes : List ℕ) → Dec (16384 ≤ length bytes) → read (take 16384 bytes) ≡ read bytes
+long-enough : (bytes : List ℕ) → Dec (read-ahead ≤ length bytes) → read (take read-ahead bytes) ≡ read bytes
 long-enough bytes (yes h) =
-    let full : length (take 16384 bytes) ≡ 16384 = length-take-le 16384 bytes h in
-    sym (prefix (take 16384 bytes) (drop 16384 bytes) 0 [] (omega arith))
-    ∙ ap read (take-append-drop 16384 bytes)
-long-enough bytes (no h) = ap read (take-all 16384 bytes (omega arith))
+    let full : length (take read-ahead bytes) ≡ read-ahead = length-take-le read-ahead bytes h in
+    sym (prefix (take read-ahead bytes) (drop read-ahead bytes) 0 [] (omega arith))
+    ∙ ap read (take-append-drop read-ahead bytes)
+long-enough bytes (no h) = ap read (take-all read-ahead bytes (omega arith))
 
-pub read-take : (bytes : List ℕ) → read (take 16384 bytes) ≡ read bytes
-read-take bytes = long-enough bytes (decLe 16384 (length bytes))
+pub read-take : (bytes : List ℕ) → read (take read-ahead bytes) ≡ read bytes
+read-take bytes = long-enough bytes (decLe read-ahead (length bytes))
+
+-- A book that is written has at most the bytes of the largest.
+
+literals-short : (ls : List Literal) → length (write-literals ls) ≤ 6 * length ls
+literals-short [] = omega arith
+literals-short (Positive g want outsized ∷ ls) = omega (arith, literals-short ls)
+literals-short (Negative g outsized ∷ ls) = omega (arith, literals-short ls)
+
+clauses-short : (goals : ℕ) (cs : List Clause) → ClausesWithin goals cs → length (write-clauses cs) ≤ 52 * length cs
+clauses-short goals [] w = omega arith
+clauses-short goals (c ∷ cs) w =
+    let few = w .0 .few-literals in
+    let flags = flag (c .cannot-prove) + 2 * flag (c .outsized) in
+    let head : List ℕ = 0x43 ∷ c .variant % 256 ∷ c .variant / 256 ∷ flags ∷ write-literals (c .literals) in
+    omega (arith, length-append head (write-clauses cs), literals-short (c .literals), clauses-short goals cs (w .1))
+
+goals-short : (goals : ℕ) (gs : List Goal) → GoalsWithin goals gs → length (write-goals gs) ≤ 2 * length gs + 52 * clause-count gs
+goals-short goals [] w = omega arith
+goals-short goals (g ∷ gs) w =
+    let head : List ℕ = 0x47 ∷ (flag (g .coinductive) + 2 * flag (g .floundered)) ∷ write-clauses (g .clauses) in
+    omega (arith, length-append head (write-goals gs), clauses-short goals (g .clauses) (w .0), goals-short goals gs (w .1))
+
+pub write-short : (book : Book) → Within book → length (write book) ≤ largest-book
+write-short book w =
+    let few-goals = w .few-goals in
+    let few-clauses = w .few-clauses in
+    omega (arith, length-append (write-goals book) (0x45 ∷ []), goals-short (length book) book (w .clauses-fit))

@@ -71,6 +71,21 @@ width negative = 3
 width end = 0
 width unknown = 0
 
+-- the bytes of a command and its operands
+abbrev pub command-bytes : Command → ℕ
+command-bytes c = suc (width c)
+
+-- the bytes of the largest book: all its goals and clauses, each clause with all its literals, and the end
+abbrev pub largest-book : ℕ
+largest-book =
+    most-goals * command-bytes goal
+    + most-clauses * (command-bytes clause + most-literals * command-bytes positive)
+    + command-bytes end
+
+-- how many bytes of an input a program reads: more than any book has, and enough to settle how any input is read
+abbrev pub read-ahead : ℕ
+read-ahead = 16384
+
 abbrev pub byte : List ℕ → ℕ → ℕ
 byte bs i = getD bs i 0
 

@@ -1,5 +1,5 @@
 -- A list of calls (document 01, (e)): each gets the forest as the call before it left it, a refused one unchanged.
-use Prim.Native.Nat.{ℕ}
+use Prim.Native.Nat.{ℕ, _-_}
 use mathlib.Core.Bool.{Bool}
 use mathlib.Core.List.{List, [], _∷_}
 use Rattle.definitions.specs.{TableIndex}
@@ -7,7 +7,7 @@ use Rattle.definitions.specs.Refusal.{refused, accepted}
 use Rattle.definitions.specs.Stop.{Stops}
 use Rattle.definitions.specs.Tables.{Forest}
 use Rattle.definitions.specs.Turn.{Ending}
-use Rattle.definitions.specs.Forest.{open-goal, search, peek, any-future-answer}
+use Rattle.definitions.specs.Forest.{open-goal, search, peek, SearchMade, peek-searches, most-passes, any-future-answer}
 
 pub data Call : Type 0 where
   opens : (goal : ℕ) → Call
@@ -32,12 +32,23 @@ call f (peeks t i rounds limit) = elim (peek f t i rounds limit) [
 ]
 call f (asks-future t i v) = elim (any-future-answer f t i v) [ refused n ↦ (refusal n, f) | accepted b ↦ (future b, f) ]
 
--- the calls, each with its reply and the forest that it left
+-- the searches that a call makes: a search is its own, a peek makes those of its loop, and a call that is refused makes none
+abbrev pub searches-made : Forest → Call → List SearchMade
+searches-made f (opens g) = []
+searches-made f (searches t i limit) = elim (search f t i limit) [ refused n ↦ [] | accepted r ↦ record { index = i; result = r } ∷ [] ]
+searches-made f (peeks t i rounds limit) = elim (peek f t i rounds limit) [
+  | refused n ↦ []
+  | accepted r ↦ peek-searches (most-passes rounds) (rounds - 1) limit t i f
+]
+searches-made f (asks-future t i v) = []
+
+-- the calls, each with the forest that it got, its reply and the forest that it left
 pub record Called : Type 0 where
   pub asked : Call
+  pub before : Forest
   pub reply : Reply
   pub forest : Forest
 
 abbrev pub calls : Forest → List Call → List Called
 calls f [] = []
-calls f (c ∷ cs) = let r = call f c in record { asked = c; reply = r .0; forest = r .1 } ∷ calls (r .1) cs
+calls f (c ∷ cs) = let r = call f c in record { asked = c; before = f; reply = r .0; forest = r .1 } ∷ calls (r .1) cs

@@ -103,7 +103,8 @@ cases =
     ∷ listed p3 (ascii "0 0 yes 0\n0 1 none\n1 1 none\n")
     ∷ replied p3 1000000
     (opens 1 ∷ peeks 0 0 1000 10000 ∷ peeks 0 1 1000 10000 ∷ opens 0 ∷ peeks 1 0 1000 10000 ∷ [])
-    (table (go 0) ∷ peeked (found (yes-answer 0)) 0 5 0 ∷ peeked (fail NoMoreSolutions) 1 1 0 ∷ table (go 1) ∷ peeked (fail NoMoreSolutions) 1 1 0 ∷ [])
+    (table (go 0) ∷ peeked (found (yes-answer 0)) 0 5 0 ∷ peeked (fail NoMoreSolutions) 1 1 0
+    ∷ table (go 1) ∷ peeked (fail NoMoreSolutions) 1 1 0 ∷ [])
     -- p4
     ∷ listed (write (coinductive (one-rule (pos 1) ∷ []) ∷ coinductive (one-rule (pos 0) ∷ []) ∷ inductive (one-rule (neg 1) ∷ []) ∷ []))
     (ascii "0 0 yes 0\n0 1 none\n1 1 none\n2 0 stop 27\n")
@@ -118,7 +119,8 @@ cases =
     (ascii "0 0 yes 2\n0 1 maybe 0\n0 2 none\n1 0 maybe 1\n1 1 stop 26\n")
     -- p8: four turns; cut at three, the second search takes one; clock limit 1
     ∷ replied p8 1000000 (opens 0 ∷ searches 0 0 100 ∷ []) (table (go 0) ∷ searched (found (yes-answer 0)) 4 ∷ [])
-    ∷ replied p8 1000000 (opens 0 ∷ searches 0 0 3 ∷ searches 0 0 100 ∷ []) (table (go 0) ∷ searched cut 3 ∷ searched (found (yes-answer 0)) 1 ∷ [])
+    ∷ replied p8 1000000 (opens 0 ∷ searches 0 0 3 ∷ searches 0 0 100 ∷ [])
+    (table (go 0) ∷ searched cut 3 ∷ searched (found (yes-answer 0)) 1 ∷ [])
     ∷ replied p8 1 (opens 0 ∷ searches 0 0 100 ∷ searches 0 0 100 ∷ []) (table (go 0) ∷ searched (stopped 21) 0 ∷ refusal 20 ∷ [])
     -- p9
     ∷ listed [] (ascii "refused 1\n")

@@ -2,17 +2,20 @@
 use Prim.Native.Nat.{ℕ, _+_, _≤_}
 use mathlib.Core.Path.{_≡_}
 use mathlib.Core.Bool.{Bool, true, false, _||_}
+use mathlib.Core.Logic.{_⊎_}
 use mathlib.Core.List.{List, [], _∷_}
 use lib.ListN.{length}
 use Rattle.definitions.specs.{TableIndex}
 use Rattle.definitions.specs.Refusal.{accepted}
 use Rattle.definitions.specs.Stop.{Stops, stop, go}
+use Rattle.definitions.specs.Lists.{push}
 use Rattle.definitions.specs.Book.{clause-count}
 use Rattle.definitions.specs.Tables.{Forest}
 use Rattle.definitions.specs.Logic.{NoMoreSolutions, Floundered, QuantumExceeded, NegativeCycle, InvalidAnswer}
 use Rattle.definitions.specs.Turn.{Ending, found, fail, cut, stopped}
-use Rattle.definitions.specs.Forest.{make, Opened, open-goal, is-exceeded}
-use Rattle.definitions.specs.Calls.{Call, opens, searches, peeks, asks-future, Reply, refusal, table, searched, peeked, future, Called, calls}
+use Rattle.definitions.specs.Forest.{make, Opened, open-goal, is-exceeded, SearchMade}
+use Rattle.definitions.specs.Calls.{Call, opens, searches, peeks, asks-future, Reply, refusal, table, searched, peeked, future}
+use Rattle.definitions.specs.Calls.{searches-made, Called, calls}
 use Rattle.definitions.specs.Model.{Plain, Levelled, In}
 
 -- "An answer or 'no more solutions' of a search or peek names the goal whose open, right after that call, would give the same table."
@@ -23,46 +26,35 @@ Names f t goal = (r : Opened) × (open-goal f goal ≡ accepted r) × (r .table 
 abbrev pub Named : Forest → TableIndex → (ℕ → Type 0) → Type 0
 Named f t Is = ((goal : ℕ) × Names f t goal) × ((goal : ℕ) → Names f t goal → Is goal)
 
--- What the ending of a search or peek for table t says, at the index asked for, with a peek the one at which it ended; f is the forest
--- that the call left. Every answer is in the model and unambiguous; every "no more solutions" at index 0 is not in it; nothing is
--- floundered, cyclic or invalid; 21 is the only stop, and comes only with the clock at its limit.
-abbrev pub EndingSays : (ℕ → Type 0) → Forest → TableIndex → (index : ℕ) → Ending → Type 0
-EndingSays I f t i (found a) = (a .ambiguous ≡ false) × Named f t I
-EndingSays I f t i (fail NoMoreSolutions) = i ≡ 0 → Named f t (λ goal. I goal → ⊥)
-EndingSays I f t i (fail Floundered) = ⊥
-EndingSays I f t i (fail QuantumExceeded) = Unit {0}
-EndingSays I f t i (fail NegativeCycle) = ⊥
-EndingSays I f t i (fail InvalidAnswer) = ⊥
-EndingSays I f t i cut = Unit {0}
-EndingSays I f t i (stopped n) = (n ≡ 21) × (f .clock ≡ f .clock-limit)
+-- The searches that ended in QuantumExceeded.
 
--- A refusal says nothing, but that 20 comes only on a marked forest.
-abbrev pub RefusalSays : (number : ℕ) → Type 0
-RefusalSays n = n ≡ 20 → ⊥
+abbrev pub one-if : Bool → ℕ
+one-if true = 1
+one-if false = 0
+
+abbrev pub exceeded-among : List SearchMade → ℕ
+exceeded-among [] = 0
+exceeded-among (s ∷ ss) = one-if (is-exceeded (s .result .ending)) + exceeded-among ss
+
+-- What a peek tells is read off the searches that it made: ending, turns and forest are the last one's and the index is the one that it
+-- asked for; the count is how many of them ended in QuantumExceeded.
+pub record ReadOff (made : List SearchMade) (f : Forest) (e : Ending) (i turns k : ℕ) : Type 0 where
+  pub earlier : List SearchMade
+  pub made-are : made ≡ push earlier (record { index = i; result = record { ending = e; turns = turns; forest = f } })
+  pub count-is : k ≡ exceeded-among made
+
+-- A refusal on a forest that no stop has marked: an open is refused by 9 alone, a search or a peek by 10, 11 or 12.
+
+abbrev pub OpenRefused : (number : ℕ) → Type 0
+OpenRefused n = n ≡ 9
+
+abbrev pub SearchRefused : (number : ℕ) → Type 0
+SearchRefused n = (n ≡ 10) ⊎ (n ≡ 11) ⊎ (n ≡ 12)
 
 -- an open never stops
 abbrev pub OpenSays : Stops TableIndex → Type 0
 OpenSays (stop n) = ⊥
 OpenSays (go t) = Unit {0}
-
--- What the reply of a call says, on a forest that no stop has marked. Of the reply of `any_future_answer` nothing is said.
-abbrev pub ReplySays : (ℕ → Type 0) → Forest → Call → Reply → Type 0
-ReplySays I f (opens goal) (refusal n) = RefusalSays n
-ReplySays I f (opens goal) (table t) = OpenSays t
-ReplySays I f (opens goal) (searched e turns) = ⊥
-ReplySays I f (opens goal) (peeked e i turns k) = ⊥
-ReplySays I f (opens goal) (future b) = ⊥
-ReplySays I f (searches t i limit) (refusal n) = RefusalSays n
-ReplySays I f (searches t i limit) (table t′) = ⊥
-ReplySays I f (searches t i limit) (searched e turns) = EndingSays I f t i e
-ReplySays I f (searches t i limit) (peeked e i′ turns k) = ⊥
-ReplySays I f (searches t i limit) (future b) = ⊥
-ReplySays I f (peeks t i rounds limit) (refusal n) = RefusalSays n
-ReplySays I f (peeks t i rounds limit) (table t′) = ⊥
-ReplySays I f (peeks t i rounds limit) (searched e turns) = ⊥
-ReplySays I f (peeks t i rounds limit) (peeked e i′ turns k) = EndingSays I f t i′ e
-ReplySays I f (peeks t i rounds limit) (future b) = ⊥
-ReplySays I f (asks-future t i v) r = Unit {0}
 
 -- After the stop every open, search and peek gets 20.
 abbrev pub MarkedSays : Call → Reply → Type 0
@@ -88,32 +80,55 @@ reply-stopped (searched e turns) = is-stopped e
 reply-stopped (peeked e i turns k) = is-stopped e
 reply-stopped (future b) = false
 
--- one call, on a forest that is marked or not
-abbrev pub CallSays : (ℕ → Type 0) → (marked : Bool) → Called → Type 0
-CallSays I true c = MarkedSays (c .asked) (c .reply)
-CallSays I false c = ReplySays I (c .forest) (c .asked) (c .reply)
+-- `I` are the goals that are in the model, and `clock-limit` is the limit given at making.
+module _ (I : ℕ → Type 0) (clock-limit : ℕ) where
+  -- What the ending of a search or peek for table t says, at the index asked for, with a peek the one at which it ended; f is the forest
+  -- that the call left. Every answer is in the model and unambiguous; every "no more solutions" at index 0 is not in it; nothing is
+  -- floundered, cyclic or invalid; 21 is the only stop, and comes only with the clock at its limit.
+  abbrev pub EndingSays : Forest → TableIndex → (index : ℕ) → Ending → Type 0
+  EndingSays f t i (found a) = (a .ambiguous ≡ false) × Named f t I
+  EndingSays f t i (fail NoMoreSolutions) = i ≡ 0 → Named f t (λ goal. I goal → ⊥)
+  EndingSays f t i (fail Floundered) = ⊥
+  EndingSays f t i (fail QuantumExceeded) = Unit {0}
+  EndingSays f t i (fail NegativeCycle) = ⊥
+  EndingSays f t i (fail InvalidAnswer) = ⊥
+  EndingSays f t i cut = Unit {0}
+  EndingSays f t i (stopped n) = (n ≡ 21) × (f .clock ≡ clock-limit)
 
--- every call of the list
-abbrev pub AllSay : (ℕ → Type 0) → (marked : Bool) → List Called → Type 0
-AllSay I marked [] = Unit {0}
-AllSay I marked (c ∷ cs) = CallSays I marked c × AllSay I (marked || reply-stopped (c .reply)) cs
+  -- What the reply of a call says, on a forest that no stop has marked; `made` are the searches that the call made. Of the reply of
+  -- `any_future_answer` nothing is said.
+  abbrev pub ReplySays : (made : List SearchMade) → Forest → Call → Reply → Type 0
+  ReplySays made f (opens goal) (refusal n) = OpenRefused n
+  ReplySays made f (opens goal) (table t) = OpenSays t
+  ReplySays made f (opens goal) (searched e turns) = ⊥
+  ReplySays made f (opens goal) (peeked e i turns k) = ⊥
+  ReplySays made f (opens goal) (future b) = ⊥
+  ReplySays made f (searches t i limit) (refusal n) = SearchRefused n
+  ReplySays made f (searches t i limit) (table t′) = ⊥
+  ReplySays made f (searches t i limit) (searched e turns) = EndingSays f t i e
+  ReplySays made f (searches t i limit) (peeked e i′ turns k) = ⊥
+  ReplySays made f (searches t i limit) (future b) = ⊥
+  ReplySays made f (peeks t i rounds limit) (refusal n) = SearchRefused n
+  ReplySays made f (peeks t i rounds limit) (table t′) = ⊥
+  ReplySays made f (peeks t i rounds limit) (searched e turns) = ⊥
+  ReplySays made f (peeks t i rounds limit) (peeked e i′ turns k) = EndingSays f t i′ e × ReadOff made f e i′ turns k
+  ReplySays made f (peeks t i rounds limit) (future b) = ⊥
+  ReplySays made f (asks-future t i v) r = Unit {0}
 
--- The searches that ended in QuantumExceeded: each search in the list, and each that a peek makes, whatever the peek then says.
+  -- one call, on a forest that is marked or not
+  abbrev pub CallSays : (marked : Bool) → Called → Type 0
+  CallSays true c = MarkedSays (c .asked) (c .reply)
+  CallSays false c = ReplySays (searches-made (c .before) (c .asked)) (c .forest) (c .asked) (c .reply)
 
-abbrev pub one-if : Bool → ℕ
-one-if true = 1
-one-if false = 0
+  -- every call of the list
+  abbrev pub AllSay : (marked : Bool) → List Called → Type 0
+  AllSay marked [] = Unit {0}
+  AllSay marked (c ∷ cs) = CallSays marked c × AllSay (marked || reply-stopped (c .reply)) cs
 
-abbrev pub exceeded-in : Reply → ℕ
-exceeded-in (refusal n) = 0
-exceeded-in (table t) = 0
-exceeded-in (searched e turns) = one-if (is-exceeded e)
-exceeded-in (peeked e i turns k) = k
-exceeded-in (future b) = 0
-
+-- the searches that ended in QuantumExceeded: each search in the list, and each that a peek made, whatever the peek then said
 abbrev pub exceeded : List Called → ℕ
 exceeded [] = 0
-exceeded (c ∷ cs) = exceeded-in (c .reply) + exceeded cs
+exceeded (c ∷ cs) = exceeded-among (searches-made (c .before) (c .asked)) + exceeded cs
 
 -- Demand 3: for every byte string that makes a forest with this clock limit, every levelling of its book and every list of calls.
 -- Goals and clauses are those in the book's bytes.
@@ -122,4 +137,4 @@ Demand3 =
     (bytes : List ℕ) (clock-limit : ℕ) (f : Forest) → make bytes clock-limit ≡ accepted f →
     (level : ℕ → ℕ) → Plain (f .book) → Levelled (f .book) level →
     (cs : List Call) →
-    AllSay (In (f .book) level) false (calls f cs) × (exceeded (calls f cs) ≤ length (f .book) + clause-count (f .book))
+    AllSay (In (f .book) level) clock-limit false (calls f cs) × (exceeded (calls f cs) ≤ length (f .book) + clause-count (f .book))

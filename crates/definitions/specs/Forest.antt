@@ -1,6 +1,6 @@
 -- forest.rs: what can be called. A forest is made from a book's bytes; goals are opened, tables searched and peeked at. Each call
 -- is refused by the first test that fails and then changes nothing, or gives its result and the forest that it leaves.
-use Prim.Native.Nat.{ℕ, zero, suc, _-_}
+use Prim.Native.Nat.{ℕ, zero, suc, _-_, _*_}
 use mathlib.Core.Bool.{Bool, true, false, not, _&&_, _||_}
 use mathlib.Core.Option.{none, some}
 use mathlib.Core.List.{List, [], _∷_}
@@ -11,6 +11,7 @@ use Rattle.definitions.specs.Book.{read}
 use Rattle.definitions.specs.Refusal.{Refusable, refused, accepted, _refuses_, unless}
 use Rattle.definitions.specs.Stop.{Stops, stop, go}
 use Rattle.definitions.specs.Lists.{any-passes}
+use Rattle.definitions.specs.Table.{most-answers}
 use Rattle.definitions.specs.Tables.{Forest, with-mark}
 use Rattle.definitions.specs.Logic.{NoMoreSolutions, Floundered, QuantumExceeded, NegativeCycle, InvalidAnswer, get-or-create-table-for-ucanonical-goal}
 use Rattle.definitions.specs.Turn.{Ending, found, fail, cut, stopped, Searched, root-answer}
@@ -28,24 +29,25 @@ make bytes limit = elim (read bytes) [
 abbrev pub is-marked : Forest → Bool
 is-marked f = not (eqb (f .mark) 0)
 
--- `iter_answers`, its first statement: the goal's table, or stop 22, which marks
+-- `iter_answers`, its first statement: the goal's table, or stop 22, which marks. `others` are the live strands that are in no queue.
 pub record Opened : Type 0 where
   pub table : Stops TableIndex
   pub forest : Forest
 
-abbrev pub opened : Forest → (goal : ℕ) → Opened
-opened f goal = elim (get-or-create-table-for-ucanonical-goal 0 f goal) [
+abbrev pub opened : (others : ℕ) → Forest → (goal : ℕ) → Opened
+opened others f goal = elim (get-or-create-table-for-ucanonical-goal others f goal) [
   | stop n ↦ record { table = stop n; forest = with-mark f n }
   | go r ↦ record { table = go (r .0); forest = r .1 }
 ]
 
+-- between calls every live strand is in a queue
 abbrev pub open-goal : Forest → (goal : ℕ) → Refusable Opened
 open-goal f goal =
     unless
     (is-marked f refuses 20
     ∷ leb (length (f .book)) goal refuses 9
     ∷ [])
-    (opened f goal)
+    (opened 0 f goal)
 
 -- no table with this index is made
 abbrev pub not-made : Forest → ℕ → Bool
@@ -139,6 +141,34 @@ peek f t i rounds limit =
     ∷ (eqb rounds 0 || eqb limit 0) refuses 12
     ∷ [])
     (peek-rounds (rounds - 1) limit 0 t i f)
+
+-- A search that was made: the index asked for, and what came of it.
+pub record SearchMade : Type 0 where
+  pub index : ℕ
+  pub result : Searched
+
+-- The searches that `peek_answer` makes, one in each pass of its loop; what follows one is told by the Rust's `match`. `more` are the
+-- rounds after this one. The first number bounds the passes.
+abbrev pub peek-searches : ℕ → (more limit : ℕ) → TableIndex → (index : ℕ) → Forest → List SearchMade
+peek-searches zero more limit t i f = []
+peek-searches (suc passes) more limit t i f =
+    let r = root-answer limit t i f in
+    record { index = i; result = r } ∷ elim (r .ending) [
+      | found a ↦ []
+      | fail e ↦ elim e [
+        | InvalidAnswer ↦ peek-searches passes more limit t (suc i) (r .forest)
+        | Floundered ↦ []
+        | NoMoreSolutions ↦ []
+        | QuantumExceeded ↦ elim more [ zero ↦ [] | suc fewer ↦ peek-searches passes fewer limit t i (r .forest) ]
+        | NegativeCycle ↦ []
+      ]
+      | cut ↦ []
+      | stopped n ↦ []
+    ]
+
+-- how many passes a peek has at most: a round ends with the first answer that is not invalid, and at most 256 are held together
+abbrev pub most-passes : (rounds : ℕ) → ℕ
+most-passes rounds = rounds * suc most-answers
 
 -- `any_future_answer`: the answers stored from the index on, then the queue, tested for one variant
 abbrev pub future : Forest → (table index variant : ℕ) → Bool

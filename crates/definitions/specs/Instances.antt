@@ -10,11 +10,12 @@ use Rattle.definitions.specs.Refusal.{accepted}
 use Rattle.definitions.specs.Stop.{go}
 use Rattle.definitions.specs.Book.{Clause, Book, write}
 use Rattle.definitions.specs.Tables.{Forest}
-use Rattle.definitions.specs.Logic.{NoMoreSolutions, QuantumExceeded}
-use Rattle.definitions.specs.Turn.{found, fail, cut, stopped}
-use Rattle.definitions.specs.Forest.{make}
-use Rattle.definitions.specs.Calls.{Call, opens, searches, peeks, asks-future, Reply, refusal, table, searched, peeked, future, Called, calls}
-use Rattle.definitions.specs.Cases.{pos, neg, rule, fact, one-rule, inductive, yes-answer}
+use Rattle.definitions.specs.Logic.{NoMoreSolutions, QuantumExceeded, InvalidAnswer}
+use Rattle.definitions.specs.Turn.{Ending, found, fail, cut, stopped}
+use Rattle.definitions.specs.Forest.{make, SearchMade}
+use Rattle.definitions.specs.Calls.{Call, opens, searches, peeks, asks-future, Reply, refusal, table, searched, peeked, future}
+use Rattle.definitions.specs.Calls.{searches-made, Called, calls}
+use Rattle.definitions.specs.Cases.{pos, neg, rule, fact, one-rule, inductive, coinductive, yes-answer}
 use Rattle.definitions.specs.Model.{Plain, Each, LevelLiteral, Levelled}
 use Rattle.definitions.specs.Claim.{AllSay, exceeded}
 
@@ -23,6 +24,10 @@ just-made book limit = record { book = book; clock-limit = limit; mark = 0; tabl
 
 abbrev pub replies-of : List Called → List Reply
 replies-of cs = map (λ (c : Called). c .reply) cs
+
+-- the searches that each call made: the index asked for, and the ending
+abbrev pub searches-of : List Called → List (List (ℕ × Ending))
+searches-of cs = map (λ (c : Called). map (λ (s : SearchMade). (s .index, s .result .ending)) (searches-made (c .before) (c .asked))) cs
 
 -- First book: `0 :- 1, not 2`, `1` a fact, `2 :- 2`.
 
@@ -69,17 +74,24 @@ pub first-replies :
     ∷ refusal 9 ∷ refusal 10 ∷ refusal 11 ∷ refusal 12 ∷ future true ∷ []
 first-replies = refl
 
+-- the peek at goal 0 searched twice
+pub first-searches :
+    searches-of (calls (just-made first-book 1000) first-calls)
+    ≡ [] ∷ ((0, cut) ∷ []) ∷ ((0, fail QuantumExceeded) ∷ []) ∷ ((0, fail QuantumExceeded) ∷ (0, found (yes-answer 0)) ∷ [])
+    ∷ [] ∷ ((0, fail NoMoreSolutions) ∷ []) ∷ [] ∷ [] ∷ [] ∷ [] ∷ [] ∷ []
+first-searches = refl
+
 -- two of six
 pub first-exceeded : exceeded (calls (just-made first-book 1000) first-calls) ≡ 2
 first-exceeded = refl
 
 -- were no goal in the model, the claim would be false of these calls
-pub not-of-none : AllSay (λ goal. ⊥) false (calls (just-made first-book 1000) first-calls) → ⊥
-not-of-none said = said .1 .1 .1 .0 .1 .1 0 (_, refl, refl)
+pub not-of-none : AllSay (λ goal. ⊥) 1000 false (calls (just-made first-book 1000) first-calls) → ⊥
+not-of-none said = said .1 .1 .1 .0 .0 .1 .1 0 (_, refl, refl)
 
 -- and so it would, were every goal in it
-pub not-of-all : AllSay (λ goal. Unit {0}) false (calls (just-made first-book 1000) first-calls) → ⊥
-not-of-all said = said .1 .1 .1 .1 .1 .0 refl .1 2 (_, refl, refl) tt
+pub not-of-all : AllSay (λ goal. Unit {0}) 1000 false (calls (just-made first-book 1000) first-calls) → ⊥
+not-of-all said = said .1 .1 .1 .1 .1 .0 .0 refl .1 2 (_, refl, refl) tt
 
 -- Second book: `0 :- 0`, where as many searches end in QuantumExceeded as there are goals and clauses.
 
@@ -99,3 +111,16 @@ pub second-stops :
     replies-of (calls (just-made second-book 1) (opens 0 ∷ searches 0 0 100 ∷ searches 0 0 100 ∷ opens 0 ∷ asks-future 0 0 0 ∷ []))
     ≡ table (go 0) ∷ searched (fail QuantumExceeded) 2 ∷ searched (stopped 21) 0 ∷ refusal 20 ∷ future true ∷ []
 second-stops = refl
+
+-- Third book, not a plain one: p3 of document 01, where a peek meets an invalid answer and goes on to the next index.
+
+abbrev pub third-book : Book
+third-book = coinductive (one-rule (pos 1) ∷ []) ∷ coinductive (one-rule (pos 0) ∷ []) ∷ []
+
+abbrev pub third-calls : List Call
+third-calls = opens 0 ∷ peeks 0 0 10 100 ∷ opens 1 ∷ peeks 1 0 10 100 ∷ []
+
+pub third-searches :
+    searches-of (calls (just-made third-book 1000) third-calls)
+    ≡ [] ∷ ((0, found (yes-answer 0)) ∷ []) ∷ [] ∷ ((0, fail InvalidAnswer) ∷ (1, fail NoMoreSolutions) ∷ []) ∷ []
+third-searches = refl

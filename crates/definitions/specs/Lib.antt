@@ -22,6 +22,7 @@ pub mod Calls
 pub mod Ascii
 pub mod Listing
 pub mod Cases
+pub mod MoreCases
 pub mod Model
 pub mod Claim
 pub mod Instances

@@ -91,7 +91,8 @@ flounder-subgoal x i = do
   literal ← unwrap (getElem? (x .subgoals) i)
   go (with-floundered x (remove (x .subgoals) i) (push (x .floundered-subgoals) (record { floundered-literal = literal; floundered-time = x .answer-time })))
 
--- the loop of `reconsider_floundered_subgoals`, at index i - 1 and down to 0
+-- The loop of `reconsider_floundered_subgoals`, at index i - 1 and down to 0. Each pass finds its literal, on any clause (`NeverAsserts` of
+-- the promises): where none is found the Rust would panic.
 abbrev pub reconsider-from : ℕ → ExClause → ExClause
 reconsider-from zero x = x
 reconsider-from (suc i) x = elim (getElem? (x .floundered-subgoals) i) [

@@ -299,7 +299,7 @@ put-back ending turns s = elim (drop-state s) [
   | go f ↦ record { ending = ending; turns = turns; forest = f }
 ]
 
--- the end of `root_answer`: an answer with delayed goals is invalid
+-- the answer that `root_answer` gives: one with delayed goals is invalid
 abbrev pub stored-answer : Forest → TableIndex → (index : ℕ) → Ending
 stored-answer f t i = elim (table-at f t >>= λ table. unwrap (answer table i)) [
   | stop n ↦ stopped n
@@ -309,6 +309,10 @@ stored-answer f t i = elim (table-at f t >>= λ table. unwrap (answer table i)) 
   ]
 ]
 
+-- the Ok arm of `root_answer`: its assert that the stack is empty, then the stored answer
+abbrev pub ok-ending : SolveState → TableIndex → (index : ℕ) → Ending
+ok-ending s t i = elim (is-empty (s .stack)) [ true ↦ stored-answer (s .forest) t i | false ↦ stopped 0 ]
+
 -- The loop of `ensure_root_answer` for at most `limit` turns, of which `done` went before. After that many without a result the
 -- search is cut. A stop undoes its turn, puts the search back and marks the forest; the turn that it undoes isn't counted.
 abbrev pub search-turns : (limit done : ℕ) → TableIndex → (index : ℕ) → SolveState → Searched
@@ -317,7 +321,7 @@ search-turns (suc limit) done t i s = elim (turn s) [
   | stop n ↦ put-back (stopped n) done (with-forest s (with-mark (s .forest) n))
   | go flow ↦ elim flow [
     | continue s′ ↦ search-turns limit (suc done) t i s′
-    | return-ok s′ ↦ put-back (stored-answer (s′ .forest) t i) (suc done) s′
+    | return-ok s′ ↦ put-back (ok-ending s′ t i) (suc done) s′
     | return-err e s′ ↦ put-back (fail e) (suc done) s′
   ]
 ]
@@ -336,7 +340,7 @@ root-answer limit t i f = elim (table-at f t) [
   | go table ↦ elim (table .floundered) [
     | true ↦ record { ending = fail Floundered; turns = 0; forest = f }
     | false ↦ elim (answer table i) [
-      | some a ↦ record { ending = stored-answer f t i; turns = 0; forest = f }
+      | some a ↦ record { ending = ok-ending (record { forest = f; stack = [] }) t i; turns = 0; forest = f }
       | none ↦ elim (eqb (next-answer-index table) i) [
         | true ↦ begin limit t i f
         | false ↦ record { ending = stopped 0; turns = 0; forest = f }

@@ -83,11 +83,11 @@ left-by n = getD (map (λ (c : Called). c .forest) (calls forest asked)) n fores
 
 -- so goal 0 is in the model
 pub zero-in : In book level 0
-zero-in = demand-3 bytes 1000 forest made level plain levelled asked .0 .1 .0 .1 .1 0 (opened (left-by 1) 0, refl, refl)
+zero-in = demand-3 bytes 1000 forest made level plain levelled asked .0 .1 .0 .0 .1 .1 0 (opened 0 (left-by 1) 0, refl, refl)
 
 -- and goal 2 is not
 pub two-out : In book level 2 → ⊥
-two-out = demand-3 bytes 1000 forest made level plain levelled asked .0 .1 .1 .1 .0 refl .1 2 (opened (left-by 3) 2, refl, refl)
+two-out = demand-3 bytes 1000 forest made level plain levelled asked .0 .1 .1 .1 .0 .0 refl .1 2 (opened 0 (left-by 3) 2, refl, refl)
 
 -- 0 :- 0
 

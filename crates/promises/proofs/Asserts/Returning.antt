@@ -1,9 +1,9 @@
--- Floundering a literal, and reconsidering the floundered ones: those return whose time is below the strand's answer time, and of
--- the others none is left that could return.
-use Prim.Native.Nat.{ℕ, zero, suc, _+_, _<_}
+-- Floundering a literal, and reconsidering the floundered ones: each pass finds its literal, those return whose time is below the
+-- strand's answer time, and of the others none is left that could return.
+use Prim.Native.Nat.{ℕ, zero, suc, _+_, _≤_, _<_}
 use native.Mathlib.Omega.{arith}
 use mathlib.Core.Path.{_≡_, refl, ap}
-use mathlib.Core.Bool.{true, false}
+use mathlib.Core.Bool.{Bool, true, false}
 use mathlib.Core.Option.{some}
 use mathlib.Core.List.{List, [], _∷_, _++_}
 use lib.ListN.{length, getElem?, take, length-append}
@@ -12,6 +12,7 @@ use Rattle.definitions.specs.{ExClause, FlounderedSubgoal}
 use Rattle.definitions.specs.Lists.{total, push, swap-remove}
 use Rattle.definitions.specs.Strand.{with-floundered}
 use Rattle.definitions.specs.Logic.{flounder-subgoal, reconsider-from, reconsider-floundered-subgoals}
+use Rattle.promises.specs.NeverAsserts.{PassesFind}
 use Rattle.promises.proofs.Link.Tests.{ltb-no}
 use Rattle.promises.proofs.Asserts.Safe.{Safe, goes, known, unwraps, case-option, case-bool}
 use Rattle.promises.proofs.Asserts.Lists.{all-at, all-push, all-remove, all-swap-remove, at-place, remove-length, total-append, total-length, take-whole, take-next, take-none, swapped}
@@ -41,6 +42,31 @@ flounders {n} {x} s i lt =
       fewer = remove-length (x .subgoals) i lt;
       same-lates = omega arith;
     }))
+
+-- A pass at a place takes away that one literal at most, so that the places below it are still there.
+module _ (i : ℕ) (ih : (x : ExClause) → i ≤ length (x .floundered-subgoals) → PassesFind i x) (x : ExClause) (enough : suc i ≤ length (x .floundered-subgoals)) where
+  one-less : (l : FlounderedSubgoal) → getElem? (x .floundered-subgoals) i ≡ some l → i ≤ length (swap-remove (x .floundered-subgoals) i)
+  one-less l e =
+      let less = swapped (λ a. 1) (x .floundered-subgoals) i l e .less in
+      let before = total-length (x .floundered-subgoals) in
+      let after = total-length (swap-remove (x .floundered-subgoals) i) in
+      omega arith
+
+  pass-finds : PassesFind (suc i) x
+  pass-finds =
+      let here = at-place (x .floundered-subgoals) i enough in
+      let l = here .0 in
+      rw (here .1, PassesFind) (whichever (ltb (l .floundered-time) (x .answer-time))
+      (ih (with-floundered x (push (x .subgoals) (l .floundered-literal)) (swap-remove (x .floundered-subgoals) i)) (one-less l (here .1)))
+      (ih x (omega arith)))
+    where
+      whichever : (b : Bool) {P Q : Type 0} → P → Q → elim b as (λ c. Type 0) [ true ↦ P | false ↦ Q ]
+      whichever true p q = p
+      whichever false p q = q
+
+pub passes-find : (i : ℕ) (x : ExClause) → i ≤ length (x .floundered-subgoals) → PassesFind i x
+passes-find zero x o = tt
+passes-find (suc i) x o = pass-finds i (passes-find i) x o
 
 -- after the places below i are gone through
 pub record Reconsidered (n : ℕ) (x : ExClause) (i : ℕ) (x' : ExClause) : Type 0 where

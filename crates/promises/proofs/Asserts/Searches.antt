@@ -14,7 +14,7 @@ use Rattle.definitions.specs.Table.{Table, answer, next-answer-index}
 use Rattle.definitions.specs.Tables.{Forest, with-mark, table-at}
 use Rattle.definitions.specs.Stack.{Stack, push-entry}
 use Rattle.definitions.specs.Logic.{InvalidAnswer, SolveState, with-forest, Flow, continue, return-ok, return-err}
-use Rattle.definitions.specs.Turn.{Ending, found, fail, cut, stopped, Searched, put-back, stored-answer, search-turns, begin, root-answer}
+use Rattle.definitions.specs.Turn.{Ending, found, fail, cut, stopped, Searched, put-back, stored-answer, ok-ending, search-turns, begin, root-answer}
 use Rattle.definitions.specs.Forest.{is-invalid}
 use Rattle.promises.proofs.Link.Tables.{same-some}
 use Rattle.promises.proofs.Link.Tests.{eqb-yes}
@@ -66,8 +66,8 @@ module _ (n root index : ℕ) where
       (λ f y. record { ended = y; fine = fine; when-invalid = λ e. true-false (sym e ∙ valid) })
 
   -- with the answer in the root's table
-  puts-answer : (turns : ℕ) (f : Forest) (es : Stack) → es ≡ [] → SoundForest n f → Rooted (f .tables) root (suc index) → Well n root index (put-back (stored-answer f root index) turns (record { forest = f; stack = es }))
-  puts-answer turns f es e s x = subst (λ q. Well n root index (put-back (stored-answer f root index) turns (record { forest = f; stack = q }))) (sym e) (record {
+  puts-answer : (turns : ℕ) (f : Forest) (es : Stack) → es ≡ [] → SoundForest n f → Rooted (f .tables) root (suc index) → Well n root index (put-back (ok-ending (record { forest = f; stack = es }) root index) turns (record { forest = f; stack = es }))
+  puts-answer turns f es e s x = subst (λ q. Well n root index (put-back (ok-ending (record { forest = f; stack = q }) root index) turns (record { forest = f; stack = q }))) (sym e) (record {
     ended = record { sound = s; own = x .own; is-made = x .is-made; reached = let o = x .enough in inr (omega arith) };
     fine = stored-fine f x;
     when-invalid = λ q. x;
@@ -79,7 +79,7 @@ module _ (n root index : ℕ) where
 
     on-flow : (limit done : ℕ) → Onward limit (suc done) → (flow : Flow) → Flows n root index first flow → Well n root index (elim flow [
       | continue s′ ↦ search-turns limit (suc done) root index s′
-      | return-ok s′ ↦ put-back (stored-answer (s′ .forest) root index) (suc done) s′
+      | return-ok s′ ↦ put-back (ok-ending s′ root index) (suc done) s′
       | return-err e s′ ↦ put-back (fail e) (suc done) s′
     ])
     on-flow limit done ih (continue s) x = ih s x

@@ -22,6 +22,7 @@ use Rattle.promises.proofs.Asserts.Safe.{true-false, NotZero, case-safe
 use Rattle.promises.proofs.Asserts.Lists.{at-place}
 use Rattle.promises.proofs.Asserts.Sound.{Reached, SoundForest}
 use Rattle.promises.proofs.Asserts.Making.{makes}
+use Rattle.promises.proofs.Asserts.Returning.{passes-find}
 use Rattle.promises.proofs.Asserts.Unwinding.{Ended}
 use Rattle.promises.proofs.Asserts.Searches.{Fine, Well, mark-kept, root-answers}
 use Rattle.promises.proofs.Asserts.Peeks.{PeekWell, peeks-well}
@@ -56,7 +57,7 @@ abbrev Answered : (n : ℕ) → Reply × Forest → Type 0
 Answered n r = Quiet (r .0) × SoundForest n (r .1)
 
 module _ {n : ℕ} (f : Forest) (s : SoundForest n f) where
-  opened-well : (goal : ℕ) → goal < n → QuietStop (opened f goal .table) × SoundForest n (opened f goal .forest)
+  opened-well : (goal : ℕ) → goal < n → QuietStop (opened 0 f goal .table) × SoundForest n (opened 0 f goal .forest)
   opened-well goal lt = case-safe (λ (o : Opened). QuietStop (o .table) × SoundForest n (o .forest)) (makes s 0 goal (let o = s .few-strands in omega arith) lt)
       (λ m z. (z, mark-kept m s .sound))
       (λ r x. (tt, x .kept .sound))
@@ -64,7 +65,7 @@ module _ {n : ℕ} (f : Forest) (s : SoundForest n f) where
   opens-well : (goal : ℕ) (o : Refusable Opened) → open-goal f goal ≡ o → Answered n (elim o [ refused m ↦ (refusal m, f) | accepted r ↦ (table (r .table), r .forest) ])
   opens-well goal (refused m) e = (tt, s)
   opens-well goal (accepted r) e =
-      let a = all-pass (is-marked f refuses 20 ∷ leb (length (f .book)) goal refuses 9 ∷ []) (opened f goal) r e in
+      let a = all-pass (is-marked f refuses 20 ∷ leb (length (f .book)) goal refuses 9 ∷ []) (opened 0 f goal) r e in
       let lt = leb-false (length (f .book)) goal (a .0 .1 .0) in
       let same = s .goals in
       subst (λ o. QuietStop (o .table) × SoundForest n (o .forest)) (a .1) (opened-well goal (omega arith))
@@ -122,4 +123,7 @@ forests-sound n [] f s = tt
 forests-sound n (c ∷ cs) f s = let r = call-keeps f s c in (r .1, forests-sound n cs (call f c .1) (r .1))
 
 pub never-asserts : NeverAsserts
-never-asserts bytes limit f e cs = calls-keep (length (f .book)) cs f (made-sound bytes limit f e)
+never-asserts = record {
+  in-calls = λ bytes limit f e cs. calls-keep (length (f .book)) cs f (made-sound bytes limit f e);
+  in-reconsidering = λ x. passes-find (length (x .floundered-subgoals)) x (omega arith);
+}

@@ -14,9 +14,10 @@ use Rattle.definitions.specs.Refusal.{Refusable, refused, accepted, _refuses_}
 use Rattle.definitions.specs.Tables.{Tables, Forest}
 use Rattle.definitions.specs.Turn.{Ending, Searched, root-answer}
 use Rattle.definitions.specs.Forest.{is-marked, Opened, opened, open-goal, not-made, index-above, search, Peeked, peek-rounds, peek, any-future-answer}
-use Rattle.definitions.specs.Calls.{Call, opens, searches, peeks, asks-future, Reply, refusal, table, searched, peeked, future, call}
+use Rattle.definitions.specs.Forest.{is-exceeded, SearchMade, peek-searches, most-passes}
+use Rattle.definitions.specs.Calls.{Call, opens, searches, peeks, asks-future, Reply, refusal, table, searched, peeked, future, call, searches-made}
 use Rattle.definitions.specs.Model as D
-use Rattle.definitions.specs.Claim.{EndingSays, ReplySays, reply-stopped, exceeded-in}
+use Rattle.definitions.specs.Claim.{OpenRefused, SearchRefused, ReadOff, EndingSays, ReplySays, reply-stopped, one-if, exceeded-among}
 use Rattle.promises.proofs.Plain.Model as P
 use Rattle.promises.proofs.Plain.Model.{Levelled}
 use Rattle.promises.proofs.Plain.Claim.{Inside}
@@ -42,17 +43,18 @@ module _ {book : Book} (sound : Sound book) (limit : ℕ) (level : ℕ → ℕ) 
   Betw f p = Between sound limit level levelled inside room few f p
 
   -- what a call leaves: the machine's forest, its measure lower by the searches that ended in QuantumExceeded; or a mark
-  pub data Left (p : M.Forest) (r : Reply) (f : Forest) : Type 0 where
-    goes-on : (p' : M.Forest) → reply-stopped r ≡ false → Betw f p' → potential The p' + exceeded-in r ≤ potential The p → Left p r f
-    is-over : reply-stopped r ≡ true → is-marked f ≡ true → exceeded-in r ≤ potential The p → Left p r f
+  pub data Left (p : M.Forest) (k : ℕ) (r : Reply) (f : Forest) : Type 0 where
+    goes-on : (p' : M.Forest) → reply-stopped r ≡ false → Betw f p' → potential The p' + k ≤ potential The p → Left p k r f
+    is-over : reply-stopped r ≡ true → is-marked f ≡ true → k ≤ potential The p → Left p k r f
 
-  pub record CallOK (p : M.Forest) (c : Call) (r : Reply) (f : Forest) : Type 0 where
-    pub says : ReplySays (D.In book level) f c r
-    pub left : Left p r f
+  -- a call, with the searches that it made
+  pub record CallOK (p : M.Forest) (made : List SearchMade) (c : Call) (r : Reply) (f : Forest) : Type 0 where
+    pub says : ReplySays (D.In book level) limit made f c r
+    pub left : Left p (exceeded-among made) r f
 
   -- what an ending says
   ending-says : {mark : ℕ} {e : Ending} {o : M.Outcome} {gs : List ℕ} {ts : Tables} {p : M.Forest} → EndIs limit (p .clock) mark e o → Agree book gs ts p → Ready The p → (t g i : ℕ) → getElem? gs t ≡ some g → C.Reply (P.In (book-of book) level) g i o
-      → EndingSays (D.In book level) (forest-of book limit mark ts (p .clock)) t i e
+      → EndingSays (D.In book level) limit (forest-of book limit mark ts (p .clock)) t i e
   ending-says found-is a ready t g i at x = (refl, named sound limit level levelled inside room few a ready t g at (D.In book level) (in-from book level sound g x))
   ending-says none-is a ready t g i at x = λ z. named sound limit level levelled inside room few a ready t g at (λ h. D.In book level h → ⊥) (λ y. x z (in-to book level sound g y))
   ending-says again-is a ready t g i at x = tt
@@ -63,50 +65,53 @@ module _ {book : Book} (sound : Sound book) (limit : ℕ) (level : ℕ → ℕ) 
   between-at {gs} {ts} a ready = record { goals = gs; tables = ts; is = refl; agree = a; ready = ready }
 
   search-left : {mark : ℕ} {e : Ending} {o : M.Outcome} {gs : List ℕ} {ts : Tables} {p' : M.Forest} (p : M.Forest) (turns : ℕ) → EndIs limit (p' .clock) mark e o → Agree book gs ts p' → Ready The p' → potential The p' + M.counts o ≤ potential The p
-      → Left p (searched e turns) (forest-of book limit mark ts (p' .clock))
+      → Left p (one-if (is-exceeded e) + 0) (searched e turns) (forest-of book limit mark ts (p' .clock))
   search-left {p' = p'} p turns found-is a ready fall = goes-on p' refl (between-at a ready) fall
   search-left {p' = p'} p turns none-is a ready fall = goes-on p' refl (between-at a ready) fall
   search-left {p' = p'} p turns again-is a ready fall = goes-on p' refl (between-at a ready) fall
   search-left {p' = p'} p turns cut-is a ready fall = goes-on p' refl (between-at a ready) fall
   search-left p turns (stopped-is o) a ready fall = is-over refl refl (omega arith)
 
-  peek-left : {mark : ℕ} {e : Ending} {o : M.Outcome} {gs : List ℕ} {ts : Tables} {p' : M.Forest} (p : M.Forest) (i turns j : ℕ) → EndIs limit (p' .clock) mark e o → Agree book gs ts p' → Ready The p' → potential The p' + j ≤ potential The p
-      → Left p (peeked e i turns j) (forest-of book limit mark ts (p' .clock))
-  peek-left {p' = p'} p i turns j found-is a ready fall = goes-on p' refl (between-at a ready) fall
-  peek-left {p' = p'} p i turns j none-is a ready fall = goes-on p' refl (between-at a ready) fall
-  peek-left {p' = p'} p i turns j again-is a ready fall = goes-on p' refl (between-at a ready) fall
-  peek-left {p' = p'} p i turns j cut-is a ready fall = goes-on p' refl (between-at a ready) fall
-  peek-left p i turns j (stopped-is o) a ready fall = is-over refl refl (omega arith)
+  peek-left : {mark : ℕ} {e : Ending} {o : M.Outcome} {gs : List ℕ} {ts : Tables} {p' : M.Forest} (p : M.Forest) (i turns k j : ℕ) → EndIs limit (p' .clock) mark e o → Agree book gs ts p' → Ready The p' → potential The p' + j ≤ potential The p
+      → Left p j (peeked e i turns k) (forest-of book limit mark ts (p' .clock))
+  peek-left {p' = p'} p i turns k j found-is a ready fall = goes-on p' refl (between-at a ready) fall
+  peek-left {p' = p'} p i turns k j none-is a ready fall = goes-on p' refl (between-at a ready) fall
+  peek-left {p' = p'} p i turns k j again-is a ready fall = goes-on p' refl (between-at a ready) fall
+  peek-left {p' = p'} p i turns k j cut-is a ready fall = goes-on p' refl (between-at a ready) fall
+  peek-left p i turns k j (stopped-is o) a ready fall = is-over refl refl (omega arith)
 
   module _ {gs : List ℕ} {ts : Tables} {p : M.Forest} (a : Agree book gs ts p) (ready : Ready The p) where
     abbrev F : Forest
     F = forest-of book limit 0 ts (p .clock)
 
-    stays : (r : Reply) → reply-stopped r ≡ false → exceeded-in r ≡ 0 → Left p r (forest-of book limit 0 ts (p .clock))
-    stays r e k = goes-on p e (between-at a ready) (omega arith)
+    stays : (r : Reply) → reply-stopped r ≡ false → Left p 0 r (forest-of book limit 0 ts (p .clock))
+    stays r e = goes-on p e (between-at a ready) (omega arith)
 
     searched-ok : (t g i n : ℕ) → getElem? gs t ≡ some g → i ≤ length (answers-of (p .answered g))
-        → CallOK p (searches t i (suc n)) (searched (root-answer (suc n) t i F .ending) (root-answer (suc n) t i F .turns)) (root-answer (suc n) t i F .forest)
+        → CallOK p (record { index = i; result = root-answer (suc n) t i F } ∷ []) (searches t i (suc n)) (searched (root-answer (suc n) t i F .ending) (root-answer (suc n) t i F .turns)) (root-answer (suc n) t i F .forest)
     searched-ok t g i n at o =
         let s = root-is sound limit level levelled inside room few a ready t g n i at o in
         let k = search-ok The p g i (suc n) ready in
-        subst (λ (z : Forest). CallOK p (searches t i (suc n)) (searched (root-answer (suc n) t i F .ending) (root-answer (suc n) t i F .turns)) z) (sym (s .forest))
+        subst (λ (z : Forest). CallOK p (record { index = i; result = root-answer (suc n) t i F } ∷ []) (searches t i (suc n)) (searched (root-answer (suc n) t i F .ending) (root-answer (suc n) t i F .turns)) z) (sym (s .forest))
         (record { says = ending-says (s .ends) (s .agree) (k .rest) t g i (s .more t g at) (k .says); left = search-left p (root-answer (suc n) t i F .turns) (s .ends) (s .agree) (k .rest) (k .falls) })
 
-    peeked-ok : (t g i r n : ℕ) → getElem? gs t ≡ some g → i ≤ length (answers-of (p .answered g)) → (R : Peeked) → peek-rounds r (suc n) 0 t i F ≡ R
-        → CallOK p (peeks t i (suc r) (suc n)) (peeked (R .ending) (R .index) (R .turns) (R .exceeded)) (R .forest)
-    peeked-ok t g i r n at o R e =
+    peeked-ok : (t g i r n passes : ℕ) → r < passes → getElem? gs t ≡ some g → i ≤ length (answers-of (p .answered g)) → (R : Peeked) → peek-rounds r (suc n) 0 t i F ≡ R
+        → CallOK p (peek-searches passes r (suc n) t i F) (peeks t i (suc r) (suc n)) (peeked (R .ending) (R .index) (R .turns) (R .exceeded)) (R .forest)
+    peeked-ok t g i r n passes enough at o R e =
+        let made = peek-searches passes r (suc n) t i F in
         let p' = M.rounds (limits-of book limit) (suc r) g i (suc n) p .2 in
         let j = M.rounds (limits-of book limit) (suc r) g i (suc n) p .1 in
         let u = M.rounds (limits-of book limit) (suc r) g i (suc n) p .0 in
-        let s : PeekIs book limit gs i 0 R u j p' = subst (λ (z : Peeked). PeekIs book limit gs i 0 z u j p') e (peek-is sound limit level levelled inside room few r gs ts p a ready t g n i 0 at o) in
+        let s : PeekIs book limit gs i 0 made R u j p' = subst (λ (z : Peeked). PeekIs book limit gs i 0 made z u j p') e (peek-is sound limit level levelled inside room few r gs ts p a ready t g n i 0 at o passes enough) in
         let k = peek-ok The (suc r) g i (suc n) p ready in
-        let x : CallOK p (peeks t i (suc r) (suc n)) (peeked (R .ending) i (R .turns) j) (forest-of book limit (s .mark) (s .after) (p' .clock)) =
-        record { says = ending-says (s .ends) (s .agree) (k .rest) t g i (s .more t g at) (k .says); left = peek-left p i (R .turns) j (s .ends) (s .agree) (k .rest) (k .falls) } in
-        let number : j ≡ R .exceeded = let y = s .exceeded in omega arith in
-        subst (λ (z : Forest). CallOK p (peeks t i (suc r) (suc n)) (peeked (R .ending) (R .index) (R .turns) (R .exceeded)) z) (sym (s .forest))
-        (subst (λ (z : ℕ). CallOK p (peeks t i (suc r) (suc n)) (peeked (R .ending) (R .index) (R .turns) z) (forest-of book limit (s .mark) (s .after) (p' .clock))) number
-        (subst (λ (z : ℕ). CallOK p (peeks t i (suc r) (suc n)) (peeked (R .ending) z (R .turns) j) (forest-of book limit (s .mark) (s .after) (p' .clock))) (sym (s .index)) x))
+        let G = forest-of book limit (s .mark) (s .after) (p' .clock) in
+        let lower : potential The p' + exceeded-among made ≤ potential The p = let y = s .among in let z = k .falls in omega arith in
+        let says = ending-says (s .ends) (s .agree) (k .rest) t g i (s .more t g at) (k .says) in
+        let reads : ReadOff made (R .forest) (R .ending) i (R .turns) (R .exceeded) = record { earlier = s .earlier; made-are = s .made-are; count-is = let y = s .exceeded in let z = s .among in omega arith } in
+        let x : CallOK p made (peeks t i (suc r) (suc n)) (peeked (R .ending) i (R .turns) (R .exceeded)) G =
+        record { says = (says, subst (λ (z : Forest). ReadOff made z (R .ending) i (R .turns) (R .exceeded)) (s .forest) reads); left = peek-left p i (R .turns) (R .exceeded) (exceeded-among made) (s .ends) (s .agree) (k .rest) lower } in
+        subst (λ (z : Forest). CallOK p made (peeks t i (suc r) (suc n)) (peeked (R .ending) (R .index) (R .turns) (R .exceeded)) z) (sym (s .forest))
+        (subst (λ (z : ℕ). CallOK p made (peeks t i (suc r) (suc n)) (peeked (R .ending) z (R .turns) (R .exceeded)) G) (sym (s .index)) x)
 
     -- the table is made
     place-named : (t : ℕ) → leb (length ts) t ≡ false → (g : ℕ) × (getElem? gs t ≡ some g)
@@ -117,33 +122,39 @@ module _ {book : Book} (sound : Sound book) (limit : ℕ) (level : ℕ → ℕ) 
         found-place (x ∷ xs) zero lt = (x, refl)
         found-place (x ∷ xs) (suc i) lt = found-place xs i (omega arith)
 
-    not-20 : (b₁ b₂ b₃ : Bool) (n : ℕ) → Failed n (false refuses 20 ∷ b₁ refuses 10 ∷ b₂ refuses 11 ∷ b₃ refuses 12 ∷ []) → n ≡ 20 → ⊥
-    not-20 b₁ b₂ b₃ n (inl (e, k)) q = let z : _≡_ {A = ℕ} 0 1 = cc in omega arith
-    not-20 b₁ b₂ b₃ n (inr (inl (e, k))) q = omega arith
-    not-20 b₁ b₂ b₃ n (inr (inr (inl (e, k)))) q = omega arith
-    not-20 b₁ b₂ b₃ n (inr (inr (inr (inl (e, k))))) q = omega arith
-    not-20 b₁ b₂ b₃ n (inr (inr (inr (inr x)))) q = x
+    search-refused : (b₁ b₂ b₃ : Bool) (n : ℕ) → Failed n (false refuses 20 ∷ b₁ refuses 10 ∷ b₂ refuses 11 ∷ b₃ refuses 12 ∷ []) → SearchRefused n
+    search-refused b₁ b₂ b₃ n (inl (e, k)) = absurd (let z : _≡_ {A = ℕ} 0 1 = cc in omega arith)
+    search-refused b₁ b₂ b₃ n (inr (inl (e, k))) = inl (sym k)
+    search-refused b₁ b₂ b₃ n (inr (inr (inl (e, k)))) = inr (inl (sym k))
+    search-refused b₁ b₂ b₃ n (inr (inr (inr (inl (e, k))))) = inr (inr (sym k))
+    search-refused b₁ b₂ b₃ n (inr (inr (inr (inr x)))) = absurd x
 
     searching : (t i n : ℕ) (o : Refusable Searched) → Comes (is-marked F refuses 20 ∷ not-made F t refuses 10 ∷ index-above F t i refuses 11 ∷ eqb n 0 refuses 12 ∷ []) (root-answer n t i F) o
-        → (r : Reply × Forest) → r ≡ elim o [ refused n ↦ (refusal n, F) | accepted r ↦ (searched (r .ending) (r .turns), r .forest) ] → CallOK p (searches t i n) (r .0) (r .1)
-    searching t i n (refused k) (turned-down x) r e = subst (λ (z : Reply × Forest). CallOK p (searches t i n) (z .0) (z .1)) (sym e) (record { says = not-20 (not-made F t) (index-above F t i) (eqb n 0) k x; left = stays (refusal k) refl refl })
-    searching t i zero (accepted R) (let-through x) r e = let y : true ≡ false = x .1 .1 .1 .0 in let z : _≡_ {A = ℕ} 0 1 = cc in absurd (omega arith)
-    searching t i (suc n) (accepted R) (let-through x) r e =
+        → (r : Reply × Forest) → r ≡ elim o [ refused n ↦ (refusal n, F) | accepted r ↦ (searched (r .ending) (r .turns), r .forest) ]
+        → (made : List SearchMade) → made ≡ elim o [ refused n ↦ [] | accepted r ↦ record { index = i; result = r } ∷ [] ] → CallOK p made (searches t i n) (r .0) (r .1)
+    searching t i n (refused k) (turned-down x) r e made q =
+        subst (λ (z : Reply × Forest). CallOK p made (searches t i n) (z .0) (z .1)) (sym e)
+        (subst (λ ss. CallOK p ss (searches t i n) (refusal k) F) (sym q)
+        (record { says = search-refused (not-made F t) (index-above F t i) (eqb n 0) k x; left = stays (refusal k) refl }))
+    searching t i zero (accepted R) (let-through x) r e made q = let y : true ≡ false = x .1 .1 .1 .0 in let z : _≡_ {A = ℕ} 0 1 = cc in absurd (omega arith)
+    searching t i (suc n) (accepted R) (let-through x) r e made q =
         let g = place-named t (x .1 .0) in
-        subst (λ (z : Reply × Forest). CallOK p (searches t i (suc n)) (z .0) (z .1)) (sym e) (searched-ok t (g .0) i n (g .1) (index-within limit 0 (p .clock) a t (g .0) i (g .1) (x .1 .1 .0)))
+        subst (λ (z : Reply × Forest). CallOK p made (searches t i (suc n)) (z .0) (z .1)) (sym e)
+        (subst (λ ss. CallOK p ss (searches t i (suc n)) (searched (R .ending) (R .turns)) (R .forest)) (sym q)
+        (searched-ok t (g .0) i n (g .1) (index-within limit 0 (p .clock) a t (g .0) i (g .1) (x .1 .1 .0))))
 
-    call-search : (t i n : ℕ) → CallOK p (searches t i n) (call F (searches t i n) .0) (call F (searches t i n) .1)
-    call-search t i n = searching t i n (search F t i n) (comes (is-marked F refuses 20 ∷ not-made F t refuses 10 ∷ index-above F t i refuses 11 ∷ eqb n 0 refuses 12 ∷ []) (root-answer n t i F)) (call F (searches t i n)) refl
+    call-search : (t i n : ℕ) → CallOK p (searches-made F (searches t i n)) (searches t i n) (call F (searches t i n) .0) (call F (searches t i n) .1)
+    call-search t i n = searching t i n (search F t i n) (comes (is-marked F refuses 20 ∷ not-made F t refuses 10 ∷ index-above F t i refuses 11 ∷ eqb n 0 refuses 12 ∷ []) (root-answer n t i F)) (call F (searches t i n)) refl (searches-made F (searches t i n)) refl
 
     -- with the limits of rounds and turns as numbers that are not 0
-    peeked-at : (t g i r n : ℕ) → getElem? gs t ≡ some g → i ≤ length (answers-of (p .answered g)) → 0 < r → 0 < n → (R : Peeked) → peek-rounds (r - 1) n 0 t i F ≡ R
-        → CallOK p (peeks t i r n) (peeked (R .ending) (R .index) (R .turns) (R .exceeded)) (R .forest)
-    peeked-at t g i r n at o some-r some-n R e =
+    peeked-at : (t g i r n passes : ℕ) → r - 1 < passes → getElem? gs t ≡ some g → i ≤ length (answers-of (p .answered g)) → 0 < r → 0 < n → (R : Peeked) → peek-rounds (r - 1) n 0 t i F ≡ R
+        → CallOK p (peek-searches passes (r - 1) n t i F) (peeks t i r n) (peeked (R .ending) (R .index) (R .turns) (R .exceeded)) (R .forest)
+    peeked-at t g i r n passes enough at o some-r some-n R e =
         let r-is : suc (r - 1) ≡ r = omega arith in
         let n-is : suc (n - 1) ≡ n = omega arith in
-        subst (λ (z : ℕ). CallOK p (peeks t i z n) (peeked (R .ending) (R .index) (R .turns) (R .exceeded)) (R .forest)) r-is
-        (subst (λ (z : ℕ). CallOK p (peeks t i (suc (r - 1)) z) (peeked (R .ending) (R .index) (R .turns) (R .exceeded)) (R .forest)) n-is
-        (peeked-ok t g i (r - 1) (n - 1) at o R (ap (λ z. peek-rounds (r - 1) z 0 t i F) n-is ∙ e)))
+        subst (λ (z : ℕ). CallOK p (peek-searches passes (r - 1) n t i F) (peeks t i z n) (peeked (R .ending) (R .index) (R .turns) (R .exceeded)) (R .forest)) r-is
+        (subst (λ (z : ℕ). CallOK p (peek-searches passes (r - 1) z t i F) (peeks t i (suc (r - 1)) z) (peeked (R .ending) (R .index) (R .turns) (R .exceeded)) (R .forest)) n-is
+        (peeked-ok t g i (r - 1) (n - 1) passes enough at o R (ap (λ z. peek-rounds (r - 1) z 0 t i F) n-is ∙ e)))
 
     neither : (r n : ℕ) → (eqb r 0 || eqb n 0) ≡ false → (0 < r) × (0 < n)
     neither zero n e = let z : _≡_ {A = ℕ} 0 1 = cc in absurd (omega arith)
@@ -155,44 +166,50 @@ module _ {book : Book} (sound : Sound book) (limit : ℕ) (level : ℕ → ℕ) 
     neither (suc r) (suc n) e = (omega arith, omega arith)
 
     peeking : (t i r n : ℕ) (R : Peeked) → peek-rounds (r - 1) n 0 t i F ≡ R → (o : Refusable Peeked) → Comes (is-marked F refuses 20 ∷ not-made F t refuses 10 ∷ index-above F t i refuses 11 ∷ (eqb r 0 || eqb n 0) refuses 12 ∷ []) R o
-        → (s : Reply × Forest) → s ≡ elim o [ refused n ↦ (refusal n, F) | accepted r ↦ (peeked (r .ending) (r .index) (r .turns) (r .exceeded), r .forest) ] → CallOK p (peeks t i r n) (s .0) (s .1)
-    peeking t i r n R q (refused k) (turned-down x) s e = subst (λ (z : Reply × Forest). CallOK p (peeks t i r n) (z .0) (z .1)) (sym e) (record { says = not-20 (not-made F t) (index-above F t i) (eqb r 0 || eqb n 0) k x; left = stays (refusal k) refl refl })
-    peeking t i r n R q (accepted R') (let-through x) s e =
+        → (s : Reply × Forest) → s ≡ elim o [ refused n ↦ (refusal n, F) | accepted r ↦ (peeked (r .ending) (r .index) (r .turns) (r .exceeded), r .forest) ]
+        → (made : List SearchMade) → made ≡ elim o [ refused k ↦ [] | accepted q ↦ peek-searches (most-passes r) (r - 1) n t i F ] → CallOK p made (peeks t i r n) (s .0) (s .1)
+    peeking t i r n R q (refused k) (turned-down x) s e made m =
+        subst (λ (z : Reply × Forest). CallOK p made (peeks t i r n) (z .0) (z .1)) (sym e)
+        (subst (λ ss. CallOK p ss (peeks t i r n) (refusal k) F) (sym m)
+        (record { says = search-refused (not-made F t) (index-above F t i) (eqb r 0 || eqb n 0) k x; left = stays (refusal k) refl }))
+    peeking t i r n R q (accepted R') (let-through x) s e made m =
         let g = place-named t (x .1 .0) in
         let some-of = neither r n (x .1 .1 .1 .0) in
-        subst (λ (z : Reply × Forest). CallOK p (peeks t i r n) (z .0) (z .1)) (sym e)
-        (peeked-at t (g .0) i r n (g .1) (index-within limit 0 (p .clock) a t (g .0) i (g .1) (x .1 .1 .0)) (some-of .0) (some-of .1) R q)
+        let some-r = some-of .0 in
+        subst (λ (z : Reply × Forest). CallOK p made (peeks t i r n) (z .0) (z .1)) (sym e)
+        (subst (λ ss. CallOK p ss (peeks t i r n) (peeked (R .ending) (R .index) (R .turns) (R .exceeded)) (R .forest)) (sym m)
+        (peeked-at t (g .0) i r n (most-passes r) (omega arith) (g .1) (index-within limit 0 (p .clock) a t (g .0) i (g .1) (x .1 .1 .0)) (some-of .0) (some-of .1) R q))
 
-    call-peek : (t i r n : ℕ) → CallOK p (peeks t i r n) (call F (peeks t i r n) .0) (call F (peeks t i r n) .1)
-    call-peek t i r n = peeking t i r n (peek-rounds (r - 1) n 0 t i F) refl (peek F t i r n) (comes (is-marked F refuses 20 ∷ not-made F t refuses 10 ∷ index-above F t i refuses 11 ∷ (eqb r 0 || eqb n 0) refuses 12 ∷ []) (peek-rounds (r - 1) n 0 t i F)) (call F (peeks t i r n)) refl
+    call-peek : (t i r n : ℕ) → CallOK p (searches-made F (peeks t i r n)) (peeks t i r n) (call F (peeks t i r n) .0) (call F (peeks t i r n) .1)
+    call-peek t i r n = peeking t i r n (peek-rounds (r - 1) n 0 t i F) refl (peek F t i r n) (comes (is-marked F refuses 20 ∷ not-made F t refuses 10 ∷ index-above F t i refuses 11 ∷ (eqb r 0 || eqb n 0) refuses 12 ∷ []) (peek-rounds (r - 1) n 0 t i F)) (call F (peeks t i r n)) refl (searches-made F (peeks t i r n)) refl
 
     made-ready : (h : ℕ) → Ready The (M.make p h)
     made-ready h = record { fine = ready .fine; bound = ready .bound; live = ready .live }
 
-    open-not-20 : (b : Bool) (n : ℕ) → Failed n (false refuses 20 ∷ b refuses 9 ∷ []) → n ≡ 20 → ⊥
-    open-not-20 b n (inl (e, k)) q = let z : _≡_ {A = ℕ} 0 1 = cc in omega arith
-    open-not-20 b n (inr (inl (e, k))) q = omega arith
-    open-not-20 b n (inr (inr x)) q = x
+    open-refused : (b : Bool) (n : ℕ) → Failed n (false refuses 20 ∷ b refuses 9 ∷ []) → OpenRefused n
+    open-refused b n (inl (e, k)) = absurd (let z : _≡_ {A = ℕ} 0 1 = cc in omega arith)
+    open-refused b n (inr (inl (e, k))) = sym k
+    open-refused b n (inr (inr x)) = absurd x
 
-    opening : (g : ℕ) (o : Refusable Opened) → Comes (is-marked F refuses 20 ∷ leb (length book) g refuses 9 ∷ []) (opened F g) o
-        → (s : Reply × Forest) → s ≡ elim o [ refused n ↦ (refusal n, F) | accepted r ↦ (table (r .table), r .forest) ] → CallOK p (opens g) (s .0) (s .1)
-    opening g (refused k) (turned-down x) s e = subst (λ (z : Reply × Forest). CallOK p (opens g) (z .0) (z .1)) (sym e) (record { says = open-not-20 (leb (length book) g) k x; left = stays (refusal k) refl refl })
+    opening : (g : ℕ) (o : Refusable Opened) → Comes (is-marked F refuses 20 ∷ leb (length book) g refuses 9 ∷ []) (opened 0 F g) o
+        → (s : Reply × Forest) → s ≡ elim o [ refused n ↦ (refusal n, F) | accepted r ↦ (table (r .table), r .forest) ] → CallOK p [] (opens g) (s .0) (s .1)
+    opening g (refused k) (turned-down x) s e = subst (λ (z : Reply × Forest). CallOK p [] (opens g) (z .0) (z .1)) (sym e) (record { says = open-refused (leb (length book) g) k x; left = stays (refusal k) refl })
     opening g (accepted R) (let-through x) s e =
         let lt = leb-false (length book) g (x .1 .0) in
         let m = open-made sound limit level levelled inside room few a ready g lt in
-        subst (λ (z : Reply × Forest). CallOK p (opens g) (z .0) (z .1)) (sym e)
-        (subst (λ (z : Opened). CallOK p (opens g) (table (z .table)) (z .forest)) (sym (opened-is sound limit level levelled inside room few a ready g lt))
+        subst (λ (z : Reply × Forest). CallOK p [] (opens g) (z .0) (z .1)) (sym e)
+        (subst (λ (z : Opened). CallOK p [] (opens g) (table (z .table)) (z .forest)) (sym (opened-is sound limit level levelled inside room few a ready g lt))
         (record { says = tt; left = goes-on (M.make p g) refl (between-at (m .agree) (made-ready g)) (omega arith) }))
 
-    call-open : (g : ℕ) → CallOK p (opens g) (call F (opens g) .0) (call F (opens g) .1)
-    call-open g = opening g (open-goal F g) (comes (is-marked F refuses 20 ∷ leb (length book) g refuses 9 ∷ []) (opened F g)) (call F (opens g)) refl
+    call-open : (g : ℕ) → CallOK p [] (opens g) (call F (opens g) .0) (call F (opens g) .1)
+    call-open g = opening g (open-goal F g) (comes (is-marked F refuses 20 ∷ leb (length book) g refuses 9 ∷ []) (opened 0 F g)) (call F (opens g)) refl
 
-    asking : (t i v : ℕ) (o : Refusable Bool) (s : Reply × Forest) → s ≡ elim o [ refused n ↦ (refusal n, F) | accepted b ↦ (future b, F) ] → CallOK p (asks-future t i v) (s .0) (s .1)
-    asking t i v (refused n) s e = subst (λ (z : Reply × Forest). CallOK p (asks-future t i v) (z .0) (z .1)) (sym e) (record { says = tt; left = stays (refusal n) refl refl })
-    asking t i v (accepted b) s e = subst (λ (z : Reply × Forest). CallOK p (asks-future t i v) (z .0) (z .1)) (sym e) (record { says = tt; left = stays (future b) refl refl })
+    asking : (t i v : ℕ) (o : Refusable Bool) (s : Reply × Forest) → s ≡ elim o [ refused n ↦ (refusal n, F) | accepted b ↦ (future b, F) ] → CallOK p [] (asks-future t i v) (s .0) (s .1)
+    asking t i v (refused n) s e = subst (λ (z : Reply × Forest). CallOK p [] (asks-future t i v) (z .0) (z .1)) (sym e) (record { says = tt; left = stays (refusal n) refl })
+    asking t i v (accepted b) s e = subst (λ (z : Reply × Forest). CallOK p [] (asks-future t i v) (z .0) (z .1)) (sym e) (record { says = tt; left = stays (future b) refl })
 
     -- every call
-    pub call-ok : (c : Call) → CallOK p c (call F c .0) (call F c .1)
+    pub call-ok : (c : Call) → CallOK p (searches-made F c) c (call F c .0) (call F c .1)
     call-ok (opens g) = call-open g
     call-ok (searches t i n) = call-search t i n
     call-ok (peeks t i r n) = call-peek t i r n

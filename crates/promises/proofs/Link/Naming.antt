@@ -72,7 +72,7 @@ module _ {book : Book} (sound : Sound book) (limit : ℕ) (level : ℕ → ℕ) 
   open-made {p = p} a ready h lt = make-table sound limit 0 a (p .clock) 0 h lt (let x = ready-strands There p ready in omega arith)
 
   pub opened-is : {gs : List ℕ} {ts : Tables} {p : M.Forest} (a : Agree book gs ts p) (ready : Ready There p) (h : ℕ) (lt : h < length book)
-      → opened (forest-of book limit 0 ts (p .clock)) h ≡ record { table = go (open-made a ready h lt .place); forest = forest-of book limit 0 (open-made a ready h lt .after) (p .clock) }
+      → opened 0 (forest-of book limit 0 ts (p .clock)) h ≡ record { table = go (open-made a ready h lt .place); forest = forest-of book limit 0 (open-made a ready h lt .after) (p .clock) }
   opened-is a ready h lt = rw (open-made a ready h lt .is, opened)
 
   -- a table names its goal
@@ -87,11 +87,11 @@ module _ {book : Book} (sound : Sound book) (limit : ℕ) (level : ℕ → ℕ) 
           let lt = a .within t g at in
           let m = open-made a ready g lt in
           let same : m .place ≡ t = m .agree .distinct (m .place) t g (m .at) (m .more t g at) in
-          (opened (forest-of book limit 0 ts (p .clock)) g, rw (leb-no (length book) g lt), ap (λ (z : Opened). z .table) (opened-is a ready g lt) ∙ ap go same)
+          (opened 0 (forest-of book limit 0 ts (p .clock)) g, rw (leb-no (length book) g lt), ap (λ (z : Opened). z .table) (opened-is a ready g lt) ∙ ap go same)
 
       other : (h : ℕ) → Names (forest-of book limit 0 ts (p .clock)) t h → Is h
       other h (r, e, k) =
-          let x = all-pass (false refuses 20 ∷ leb (length book) h refuses 9 ∷ []) (opened (forest-of book limit 0 ts (p .clock)) h) r e in
+          let x = all-pass (false refuses 20 ∷ leb (length book) h refuses 9 ∷ []) (opened 0 (forest-of book limit 0 ts (p .clock)) h) r e in
           let lt = leb-false (length book) h (x .0 .1 .0) in
           let m = open-made a ready h lt in
           let q : go (m .place) ≡ go t = sym (ap (λ (z : Opened). z .table) (opened-is a ready h lt)) ∙ ap (λ (z : Opened). z .table) (x .1) ∙ k in

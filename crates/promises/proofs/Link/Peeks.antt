@@ -6,15 +6,18 @@ use mathlib.Core.Path.{_≡_, refl, sym, ap, subst, _∙_}
 use mathlib.Core.Bool.{Bool, true, false, _&&_}
 use mathlib.Core.Logic.{_⊎_, inl, inr}
 use mathlib.Core.Option.{some}
-use mathlib.Core.List.{List, []}
+use mathlib.Core.List.{List, [], _∷_}
 use lib.ListN.{length, getElem?}
 use lib.Dec.{ltb}
 use Rattle.definitions.specs.{MAX}
 use Rattle.definitions.specs.Book.{Book}
 use Rattle.definitions.specs.Tables.{Tables, Forest}
-use Rattle.definitions.specs.Logic.{QuantumExceeded}
-use Rattle.definitions.specs.Turn.{Ending, fail, cut, begin, root-answer}
+use Rattle.definitions.specs.Lists.{push}
+use Rattle.definitions.specs.Logic.{NoMoreSolutions, Floundered, QuantumExceeded, NegativeCycle, InvalidAnswer}
+use Rattle.definitions.specs.Turn.{Ending, found, fail, cut, stopped, begin, root-answer}
 use Rattle.definitions.specs.Forest.{index-above, Peeked, is-invalid, is-exceeded, peeked, skip-invalid, peek-rounds}
+use Rattle.definitions.specs.Forest.{SearchMade, peek-searches}
+use Rattle.definitions.specs.Claim.{one-if, exceeded-among}
 use Rattle.promises.proofs.Plain.Model.{Levelled, either}
 use Rattle.promises.proofs.Plain.Claim.{Inside}
 use Rattle.promises.proofs.Plain.Machine as M
@@ -66,8 +69,12 @@ module _ {book : Book} (sound : Sound book) (limit : ℕ) (level : ℕ → ℕ) 
       → SearchIs book limit gs (root-answer (suc n) t i (forest-of book limit 0 ts (p .clock))) (M.search (limits-of book limit) p g i (suc n) .0) (M.search (limits-of book limit) p g i (suc n) .1)
   root-is {p = p} a ready t g n i at o = rw (a .made t g at) (root-at a ready t g n at (p .answered g) refl i o)
 
--- a peek beside a peek; k came before
-pub record PeekIs (book : Book) (limit : ℕ) (gs : List ℕ) (i k : ℕ) (result : Peeked) (o : M.Outcome) (j : ℕ) (p : M.Forest) : Type 0 where
+-- the last search of a peek that is at index i
+abbrev pub last-made : (i : ℕ) → Peeked → SearchMade
+last-made i r = record { index = i; result = record { ending = r .ending; turns = r .turns; forest = r .forest } }
+
+-- a peek, and the searches that it made, beside a peek; k ended in QuantumExceeded before
+pub record PeekIs (book : Book) (limit : ℕ) (gs : List ℕ) (i k : ℕ) (made : List SearchMade) (result : Peeked) (o : M.Outcome) (j : ℕ) (p : M.Forest) : Type 0 where
   pub goals : List ℕ
   pub after : Tables
   pub mark : ℕ
@@ -77,6 +84,9 @@ pub record PeekIs (book : Book) (limit : ℕ) (gs : List ℕ) (i k : ℕ) (resul
   pub ends : EndIs limit (p .clock) mark (result .ending) o
   pub index : result .index ≡ i
   pub exceeded : result .exceeded ≡ k + j
+  pub earlier : List SearchMade
+  pub made-are : made ≡ push earlier (last-made i result)
+  pub among : exceeded-among made ≡ j
 
 not-invalid : {limit c m : ℕ} {e : Ending} {o : M.Outcome} → EndIs limit c m e o → is-invalid e ≡ false
 not-invalid found-is = refl
@@ -119,6 +129,28 @@ module _ (limit k t i : ℕ) (f : Forest) (valid : is-invalid (root-answer limit
   peek-more : is-exceeded (root-answer limit t i f .ending) ≡ true → (r : ℕ) → peek-rounds (suc r) limit k t i f ≡ peek-rounds r limit (suc k) t i (root-answer limit t i f .forest)
   peek-more e r = ap (next-round r limit k t) (skip-at 255) ∙ rw (e, next-round)
 
+-- the searches after one with this ending
+abbrev following : (passes more limit t i : ℕ) → Ending → Forest → List SearchMade
+following passes more limit t i e f = elim e [
+  | found a ↦ []
+  | fail x ↦ elim x [
+    | InvalidAnswer ↦ peek-searches passes more limit t (suc i) f
+    | Floundered ↦ []
+    | NoMoreSolutions ↦ []
+    | QuantumExceeded ↦ elim more [ zero ↦ [] | suc fewer ↦ peek-searches passes fewer limit t i f ]
+    | NegativeCycle ↦ []
+  ]
+  | cut ↦ []
+  | stopped n ↦ []
+]
+
+none-follows : {limit c m : ℕ} {e : Ending} {o : M.Outcome} → EndIs limit c m e o → is-exceeded e ≡ false → (passes more turns t i : ℕ) (f : Forest) → following passes more turns t i e f ≡ []
+none-follows found-is x passes more turns t i f = refl
+none-follows none-is x passes more turns t i f = refl
+none-follows again-is x passes more turns t i f = absurd (let z : _≡_ {A = ℕ} 0 1 = cc in omega arith)
+none-follows cut-is x passes more turns t i f = refl
+none-follows (stopped-is o) x passes more turns t i f = refl
+
 end-differs : {A : Type 0} {o : M.Outcome} → o ≡ M.again → (o ≡ M.cut) ⊎ ((o ≡ M.no-more-left) ⊎ (o ≡ M.clock-ended)) → A
 end-differs {A} {o} e (inl x) = absurd (let z : _≡_ {A = ℕ} 0 1 = cc in omega arith)
 end-differs {A} {o} e (inr (inl x)) = absurd (let z : _≡_ {A = ℕ} 0 1 = cc in omega arith)
@@ -146,39 +178,47 @@ module _ {book : Book} (sound : Sound book) (limit : ℕ) (level : ℕ → ℕ) 
 
   abbrev PeekHere : (r : ℕ) → Type 0
   PeekHere r = (gs : List ℕ) (ts : Tables) (p : M.Forest) → Agree book gs ts p → Ready Here p → (t g n i k : ℕ) → getElem? gs t ≡ some g → i ≤ length (answers-of (p .answered g))
-      → PeekIs book limit gs i k (peek-rounds r (suc n) k t i (forest-of book limit 0 ts (p .clock))) (M.rounds (limits-of book limit) (suc r) g i (suc n) p .0) (M.rounds (limits-of book limit) (suc r) g i (suc n) p .1) (M.rounds (limits-of book limit) (suc r) g i (suc n) p .2)
+      → (passes : ℕ) → r < passes → PeekIs book limit gs i k (peek-searches passes r (suc n) t i (forest-of book limit 0 ts (p .clock))) (peek-rounds r (suc n) k t i (forest-of book limit 0 ts (p .clock))) (M.rounds (limits-of book limit) (suc r) g i (suc n) p .0) (M.rounds (limits-of book limit) (suc r) g i (suc n) p .1) (M.rounds (limits-of book limit) (suc r) g i (suc n) p .2)
 
   -- a round whose search says something else
-  peek-done : (r : ℕ) (gs : List ℕ) (ts : Tables) (p : M.Forest) (t g n i k : ℕ) → SearchIs book limit gs (root-answer (suc n) t i (forest-of book limit 0 ts (p .clock))) (M.search (limits-of book limit) p g i (suc n) .0) (M.search (limits-of book limit) p g i (suc n) .1)
+  peek-done : (r : ℕ) (gs : List ℕ) (ts : Tables) (p : M.Forest) (t g n i k passes : ℕ) → SearchIs book limit gs (root-answer (suc n) t i (forest-of book limit 0 ts (p .clock))) (M.search (limits-of book limit) p g i (suc n) .0) (M.search (limits-of book limit) p g i (suc n) .1)
       → is-exceeded (root-answer (suc n) t i (forest-of book limit 0 ts (p .clock)) .ending) ≡ false
       → ((c : M.Forest → M.Outcome × ℕ × M.Forest) → M.peek-next (limits-of book limit) (M.search (limits-of book limit) p g i (suc n)) c ≡ (M.search (limits-of book limit) p g i (suc n) .0, 0, M.search (limits-of book limit) p g i (suc n) .1))
-      → PeekIs book limit gs i k (peek-rounds r (suc n) k t i (forest-of book limit 0 ts (p .clock))) (M.rounds (limits-of book limit) (suc r) g i (suc n) p .0) (M.rounds (limits-of book limit) (suc r) g i (suc n) p .1) (M.rounds (limits-of book limit) (suc r) g i (suc n) p .2)
-  peek-done r gs ts p t g n i k s e q =
+      → PeekIs book limit gs i k (peek-searches (suc passes) r (suc n) t i (forest-of book limit 0 ts (p .clock))) (peek-rounds r (suc n) k t i (forest-of book limit 0 ts (p .clock))) (M.rounds (limits-of book limit) (suc r) g i (suc n) p .0) (M.rounds (limits-of book limit) (suc r) g i (suc n) p .1) (M.rounds (limits-of book limit) (suc r) g i (suc n) p .2)
+  peek-done r gs ts p t g n i k passes s e q =
       let F = forest-of book limit 0 ts (p .clock) in
-      let x : PeekIs book limit gs i k (peeked i k (root-answer (suc n) t i F)) (M.search (limits-of book limit) p g i (suc n) .0) 0 (M.search (limits-of book limit) p g i (suc n) .1) =
-      record { goals = s .goals; after = s .after; mark = s .mark; forest = s .forest; more = s .more; agree = s .agree; ends = s .ends; index = refl; exceeded = omega arith } in
-      subst (λ (z : Peeked). PeekIs book limit gs i k z (M.rounds (limits-of book limit) (suc r) g i (suc n) p .0) (M.rounds (limits-of book limit) (suc r) g i (suc n) p .1) (M.rounds (limits-of book limit) (suc r) g i (suc n) p .2))
+      let R = root-answer (suc n) t i F in
+      let made : List SearchMade = peek-searches (suc passes) r (suc n) t i F in
+      let alone : made ≡ record { index = i; result = R } ∷ [] = ap (λ ss. record { index = i; result = R } ∷ ss) (none-follows (s .ends) e passes r (suc n) t i (R .forest)) in
+      let none-more : exceeded-among made ≡ 0 = ap exceeded-among alone ∙ ap (λ b. one-if b + 0) e in
+      let x : PeekIs book limit gs i k made (peeked i k (root-answer (suc n) t i F)) (M.search (limits-of book limit) p g i (suc n) .0) 0 (M.search (limits-of book limit) p g i (suc n) .1) =
+      record { goals = s .goals; after = s .after; mark = s .mark; forest = s .forest; more = s .more; agree = s .agree; ends = s .ends; index = refl; exceeded = omega arith; earlier = []; made-are = alone; among = none-more } in
+      subst (λ (z : Peeked). PeekIs book limit gs i k made z (M.rounds (limits-of book limit) (suc r) g i (suc n) p .0) (M.rounds (limits-of book limit) (suc r) g i (suc n) p .1) (M.rounds (limits-of book limit) (suc r) g i (suc n) p .2))
       (sym (peek-ends (suc n) k t i F (not-invalid (s .ends)) e r))
-      (subst (λ (z : M.Outcome × ℕ × M.Forest). PeekIs book limit gs i k (peeked i k (root-answer (suc n) t i F)) (z .0) (z .1) (z .2)) (sym (q (M.rounds (limits-of book limit) r g i (suc n)))) x)
+      (subst (λ (z : M.Outcome × ℕ × M.Forest). PeekIs book limit gs i k made (peeked i k (root-answer (suc n) t i F)) (z .0) (z .1) (z .2)) (sym (q (M.rounds (limits-of book limit) r g i (suc n)))) x)
 
   exceeds : {e : Ending} → e ≡ fail QuantumExceeded → is-exceeded e ≡ true
   exceeds x = ap is-exceeded x
 
   -- a round whose search says again
-  peek-again : (r : ℕ) → ((r' : ℕ) → r ≡ suc r' → PeekHere r') → (gs : List ℕ) (ts : Tables) (p : M.Forest) → Ready Here p → (t g n i k : ℕ) → getElem? gs t ≡ some g → i ≤ length (answers-of (p .answered g))
+  peek-again : (r : ℕ) → ((r' : ℕ) → r ≡ suc r' → PeekHere r') → (gs : List ℕ) (ts : Tables) (p : M.Forest) → Ready Here p → (t g n i k passes : ℕ) → r < suc passes → getElem? gs t ≡ some g → i ≤ length (answers-of (p .answered g))
       → SearchIs book limit gs (root-answer (suc n) t i (forest-of book limit 0 ts (p .clock))) (M.search (limits-of book limit) p g i (suc n) .0) (M.search (limits-of book limit) p g i (suc n) .1)
       → M.search (limits-of book limit) p g i (suc n) .0 ≡ M.again → root-answer (suc n) t i (forest-of book limit 0 ts (p .clock)) .ending ≡ fail QuantumExceeded
-      → PeekIs book limit gs i k (peek-rounds r (suc n) k t i (forest-of book limit 0 ts (p .clock))) (M.rounds (limits-of book limit) (suc r) g i (suc n) p .0) (M.rounds (limits-of book limit) (suc r) g i (suc n) p .1) (M.rounds (limits-of book limit) (suc r) g i (suc n) p .2)
-  peek-again zero ih gs ts p ready t g n i k at o s q e =
+      → PeekIs book limit gs i k (peek-searches (suc passes) r (suc n) t i (forest-of book limit 0 ts (p .clock))) (peek-rounds r (suc n) k t i (forest-of book limit 0 ts (p .clock))) (M.rounds (limits-of book limit) (suc r) g i (suc n) p .0) (M.rounds (limits-of book limit) (suc r) g i (suc n) p .1) (M.rounds (limits-of book limit) (suc r) g i (suc n) p .2)
+  peek-again zero ih gs ts p ready t g n i k passes enough at o s q e =
       let N = limits-of book limit in
       let F = forest-of book limit 0 ts (p .clock) in
       let p' = M.search N p g i (suc n) .1 in
       let next : M.rounds N 1 g i (suc n) p ≡ (M.again, 1, p') = ap (λ z. M.peek-next N (z, p') (M.rounds N 0 g i (suc n))) q in
       let ends : EndIs limit (p' .clock) (s .mark) (root-answer (suc n) t i F .ending) M.again = subst (λ z. EndIs limit (p' .clock) (s .mark) (root-answer (suc n) t i F .ending) z) q (s .ends) in
-      subst (λ (z : M.Outcome × ℕ × M.Forest). PeekIs book limit gs i k (peek-rounds 0 (suc n) k t i F) (z .0) (z .1) (z .2)) (sym next)
-      (subst (λ (z : Peeked). PeekIs book limit gs i k z M.again 1 p') (sym (peek-last (suc n) k t i F (not-invalid (s .ends)) (exceeds e)))
-      (record { goals = s .goals; after = s .after; mark = s .mark; forest = s .forest; more = s .more; agree = s .agree; ends = ends; index = refl; exceeded = omega arith }))
-  peek-again (suc r) ih gs ts p ready t g n i k at o s q e =
+      let R = root-answer (suc n) t i F in
+      let made : List SearchMade = peek-searches (suc passes) 0 (suc n) t i F in
+      let alone : made ≡ record { index = i; result = R } ∷ [] = ap (λ x. record { index = i; result = R } ∷ following passes 0 (suc n) t i x (R .forest)) e in
+      let one : exceeded-among made ≡ 1 = ap exceeded-among alone ∙ ap (λ b. one-if b + 0) (exceeds e) in
+      subst (λ (z : M.Outcome × ℕ × M.Forest). PeekIs book limit gs i k made (peek-rounds 0 (suc n) k t i F) (z .0) (z .1) (z .2)) (sym next)
+      (subst (λ (z : Peeked). PeekIs book limit gs i k made z M.again 1 p') (sym (peek-last (suc n) k t i F (not-invalid (s .ends)) (exceeds e)))
+      (record { goals = s .goals; after = s .after; mark = s .mark; forest = s .forest; more = s .more; agree = s .agree; ends = ends; index = refl; exceeded = omega arith; earlier = []; made-are = alone; among = one }))
+  peek-again (suc r) ih gs ts p ready t g n i k passes enough at o s q e =
       let N = limits-of book limit in
       let F = forest-of book limit 0 ts (p .clock) in
       let p' = M.search N p g i (suc n) .1 in
@@ -187,21 +227,29 @@ module _ {book : Book} (sound : Sound book) (limit : ℕ) (level : ℕ → ℕ) 
       let ends : EndIs limit (p' .clock) (s .mark) (root-answer (suc n) t i F .ending) M.again = subst (λ z. EndIs limit (p' .clock) (s .mark) (root-answer (suc n) t i F .ending) z) q (s .ends) in
       let ready' = search-ok Here p g i (suc n) ready .rest in
       let zero-i = again-at p ready g n (p .made g) (p .answered g) refl i o q in
-      let x = ih r refl (s .goals) (s .after) p' (s .agree) ready' t g n i (suc k) (s .more t g at) (omega arith) in
+      let x = ih r refl (s .goals) (s .after) p' (s .agree) ready' t g n i (suc k) (s .more t g at) (omega arith) passes (omega arith) in
       let same : root-answer (suc n) t i F .forest ≡ forest-of book limit 0 (s .after) (p' .clock) = s .forest ∙ ap (λ m. forest-of book limit m (s .after) (p' .clock)) (unmarked ends) in
-      let more' = s .more in
-      subst (λ (z : M.Outcome × ℕ × M.Forest). PeekIs book limit gs i k (peek-rounds (suc r) (suc n) k t i F) (z .0) (z .1) (z .2)) (sym next)
-      (subst (λ (z : Peeked). PeekIs book limit gs i k z (k' p' .0) (suc (k' p' .1)) (k' p' .2)) (sym (peek-more (suc n) k t i F (not-invalid (s .ends)) (exceeds e) r))
-      (subst (λ (z : Forest). PeekIs book limit gs i k (peek-rounds r (suc n) (suc k) t i z) (k' p' .0) (suc (k' p' .1)) (k' p' .2)) (sym same)
-      (record { goals = x .goals; after = x .after; mark = x .mark; forest = x .forest; more = λ j h y. x .more j h (s .more j h y); agree = x .agree; ends = x .ends; index = x .index; exceeded = let y = x .exceeded in omega arith })))
+      let R = root-answer (suc n) t i F in
+      let G = forest-of book limit 0 (s .after) (p' .clock) in
+      let made : List SearchMade = peek-searches (suc passes) (suc r) (suc n) t i F in
+      let first : SearchMade = record { index = i; result = R } in
+      let then : made ≡ first ∷ peek-searches passes r (suc n) t i G =
+      ap (λ x. first ∷ following passes (suc r) (suc n) t i x (R .forest)) e ∙ ap (λ f. first ∷ peek-searches passes r (suc n) t i f) same in
+      let counted = ap exceeded-among then ∙ ap (λ b. one-if b + exceeded-among (peek-searches passes r (suc n) t i G)) (exceeds e) in
+      let one-more : exceeded-among made ≡ suc (k' p' .1) = let y = x .among in omega arith in
+      subst (λ (z : M.Outcome × ℕ × M.Forest). PeekIs book limit gs i k made (peek-rounds (suc r) (suc n) k t i F) (z .0) (z .1) (z .2)) (sym next)
+      (subst (λ (z : Peeked). PeekIs book limit gs i k made z (k' p' .0) (suc (k' p' .1)) (k' p' .2)) (sym (peek-more (suc n) k t i F (not-invalid (s .ends)) (exceeds e) r))
+      (subst (λ (z : Forest). PeekIs book limit gs i k made (peek-rounds r (suc n) (suc k) t i z) (k' p' .0) (suc (k' p' .1)) (k' p' .2)) (sym same)
+      (record { goals = x .goals; after = x .after; mark = x .mark; forest = x .forest; more = λ j h y. x .more j h (s .more j h y); agree = x .agree; ends = x .ends; index = x .index; exceeded = let y = x .exceeded in omega arith; earlier = first ∷ x .earlier; made-are = then ∙ ap (λ ss. first ∷ ss) (x .made-are); among = one-more })))
     where
       unmarked : {c m : ℕ} {e : Ending} → EndIs limit c m e M.again → m ≡ 0
       unmarked again-is = refl
 
   round : (r : ℕ) → ((r' : ℕ) → r ≡ suc r' → PeekHere r') → PeekHere r
-  round r ih gs ts p a ready t g n i k at o =
+  round r ih gs ts p a ready t g n i k at o zero enough = absurd (omega arith)
+  round r ih gs ts p a ready t g n i k at o (suc passes) enough =
       let s = root-is sound limit level levelled inside room few a ready t g n i at o in
-      either (λ x. peek-again r ih gs ts p ready t g n i k at o s (x .0) (x .1)) (λ x. peek-done r gs ts p t g n i k s (x .0) (x .1))
+      either (λ x. peek-again r ih gs ts p ready t g n i k passes enough at o s (x .0) (x .1)) (λ x. peek-done r gs ts p t g n i k passes s (x .0) (x .1))
       (again-or-not (s .ends) (limits-of book limit) (M.search (limits-of book limit) p g i (suc n) .1))
 
   pub peek-is : (r : ℕ) → PeekHere r

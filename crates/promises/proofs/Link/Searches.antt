@@ -13,7 +13,7 @@ use Rattle.definitions.specs.Stop.{Stops, stop, go}
 use Rattle.definitions.specs.Tables.{Tables, Forest, with-mark, increment-clock}
 use Rattle.definitions.specs.Stack.{StackEntry, Stack}
 use Rattle.definitions.specs.Logic.{SolveState, with-forest, Flow, continue, return-ok, return-err, NoMoreSolutions, QuantumExceeded, drop-state}
-use Rattle.definitions.specs.Turn.{turn, Ending, found, fail, cut, stopped, Searched, put-back, stored-answer, search-turns, begin}
+use Rattle.definitions.specs.Turn.{turn, Ending, found, fail, cut, stopped, Searched, put-back, stored-answer, ok-ending, search-turns, begin}
 use Rattle.promises.proofs.Plain.Model.{Levelled}
 use Rattle.promises.proofs.Plain.Claim.{Inside}
 use Rattle.promises.proofs.Plain.Machine as M
@@ -74,7 +74,7 @@ turned x limit done t i s = elim x [
   | stop n ↦ put-back (stopped n) done (with-forest s (with-mark (s .forest) n))
   | go flow ↦ elim flow [
     | continue s′ ↦ search-turns limit (suc done) t i s′
-    | return-ok s′ ↦ put-back (stored-answer (s′ .forest) t i) (suc done) s′
+    | return-ok s′ ↦ put-back (ok-ending s′ t i) (suc done) s′
     | return-err e s′ ↦ put-back (fail e) (suc done) s′
   ]
 ]

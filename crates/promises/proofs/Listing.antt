@@ -1,0 +1,196 @@
+-- The listing is whole. Each peek is made on a sound forest and ends neither in stop 0 nor in InvalidAnswer (`Asserts`); what it found is
+-- stored (`ListingStored`), and at most 256 answers are held, so that 257 lines are enough for a goal.
+use Prim.Native.Nat.{ℕ, zero, suc, _+_, _-_, _≤_, _<_}
+use native.Mathlib.Omega.{arith}
+use mathlib.Core.Path.{_≡_, refl, subst}
+use mathlib.Core.Bool.{Bool, true, false}
+use mathlib.Core.Logic.{inr}
+use mathlib.Core.List.{List, [], _∷_, _++_, append-nil}
+use lib.ListN.{length}
+use Rattle.definitions.specs.Refusal.{Refusable, refused, accepted}
+use Rattle.definitions.specs.Stop.{stop, go}
+use Rattle.definitions.specs.Book.{Book, read}
+use Rattle.definitions.specs.Tables.{Forest}
+use Rattle.definitions.specs.Turn.{Ending, found, fail, cut, stopped}
+use Rattle.definitions.specs.Forest.{make, Opened, is-invalid, Peeked, peek-rounds}
+use Rattle.definitions.specs.Listing.{listing-rounds, listing-turns, listing-clock, Line, line, Next, next-index, next-goal, the-end, next}
+use Rattle.definitions.specs.Listing.{Listed, list-from, list-goal, list-goals, lines}
+use Rattle.definitions.specs.Model.{Each}
+use Rattle.promises.proofs.Asserts.Safe.{true-false, case-bool, case-safe}
+use Rattle.promises.proofs.Asserts.Sound.{Reached, SoundForest}
+use Rattle.promises.proofs.Asserts.Making.{makes}
+use Rattle.promises.proofs.Asserts.Unwinding.{Ended}
+use Rattle.promises.proofs.Asserts.Searches.{Fine, mark-kept}
+use Rattle.promises.proofs.Asserts.Peeks.{PeekWell, peeks-well}
+use Rattle.promises.proofs.Asserts.Bounds.{answers-at-most}
+use Rattle.promises.proofs.Asserts.Reading.{made-sound}
+use Rattle.promises.proofs.ListingStored.{is-found, PeekStored, peek-stored}
+use Rattle.promises.specs.ListingWhole.{MayStand, StartsAt, Behind, InOrder, Whole, ListedAs, ListingWhole}
+
+-- Lists.
+
+each-append : {A : Type 0} (P : A → Type 0) (l m : List A) → Each P l → Each P m → Each P (l ++ m)
+each-append P [] m x y = y
+each-append P (a ∷ l) m x y = (x .0, each-append P l m (x .1) y)
+
+module _ {B : Type 0} (P : B → Type 0) where
+  case-next : (x : Next) {a b c : B} → (x ≡ next-index → P a) → (x ≡ next-goal → P b) → (x ≡ the-end → P c) →
+      P (elim x [ next-index ↦ a | next-goal ↦ b | the-end ↦ c ])
+  case-next next-index p q r = p refl
+  case-next next-goal p q r = q refl
+  case-next the-end p q r = r refl
+
+-- One goal.
+
+next-found : (e : Ending) → next e ≡ next-index → is-found e ≡ true
+next-found (found a) q = refl
+next-found (fail e) q = let z : _≡_ {A = ℕ} 0 1 = cc in absurd (omega arith)
+next-found cut q = let z : _≡_ {A = ℕ} 0 1 = cc in absurd (omega arith)
+next-found (stopped n) q = let z : _≡_ {A = ℕ} 0 1 = cc in absurd (omega arith)
+
+-- the first line is of that goal, at that index or a later one
+abbrev FirstAt : (goal index : ℕ) → List Line → Type 0
+FirstAt goal index [] = ⊥
+FirstAt goal index (l ∷ ls) = (l .goal ≡ goal) × (index ≤ l .index)
+
+-- what may stand behind a goal's lines: nothing after a stop, else the lines of the goals after it
+abbrev Follows : (goals goal : ℕ) → (stops : Bool) → List Line → Type 0
+Follows goals goal true rest = rest ≡ []
+Follows goals goal false rest = Whole goals (suc goal) rest
+
+-- the lines of a goal from an index on; the book has n goals
+record GoalListed (n goal index : ℕ) (r : Listed) : Type 0 where
+  sound : SoundForest n (r .forest)
+  first : FirstAt goal index (r .lines)
+  may-stand : Each MayStand (r .lines)
+  in-order : (rest : List Line) → Follows n goal (r .stops) rest → InOrder n (r .lines ++ rest)
+
+-- a line of the goal: its index, and its ending, which is no assert and not invalid
+record GoalLine (index at : ℕ) (ending : Ending) : Type 0 where
+  not-before : index ≤ at
+  fine : Fine ending
+  valid : is-invalid ending ≡ false
+
+stands : {index : ℕ} (goal at : ℕ) (ending : Ending) → GoalLine index at ending → MayStand (line goal at ending)
+stands goal at ending l = record {
+  no-bound-ran-out = λ e. subst Fine e (l .fine);
+  not-invalid = λ e. true-false (subst (λ z. is-invalid z ≡ false) e (l .valid));
+}
+
+module _ (n goal index at : ℕ) (ending : Ending) (here : GoalLine index at ending) where
+  -- after a yes or maybe: the lines from a later index on
+  more-lines : next ending ≡ next-index → (r : Listed) → GoalListed n goal (suc at) r →
+      GoalListed n goal index (record { lines = line goal at ending ∷ r .lines; stops = r .stops; forest = r .forest })
+  more-lines e r x = record {
+    sound = x .sound;
+    first = (refl, here .not-before);
+    may-stand = (stands goal at ending here, x .may-stand);
+    in-order = λ rest y. (rw e (behind (r .lines) rest (x .first)), x .in-order rest y);
+  }
+    where
+      behind : (ls rest : List Line) → FirstAt goal (suc at) ls → Behind n (line goal at ending) next-index (ls ++ rest)
+      behind [] rest f = absurd f
+      behind (l ∷ ls) rest f = f
+
+  -- after a stop nothing, after any other ending the next goal
+  last-line : (f : Forest) → SoundForest n f → next ending ≡ next-goal →
+      GoalListed n goal index (record { lines = line goal at ending ∷ []; stops = false; forest = f })
+  last-line f s e = record {
+    sound = s;
+    first = (refl, here .not-before);
+    may-stand = (stands goal at ending here, tt);
+    in-order = λ rest y. (rw e (y .starts), y .in-order);
+  }
+
+  stop-line : (f : Forest) → SoundForest n f → next ending ≡ the-end →
+      GoalListed n goal index (record { lines = line goal at ending ∷ []; stops = true; forest = f })
+  stop-line f s e = record {
+    sound = s;
+    first = (refl, here .not-before);
+    may-stand = (stands goal at ending here, tt);
+    in-order = λ rest y. rw (y, e) (tt, tt);
+  }
+
+module _ (n goal t : ℕ) where
+  -- what an answer found by a peek leaves: it can be peeked at the next index, which is at most 256
+  found-next : (index : ℕ) (p : Peeked) → PeekWell n t p → PeekStored t index p → next (p .ending) ≡ next-index →
+      (suc (p .index) ≤ 256) × Ended n t (suc (p .index)) (p .forest)
+  found-next index p w x e =
+      let own = w .ended .own in
+      let made = w .ended .is-made in
+      let under : p .index < length (own .answers) = rw made at (x .when-found (next-found (p .ending) e)) in
+      let most = answers-at-most (w .ended .sound) t own made in
+      ((omega arith), record { sound = w .ended .sound; own = own; is-made = made; reached = inr (omega arith) })
+
+  from-listed : (more index : ℕ) (f : Forest) → index ≤ 256 → 257 ≤ index + more → Ended n t index f →
+      GoalListed n goal index (list-from more goal t index f)
+  from-listed zero index f few enough x = absurd (omega arith)
+  from-listed (suc more) index f few enough x =
+      let p = peek-rounds (listing-rounds - 1) listing-turns 0 t index f in
+      let w = peeks-well n t listing-turns (listing-rounds - 1) 0 index f x in
+      let y = peek-stored t listing-turns (listing-rounds - 1) 0 index f in
+      let later = y .not-before in
+      let here : GoalLine index (p .index) (p .ending) = record { not-before = later; fine = w .fine; valid = w .valid } in
+      case-next (GoalListed n goal index) (next (p .ending))
+      (λ e.
+      let after = found-next index p w y e in
+      let rest = from-listed more (suc (p .index)) (p .forest) (after .0) (omega arith) (after .1) in
+      more-lines n goal index (p .index) (p .ending) here e _ rest)
+      (λ e. last-line n goal index (p .index) (p .ending) here (p .forest) (w .ended .sound) e)
+      (λ e. stop-line n goal index (p .index) (p .ending) here (p .forest) (w .ended .sound) e)
+
+-- the second half of `list-goal`
+abbrev list-opened : (goal : ℕ) → Opened → Listed
+list-opened goal o = elim (o .table) [
+  | stop n ↦ record { lines = line goal 0 (stopped n) ∷ []; stops = true; forest = o .forest }
+  | go t ↦ list-from 257 goal t 0 (o .forest)
+]
+
+goal-listed : (n goal : ℕ) (f : Forest) → SoundForest n f → goal < n → GoalListed n goal 0 (list-goal goal f)
+goal-listed n goal f s lt =
+    let few = s .few-strands in
+    case-safe (λ (o : Opened). GoalListed n goal 0 (list-opened goal o)) (makes s 0 goal (omega arith) lt)
+    (λ m z. stop-line n goal 0 0 (stopped m) (record { not-before = omega arith; fine = z; valid = refl }) _ (mark-kept m s .sound) refl)
+    (λ r x.
+    let reached : Reached (x .own) 0 = inr (omega arith) in
+    let made : Ended n (r .0) 0 (r .1) = record { sound = x .kept .sound; own = x .own; is-made = x .is-made; reached = reached } in
+    from-listed n goal (r .0) 257 0 (r .1) (omega arith) (omega arith) made)
+
+-- All goals.
+
+starts-first : (n goal index : ℕ) (ls rest : List Line) → FirstAt goal index ls → StartsAt n goal (ls ++ rest)
+starts-first n goal index [] rest x = absurd x
+starts-first n goal index (l ∷ ls) rest x = x .0
+
+-- a goal's lines, and those behind them
+goal-and-rest : (n goal : ℕ) (r : Listed) → GoalListed n goal 0 r →
+    (rest : List Line) → Follows n goal (r .stops) rest → Each MayStand rest → Whole n goal (r .lines ++ rest)
+goal-and-rest n goal r x rest y m = record {
+  starts = starts-first n goal 0 (r .lines) rest (x .first);
+  in-order = x .in-order rest y;
+  may-stand = each-append MayStand (r .lines) rest (x .may-stand) m;
+}
+
+goals-listed : (n left goal : ℕ) (f : Forest) → goal + left ≡ n → SoundForest n f → Whole n goal (list-goals left goal f)
+goals-listed n zero goal f e s = record { starts = omega arith; in-order = tt; may-stand = tt }
+goals-listed n (suc left) goal f e s =
+    let here = list-goal goal f in
+    let x = goal-listed n goal f s (omega arith) in
+    case-bool (Whole n goal) (here .stops)
+    (λ q. subst (Whole n goal) (append-nil (here .lines)) (goal-and-rest n goal here x [] (rw q refl) tt))
+    (λ q.
+    let rest = list-goals left (suc goal) (here .forest) in
+    let y = goals-listed n left (suc goal) (here .forest) (omega arith) (x .sound) in
+    goal-and-rest n goal here x rest (rw q y) (y .may-stand))
+
+pub listing-whole : ListingWhole
+listing-whole bytes = on (read bytes) refl
+  where
+    made-of : Book → Forest
+    made-of book = record { book = book; clock-limit = listing-clock; mark = 0; tables = []; clock = 0 }
+
+    on : (r : Refusable Book) → read bytes ≡ r → ListedAs r (lines bytes)
+    on (refused n) e = rw (e, lines, make)
+    on (accepted book) e =
+        let sound = made-sound bytes listing-clock (made-of book) (rw (e, make)) in
+        rw (e, lines, make) (goals-listed (length book) (length book) 0 (made-of book) (omega arith) sound)
