@@ -12,7 +12,7 @@ use Rattle.definitions.specs.Table.{Table, answer, next-answer-index}
 use Rattle.definitions.specs.Tables.{Forest, with-mark, table-at, increment-clock}
 use Rattle.definitions.specs.Stack.{push-entry}
 use Rattle.definitions.specs.Logic.{Floundered, SolveState, with-forest, Flow, continue, return-ok, return-err}
-use Rattle.definitions.specs.Turn.{turn, Searched, fail, cut, stopped, put-back, stored-answer, search-turns, begin, root-answer}
+use Rattle.definitions.specs.Turn.{turn, Searched, fail, cut, stopped, put-back, ok-ending, search-turns, begin, root-answer}
 use Rattle.promises.proofs.Link.Tests.{leb-yes, leb-no}
 use Rattle.split.specs.Steps.{Standing, Progress, ended, stands, cut-short, standing, gone-on, after-turn, stop-short, step, pushes-root, start, Ends, at-once, after-step}
 
@@ -45,7 +45,7 @@ used-up w e = rw (standing, leb-yes (w .limit) (w .done) (omega arith))
 abbrev goes-on : ℕ → Standing → Flow → Searched
 goes-on k w flow = elim flow [
   | continue s ↦ search-turns k (suc (w .done)) (w .table) (w .index) s
-  | return-ok s ↦ put-back (stored-answer (s .forest) (w .table) (w .index)) (suc (w .done)) s
+  | return-ok s ↦ put-back (ok-ending s (w .table) (w .index)) (suc (w .done)) s
   | return-err f s ↦ put-back (fail f) (suc (w .done)) s
 ]
 

@@ -13,7 +13,7 @@ use Rattle.definitions.specs.Table.{Table, with-strands, pop-front, dequeue-nex
 use Rattle.definitions.specs.Tables.{Forest, with-mark, change-table, queued, held}
 use Rattle.definitions.specs.Stack.{StackEntry, Stack, with-active, active}
 use Rattle.definitions.specs.Logic.{SubGoalSelection, Selected, NotSelected, SolveState, with-forest, Flow, continue, return-ok, return-err, select-subgoal}
-use Rattle.definitions.specs.Turn.{on-subgoal-selected, on-no-remaining-subgoals, on-no-strands-left, eligible, turn, Searched, stopped, fail, put-back, stored-answer, search-turns}
+use Rattle.definitions.specs.Turn.{on-subgoal-selected, on-no-remaining-subgoals, on-no-strands-left, eligible, turn, Searched, stopped, fail, put-back, ok-ending, search-turns}
 use Rattle.promises.proofs.Asserts.Safe.{Safe}
 use Rattle.promises.proofs.Asserts.Keeping.{change-is}
 use Rattle.promises.proofs.Asserts.Lists.{position-at}
@@ -176,7 +176,7 @@ matches s = matches-on (s .forest) (s .stack)
 abbrev pub after-flow : (limit done : ℕ) → TableIndex → (index : ℕ) → Flow → Searched
 after-flow limit done t i flow = elim flow [
   | continue s ↦ search-turns limit (suc done) t i s
-  | return-ok s ↦ put-back (stored-answer (s .forest) t i) (suc done) s
+  | return-ok s ↦ put-back (ok-ending s t i) (suc done) s
   | return-err e s ↦ put-back (fail e) (suc done) s
 ]
 

@@ -11,7 +11,7 @@ use Rattle.definitions.specs.Table.{answer, next-answer-index}
 use Rattle.definitions.specs.Tables.{Forest, with-mark, table-at, increment-clock}
 use Rattle.definitions.specs.Stack.{push-entry}
 use Rattle.definitions.specs.Logic.{Floundered, SolveState, with-forest, Flow, continue, return-ok, return-err}
-use Rattle.definitions.specs.Turn.{turn, Searched, fail, cut, stopped, put-back, stored-answer}
+use Rattle.definitions.specs.Turn.{turn, Searched, fail, cut, stopped, put-back, ok-ending}
 
 -- A search between two turns: which answer of which table it is for, how many turns it may do and has done, and the clock of its
 -- first push, which no other search has.
@@ -48,7 +48,7 @@ gone-on w s = record {
 
 abbrev pub after-turn : Standing → Flow → Progress
 after-turn w (continue s) = standing (gone-on w s)
-after-turn w (return-ok s) = ended (put-back (stored-answer (s .forest) (w .table) (w .index)) (suc (w .done)) s)
+after-turn w (return-ok s) = ended (put-back (ok-ending s (w .table) (w .index)) (suc (w .done)) s)
 after-turn w (return-err e s) = ended (put-back (fail e) (suc (w .done)) s)
 
 -- a stop undoes its turn, puts the search back and marks the forest
@@ -80,7 +80,7 @@ start limit t i f = elim (table-at f t) [
   | go table ↦ elim (table .floundered) [
     | true ↦ ended (record { ending = fail Floundered; turns = 0; forest = f })
     | false ↦ elim (answer table i) [
-      | some a ↦ ended (record { ending = stored-answer f t i; turns = 0; forest = f })
+      | some a ↦ ended (record { ending = ok-ending (record { forest = f; stack = [] }) t i; turns = 0; forest = f })
       | none ↦ elim (eqb (next-answer-index table) i) [
         | true ↦ pushes-root limit t i f
         | false ↦ ended (record { ending = stopped 0; turns = 0; forest = f })
