@@ -10,6 +10,7 @@ pub mod Making
 pub mod Back
 pub mod Turn
 pub mod Selected
+pub mod Premises
 pub mod Answers
 pub mod Clearing
 pub mod Idle
