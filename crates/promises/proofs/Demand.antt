@@ -2,6 +2,7 @@
 -- from a plain levelled book, every clock limit that 13 lets through, and every list of calls.
 use Prim.Native.Nat.{ℕ, _+_, _-_, _≤_}
 use native.Mathlib.Omega.{arith}
+use borrow.Author.Tests.{leb-false}
 use mathlib.Core.Path.{_≡_, refl, sym, ap, subst, _∙_}
 use mathlib.Core.Bool.{Bool, true, false, _||_}
 use mathlib.Core.List.{List, [], _∷_}
@@ -16,14 +17,16 @@ use Rattle.definitions.specs.Forest.{make, is-marked, opened, open-goal, not-ma
 use Rattle.definitions.specs.Calls.{Call, opens, searches, peeks, asks-future, Reply, refusal, future, call, searches-made, calls}
 use Rattle.definitions.specs.Model.{Plain, Levelled, In}
 use Rattle.definitions.specs.Claim.{MarkedSays, reply-stopped, AllSay, exceeded-among, exceeded, Demand3}
+use Rattle.promises.proofs.Laws.Options.{no-such}
+use Rattle.promises.proofs.Laws.Bools.{or-right}
+use Rattle.promises.proofs.Reading.{not-accepted, all-pass, Good, read-good}
 use Rattle.promises.proofs.Plain.Machine as M
 use Rattle.promises.proofs.Plain.Whole.{potential, initial-ok, initial-total}
 use Rattle.promises.proofs.Link.View.{t-end}
-use Rattle.promises.proofs.Link.Tables.{book-of, no-such, forest-of, Agree}
-use Rattle.promises.proofs.Link.Tests.{leb-false}
+use Rattle.promises.proofs.Link.Tables.{book-of, forest-of, Agree}
 use Rattle.promises.proofs.Link.Premises.{Premises, setting-of}
 use Rattle.promises.proofs.Link.Models.{levelled-is, inside-is, clauses-total}
-use Rattle.promises.proofs.Link.Reading.{not-accepted, all-pass, Good, read-good, good-sound}
+use Rattle.promises.proofs.Link.Reading.{good-sound}
 use Rattle.promises.proofs.Link.Naming.{unless-stop, Between}
 use Rattle.promises.proofs.Link.Calls.{Left, goes-on, is-over, CallOK, call-ok}
 
@@ -125,10 +128,6 @@ pub record MadeFrom (bytes : List ℕ) (limit : ℕ) (f : Forest) : Type 0 where
   pub good : Good book
   pub is : forest-of book limit 0 [] 0 ≡ f
   pub room : limit ≤ MAX
-
-or-right : (a b : Bool) → (a || b) ≡ false → b ≡ false
-or-right true b e = let z : _≡_ {A = ℕ} 0 1 = cc in absurd (omega arith)
-or-right false b e = e
 
 made-from : (bytes : List ℕ) (limit : ℕ) (f : Forest) → make bytes limit ≡ accepted f → MadeFrom bytes limit f
 made-from bytes limit f e = go (read bytes) refl e

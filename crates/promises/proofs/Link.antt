@@ -2,7 +2,6 @@
 -- side; `Turns`, `Searches`, `Peeks` and `Calls` follow a turn, a search, a peek and a call.
 pub mod View
 pub mod Lists
-pub mod Tests
 pub mod Choose
 pub mod Tables
 pub mod Sums

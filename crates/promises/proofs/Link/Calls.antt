@@ -1,6 +1,7 @@
 -- One call on a forest that no stop has marked: what it says is so, and it leaves such a forest again, or one that 21 has marked.
 use Prim.Native.Nat.{ℕ, zero, suc, _+_, _-_, _≤_, _<_}
 use native.Mathlib.Omega.{arith}
+use borrow.Author.Tests.{leb-false}
 use mathlib.Core.Path.{_≡_, refl, sym, ap, subst, _∙_}
 use mathlib.Core.Bool.{Bool, true, false, _||_}
 use mathlib.Core.Logic.{inl, inr}
@@ -16,12 +17,12 @@ use Rattle.definitions.specs.Forest.{is-exceeded, SearchMade, peek-searches, mo
 use Rattle.definitions.specs.Calls.{Call, opens, searches, peeks, asks-future, Reply, refusal, table, searched, peeked, future, call, searches-made}
 use Rattle.definitions.specs.Model as D
 use Rattle.definitions.specs.Claim.{OpenRefused, SearchRefused, ReadOff, EndingSays, ReplySays, reply-stopped, one-if, exceeded-among}
+use Rattle.promises.proofs.Laws.Lists.{at-place}
 use Rattle.promises.proofs.Plain.Model as P
 use Rattle.promises.proofs.Plain.Claim as C
 use Rattle.promises.proofs.Plain.Machine as M
 use Rattle.promises.proofs.Plain.Whole.{Ready, potential, search-ok, peek-ok}
 use Rattle.promises.proofs.Link.View.{answers-of}
-use Rattle.promises.proofs.Link.Tests.{leb-false}
 use Rattle.promises.proofs.Link.Tables.{book-of, Agree}
 use Rattle.promises.proofs.Link.Making.{tables-length}
 use Rattle.promises.proofs.Link.Premises.{Premises, setting-of, limits-in, forest-in}
@@ -104,12 +105,7 @@ module _ (G : Premises) where
 
     -- the table is made
     place-named : (t : ℕ) → leb (length ts) t ≡ false → (g : ℕ) × (getElem? gs t ≡ some g)
-    place-named t e = let x = leb-false (length ts) t e in let y = tables-length (a .tables) in found-place gs t (omega arith)
-      where
-        found-place : (xs : List ℕ) (i : ℕ) → i < length xs → (x : ℕ) × (getElem? xs i ≡ some x)
-        found-place [] i lt = absurd (omega arith)
-        found-place (x ∷ xs) zero lt = (x, refl)
-        found-place (x ∷ xs) (suc i) lt = found-place xs i (omega arith)
+    place-named t e = let x = leb-false (length ts) t e in let y = tables-length (a .tables) in at-place gs t (omega arith)
 
     search-refused : (b₁ b₂ b₃ : Bool) (n : ℕ) → Failed n (false refuses 20 ∷ b₁ refuses 10 ∷ b₂ refuses 11 ∷ b₃ refuses 12 ∷ []) → SearchRefused n
     search-refused b₁ b₂ b₃ n (inl (e, k)) = absurd (let z : _≡_ {A = ℕ} 0 1 = cc in omega arith)

@@ -1,6 +1,7 @@
 -- Between two calls: the forest beside the machine's. A table names one goal and no other, as opens tell it.
 use Prim.Native.Nat.{ℕ, _<_}
 use native.Mathlib.Omega.{arith}
+use borrow.Author.Tests.{lt-leb, leb-false}
 use mathlib.Core.Path.{_≡_, refl, sym, ap, subst, _∙_}
 use mathlib.Core.Bool.{Bool, true, false}
 use mathlib.Core.Logic.{_⊎_, inl, inr}
@@ -14,13 +15,13 @@ use Rattle.definitions.specs.Tables.{Tables, Forest}
 use Rattle.definitions.specs.Forest.{Opened, opened}
 use Rattle.definitions.specs.Claim.{Names, Named}
 use Rattle.definitions.specs.Model.{Each}
+use Rattle.promises.proofs.Laws.Options.{same-some}
+use Rattle.promises.proofs.Reading.{all-pass}
 use Rattle.promises.proofs.Plain.Machine as M
 use Rattle.promises.proofs.Plain.Whole.{Ready, ready-strands}
-use Rattle.promises.proofs.Link.Tests.{leb-no, leb-false}
-use Rattle.promises.proofs.Link.Tables.{same-some, Agree}
+use Rattle.promises.proofs.Link.Tables.{Agree}
 use Rattle.promises.proofs.Link.Making.{Made, make-table}
 use Rattle.promises.proofs.Link.Premises.{Premises, setting-of, forest-in}
-use Rattle.promises.proofs.Link.Reading.{all-pass}
 
 -- How the tests of a call come out: the first that fails refuses it, or all pass.
 
@@ -79,7 +80,7 @@ module _ (G : Premises) where
           let lt = a .within t g at in
           let m = open-made a ready g lt in
           let same : m .place ≡ t = m .agree .distinct (m .place) t g (m .at) (m .more t g at) in
-          (opened 0 (forest-in G 0 ts (p .clock)) g, rw (leb-no (length (G .book)) g lt), ap (λ (z : Opened). z .table) (opened-is a ready g lt) ∙ ap go same)
+          (opened 0 (forest-in G 0 ts (p .clock)) g, rw (lt-leb (length (G .book)) g lt), ap (λ (z : Opened). z .table) (opened-is a ready g lt) ∙ ap go same)
 
       other : (h : ℕ) → Names (forest-in G 0 ts (p .clock)) t h → Is h
       other h (r, e, k) =

@@ -2,6 +2,7 @@
 use Prim.Native.Nat.{ℕ, zero, suc, _+_, _≤_, _<_}
 use native.Mathlib.Omega.{arith}
 use native.Mathlib.Decide.{decLt}
+use borrow.Author.Tests.{leb-false}
 use mathlib.Core.Path.{_≡_, refl, sym, ap, subst, _∙_}
 use mathlib.Core.Bool.{Bool, true, false, _&&_}
 use mathlib.Core.Logic.{_⊎_, inl, inr}
@@ -21,7 +22,6 @@ use Rattle.promises.proofs.Plain.Model.{either}
 use Rattle.promises.proofs.Plain.Machine as M
 use Rattle.promises.proofs.Plain.Whole.{Ready, search-ok, no-member, run-stored}
 use Rattle.promises.proofs.Link.View.{answers-of, table-of}
-use Rattle.promises.proofs.Link.Tests.{leb-false}
 use Rattle.promises.proofs.Link.Tables.{Extends, forest-of, Agree}
 use Rattle.promises.proofs.Link.Back.{table-here}
 use Rattle.promises.proofs.Link.Premises.{Premises, setting-of, limits-in, forest-in}

@@ -1,6 +1,7 @@
 -- Searches: the definitions' loop of turns ends as the machine's does, with its forest.
 use Prim.Native.Nat.{ℕ, zero, suc, _≤_, _<_}
 use native.Mathlib.Omega.{arith}
+use borrow.Author.Tests.{le-leb, lt-leb}
 use mathlib.Core.Path.{_≡_, refl, ap, subst, _∙_}
 use mathlib.Core.Bool.{true, false}
 use mathlib.Core.Logic.{inl}
@@ -19,7 +20,6 @@ use Rattle.promises.proofs.Plain.Steps.{Setting}
 use Rattle.promises.proofs.Plain.Turns.{size, Ends, Going, TurnOK, turn-ok}
 use Rattle.promises.proofs.Plain.Whole.{clauses, Ready, begin-inv, turn-stored, no-member, going-strands, ready-strands}
 use Rattle.promises.proofs.Link.View.{table-of, no-active, entry-of, StackIs, s-end, s-more}
-use Rattle.promises.proofs.Link.Tests.{leb-yes, leb-no}
 use Rattle.promises.proofs.Link.Tables.{Extends, forest-of, Agree}
 use Rattle.promises.proofs.Link.Sums.{total-add}
 use Rattle.promises.proofs.Link.Back.{table-here, Became, dropped-is}
@@ -114,10 +114,10 @@ module _ (G : Premises) where
       (subst (λ v. TurnOK (setting-of G) v B (clauses (setting-of G)) (M.turn (limits-in G) p e es)) (ok .root) z) done t at
 
   tick-is : (ts : Tables) (c : ℕ) → c < G .limit → increment-clock (forest-in G 0 ts c) ≡ go (forest-in G 0 ts (suc c))
-  tick-is ts c lt = rw (leb-no (G .limit) c lt)
+  tick-is ts c lt = rw (lt-leb (G .limit) c lt)
 
   full-is : (ts : Tables) (c : ℕ) → G .limit ≤ c → increment-clock (forest-in G 0 ts c) ≡ stop 21
-  full-is ts c o = rw (leb-yes (G .limit) c o)
+  full-is ts c o = rw (le-leb (G .limit) c o)
 
   -- a search for a goal without an answer
   pub begin-is : {gs : List ℕ} {ts : Tables} {p : M.Forest} → Agree (G .book) gs ts p → Ready (setting-of G) p → (t g n : ℕ) → getElem? gs t ≡ some g → p .answered g ≡ false → (d : Dec (p .clock < G .limit))
