@@ -100,10 +100,19 @@ abbrev pub bit1 : ℕ → Bool
 bit1 flags = eqb (flags / 2 % 2) 1
 
 abbrev pub with-clauses : Goal → List Clause → Goal
-with-clauses g cs = record { coinductive = g .coinductive; floundered = g .floundered; clauses = cs }
+with-clauses g cs = record {
+  coinductive = g .coinductive;
+  floundered = g .floundered;
+  clauses = cs;
+}
 
 abbrev pub with-literals : Clause → List Literal → Clause
-with-literals c ls = record { variant = c .variant; cannot-prove = c .cannot-prove; outsized = c .outsized; literals = ls }
+with-literals c ls = record {
+  variant = c .variant;
+  cannot-prove = c .cannot-prove;
+  outsized = c .outsized;
+  literals = ls;
+}
 
 -- a clause belongs to the last goal
 abbrev pub add-clause : Clause → Book → Book

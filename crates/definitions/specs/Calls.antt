@@ -25,7 +25,10 @@ pub data Reply : Type 0 where
 
 abbrev pub call : Forest → Call → Reply × Forest
 call f (opens g) = elim (open-goal f g) [ refused n ↦ (refusal n, f) | accepted r ↦ (table (r .table), r .forest) ]
-call f (searches t i limit) = elim (search f t i limit) [ refused n ↦ (refusal n, f) | accepted r ↦ (searched (r .ending) (r .turns), r .forest) ]
+call f (searches t i limit) = elim (search f t i limit) [
+  | refused n ↦ (refusal n, f)
+  | accepted r ↦ (searched (r .ending) (r .turns), r .forest)
+]
 call f (peeks t i rounds limit) = elim (peek f t i rounds limit) [
   | refused n ↦ (refusal n, f)
   | accepted r ↦ (peeked (r .ending) (r .index) (r .turns) (r .exceeded), r .forest)

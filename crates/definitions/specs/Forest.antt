@@ -13,7 +13,8 @@ use Rattle.definitions.specs.Stop.{Stops, stop, go}
 use Rattle.definitions.specs.Lists.{any-passes}
 use Rattle.definitions.specs.Table.{most-answers}
 use Rattle.definitions.specs.Tables.{Forest, with-mark}
-use Rattle.definitions.specs.Logic.{NoMoreSolutions, Floundered, QuantumExceeded, NegativeCycle, InvalidAnswer, get-or-create-table-for-ucanonical-goal}
+use Rattle.definitions.specs.Logic.{NoMoreSolutions, Floundered, QuantumExceeded, NegativeCycle, InvalidAnswer}
+use Rattle.definitions.specs.Logic.{get-or-create-table-for-ucanonical-goal}
 use Rattle.definitions.specs.Turn.{Ending, found, fail, cut, stopped, Searched, root-answer}
 
 -- Making. `Forest::new` over a book. The clock's limit is a number below 2 ^ 64, so that the second test of 13 is met by 2 ^ 64 - 1 alone.
@@ -102,7 +103,22 @@ is-exceeded cut = false
 is-exceeded (stopped n) = false
 
 abbrev pub peeked : (index exceeded : ℕ) → Searched → Peeked
-peeked i k r = record { ending = r .ending; index = i; turns = r .turns; exceeded = k; forest = r .forest }
+peeked i k r = record {
+  ending = r .ending;
+  index = i;
+  turns = r .turns;
+  exceeded = k;
+  forest = r .forest;
+}
+
+abbrev pub with-exceeded : Peeked → ℕ → Peeked
+with-exceeded p k = record {
+  ending = p .ending;
+  index = p .index;
+  turns = p .turns;
+  exceeded = k;
+  forest = p .forest;
+}
 
 -- Passes of the loop of `peek_answer` as long as the answer is invalid: the next index is tried. The first number bounds them: an
 -- invalid answer is a stored one, and at most 256 are held together. Where it ran out the peek would end in InvalidAnswer.
@@ -121,7 +137,7 @@ abbrev pub peek-rounds : (more limit exceeded : ℕ) → TableIndex → (index :
 peek-rounds zero limit k t i f =
     let p = skip-invalid 256 limit k t i f in
     elim (is-exceeded (p .ending)) [
-      | true ↦ record { ending = p .ending; index = p .index; turns = p .turns; exceeded = suc k; forest = p .forest }
+      | true ↦ with-exceeded p (suc k)
       | false ↦ p
     ]
 peek-rounds (suc more) limit k t i f =
@@ -174,7 +190,9 @@ most-passes rounds = rounds * suc most-answers
 abbrev pub future : Forest → (table index variant : ℕ) → Bool
 future f t i v = elim (getElem? (f .tables) t) [
   | none ↦ false
-  | some table ↦ any-passes (λ a. eqb (a .variant) v) (drop i (table .answers)) || any-passes (λ s. eqb (s .ex-clause .subst .variant) v) (table .strands)
+  | some table ↦
+      any-passes (λ a. eqb (a .variant) v) (drop i (table .answers))
+      || any-passes (λ s. eqb (s .ex-clause .subst .variant) v) (table .strands)
 ]
 
 abbrev pub any-future-answer : Forest → (table index variant : ℕ) → Refusable Bool

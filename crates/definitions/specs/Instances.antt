@@ -8,7 +8,7 @@ use mathlib.Core.List.{List, [], _∷_, map, List·Memᴰ, List·Memᴰ·not-nil
 use lib.ListN.{getD}
 use Rattle.definitions.specs.Refusal.{accepted}
 use Rattle.definitions.specs.Stop.{go}
-use Rattle.definitions.specs.Book.{Clause, Book, write}
+use Rattle.definitions.specs.Book.{Literal, Clause, Book, write}
 use Rattle.definitions.specs.Tables.{Forest}
 use Rattle.definitions.specs.Logic.{NoMoreSolutions, QuantumExceeded, InvalidAnswer}
 use Rattle.definitions.specs.Turn.{Ending, found, fail, cut, stopped}
@@ -16,11 +16,17 @@ use Rattle.definitions.specs.Forest.{make, SearchMade}
 use Rattle.definitions.specs.Calls.{Call, opens, searches, peeks, asks-future, Reply, refusal, table, searched, peeked, future}
 use Rattle.definitions.specs.Calls.{searches-made, Called, calls}
 use Rattle.definitions.specs.Cases.{pos, neg, rule, fact, one-rule, inductive, coinductive, yes-answer}
-use Rattle.definitions.specs.Model.{Plain, Each, LevelLiteral, Levelled}
+use Rattle.definitions.specs.Model.{Each, PlainLiteral, PlainClause, PlainGoal, Plain, LevelLiteral, Levelled}
 use Rattle.definitions.specs.Claim.{AllSay, exceeded}
 
 abbrev pub just-made : Book → (clock-limit : ℕ) → Forest
-just-made book limit = record { book = book; clock-limit = limit; mark = 0; tables = []; clock = 0 }
+just-made book limit = record {
+  book = book;
+  clock-limit = limit;
+  mark = 0;
+  tables = [];
+  clock = 0;
+}
 
 abbrev pub replies-of : List Called → List Reply
 replies-of cs = map (λ (c : Called). c .reply) cs
@@ -41,19 +47,24 @@ first-made = refl
 abbrev pub first-level : ℕ → ℕ
 first-level goal = getD (1 ∷ []) goal 0
 
+plain-clause : (ls : List Literal) → Each PlainLiteral ls → PlainClause (rule 0 ls)
+plain-clause ls plain = record { as-a-whole = refl; provable = refl; small = refl; literals-plain = plain }
+
+plain-goal : (c : Clause) → PlainClause c → PlainGoal (inductive (c ∷ []))
+plain-goal c plain = record { inductive = refl; unfloundered = refl; clauses-plain = (plain, tt) }
+
 pub first-plain : Plain first-book
 first-plain = (
-  record { inductive = refl; unfloundered = refl; clauses-plain = (record { as-a-whole = refl; provable = refl; small = refl; literals-plain = ((refl, refl), (refl, tt)) }, tt) },
+  plain-goal (rule 0 (pos 1 ∷ neg 2 ∷ [])) (plain-clause (pos 1 ∷ neg 2 ∷ []) ((refl, refl), (refl, tt))),
   (
-    record { inductive = refl; unfloundered = refl; clauses-plain = (record { as-a-whole = refl; provable = refl; small = refl; literals-plain = tt }, tt) },
-    (
-      record { inductive = refl; unfloundered = refl; clauses-plain = (record { as-a-whole = refl; provable = refl; small = refl; literals-plain = ((refl, refl), tt) }, tt) },
-      tt,
-    ),
+    plain-goal (fact 0) (plain-clause [] tt),
+    (plain-goal (one-rule (pos 2)) (plain-clause (pos 2 ∷ []) ((refl, refl), tt)), tt),
   ),
 )
 
-only-clause : (n : ℕ) (c d : Clause) → Each (LevelLiteral first-level n) (c .literals) → List·Memᴰ d (c ∷ []) → Each (LevelLiteral first-level n) (d .literals)
+only-clause :
+    (n : ℕ) (c d : Clause) → Each (LevelLiteral first-level n) (c .literals) → List·Memᴰ d (c ∷ []) →
+    Each (LevelLiteral first-level n) (d .literals)
 only-clause n c d e m = subst (λ (x : Clause). Each (LevelLiteral first-level n) (x .literals)) (sym (List·Memᴰ·eq-of-singleton m)) e
 
 pub first-levelled : Levelled first-book first-level
@@ -70,7 +81,8 @@ first-calls =
 
 pub first-replies :
     replies-of (calls (just-made first-book 1000) first-calls)
-    ≡ table (go 0) ∷ searched cut 1 ∷ searched (fail QuantumExceeded) 3 ∷ peeked (found (yes-answer 0)) 0 6 1 ∷ table (go 1) ∷ peeked (fail NoMoreSolutions) 0 1 0
+    ≡ table (go 0) ∷ searched cut 1 ∷ searched (fail QuantumExceeded) 3 ∷ peeked (found (yes-answer 0)) 0 6 1
+    ∷ table (go 1) ∷ peeked (fail NoMoreSolutions) 0 1 0
     ∷ refusal 9 ∷ refusal 10 ∷ refusal 11 ∷ refusal 12 ∷ future true ∷ []
 first-replies = refl
 

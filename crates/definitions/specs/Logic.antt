@@ -6,12 +6,13 @@ use mathlib.Core.Option.{Option, none, some}
 use mathlib.Core.List.{[], _∷_, map}
 use lib.ListN.{length, getElem?}
 use lib.Dec.{ltb}
-use Rattle.definitions.specs.{TableIndex, ExClause, Answer, is-complete}
+use Rattle.definitions.specs.{TableIndex, FlounderedSubgoal, ExClause, Answer, is-complete}
 use Rattle.definitions.specs.Book.{Literal, Positive, Negative, Clause, Book, goal-of}
 use Rattle.definitions.specs.Fitting.{gets-table, is-trivial}
 use Rattle.definitions.specs.Stop.{Stops, stop, go, _>>=_, _>>_, stop-if, unwrap}
 use Rattle.definitions.specs.Lists.{push, is-empty, remove, swap-remove}
-use Rattle.definitions.specs.Strand.{SelectedSubgoal, Strand, with-ex-clause, with-selected, with-subgoals, with-ambiguous, with-answer-time, with-floundered}
+use Rattle.definitions.specs.Strand.{SelectedSubgoal, Strand, with-ex-clause, with-selected}
+use Rattle.definitions.specs.Strand.{with-subgoals, with-ambiguous, with-answer-time, with-floundered}
 use Rattle.definitions.specs.Table.{Table, new, with-strands, enqueue-strand, mark-floundered}
 use Rattle.definitions.specs.Tables.{insert-table, index-of, Forest, with-tables, table-at, change-table, queued}
 use Rattle.definitions.specs.Stack.{Stack, with-active, top, change-top, active}
@@ -89,7 +90,8 @@ get-or-create-table-for-subgoal others f literal = elim (gets-table literal) [
 abbrev pub flounder-subgoal : ExClause → (subgoal-index : ℕ) → Stops ExClause
 flounder-subgoal x i = do
   literal ← unwrap (getElem? (x .subgoals) i)
-  go (with-floundered x (remove (x .subgoals) i) (push (x .floundered-subgoals) (record { floundered-literal = literal; floundered-time = x .answer-time })))
+  let floundered : FlounderedSubgoal = record { floundered-literal = literal; floundered-time = x .answer-time }
+  go (with-floundered x (remove (x .subgoals) i) (push (x .floundered-subgoals) floundered))
 
 -- The loop of `reconsider_floundered_subgoals`, at index i - 1 and down to 0. Each pass finds its literal, on any clause (`NeverAsserts` of
 -- the promises): where none is found the Rust would panic.
@@ -128,9 +130,12 @@ pub record Selection : Type 0 where
 abbrev pub selecting : SubGoalSelection → Strand → Forest → Selection
 selecting c s f = record { selection = c; strand = s; forest = f }
 
--- The loop of `select_subgoal`, a pass at a time. The first number bounds the passes: in one call a literal is floundered at most
--- once, since one that is has the strand's answer time and does not return; that takes two passes, one to select it and one to
--- flounder it. One pass reconsiders, and two select the last choice and return it.
+-- The two loops of `select_subgoal` as one: a pass with nothing selected is one of the inner `while`, a pass with something selected is
+-- what follows the `while` in the outer `loop`. The Rust leaves the `while` exactly when something is selected, and its `continue`s lead to
+-- the test of the `while` again, so that the field tells where it stands.
+-- The first number bounds the passes. In one call a literal is floundered at most once, since one that is has the strand's answer time
+-- and does not return; that takes two passes at most, one that selects it and one that flounders it. One pass more brings literals back,
+-- and one ends the choice. So twice the literals and floundered ones, and two, are enough; `select-subgoal` gives two more.
 abbrev pub select-from : ℕ → (others : ℕ) → Forest → Strand → Stops Selection
 select-from zero others f s = stop 0
 select-from (suc passes) others f s = elim (s .selected-subgoal) [
@@ -148,7 +153,9 @@ select-from (suc passes) others f s = elim (s .selected-subgoal) [
       | false ↦
           let x = reconsider-floundered-subgoals (s .ex-clause) in
           elim (is-empty (x .subgoals)) [
-            | true ↦ stop-if (is-empty (x .floundered-subgoals)) 0 >> go (selecting NotSelected (with-ex-clause s (with-ambiguous x true)) f)
+            | true ↦ do
+              stop-if (is-empty (x .floundered-subgoals)) 0
+              go (selecting NotSelected (with-ex-clause s (with-ambiguous x true)) f)
             | false ↦ select-from passes others f (with-ex-clause s x)
           ]
     ]
@@ -157,7 +164,9 @@ select-from (suc passes) others f s = elim (s .selected-subgoal) [
       literal ← unwrap (getElem? (s .ex-clause .subgoals) i)
       found ← get-or-create-table-for-subgoal others f literal
       elim (found .0) [
-        | some table ↦ select-from passes others (found .1) (with-selected s (some (record { subgoal-index = i; subgoal-table = table; answer-index = 0 })))
+        | some table ↦ do
+          let selected : SelectedSubgoal = record { subgoal-index = i; subgoal-table = table; answer-index = 0 }
+          select-from passes others (found .1) (with-selected s (some selected))
         | none ↦ do
           x ← flounder-subgoal (s .ex-clause) i
           select-from passes others f (with-ex-clause s x)
@@ -168,7 +177,8 @@ select-from (suc passes) others f s = elim (s .selected-subgoal) [
 -- `select_subgoal`, of the strand in hand
 abbrev pub select-subgoal : SolveState → Strand → Stops Selection
 select-subgoal s strand =
-    select-from (2 * (length (strand .ex-clause .subgoals) + length (strand .ex-clause .floundered-subgoals)) + 4) (active (s .stack) + 1) (s .forest) strand
+    let literals = length (strand .ex-clause .subgoals) + length (strand .ex-clause .floundered-subgoals) in
+    select-from (2 * literals + 4) (active (s .stack) + 1) (s .forest) strand
 
 -- Unwinding.
 
@@ -214,15 +224,18 @@ activate s strand = do
 
 -- An answer for the selected subgoal.
 
--- What merging leaves: the strand with the answer in it, or a search that has ended.
+-- What merging leaves: the strand to go on with, which has the answer in it or its literal floundered, or a search that is given up.
 pub data Merge : Type 0 where
   merged : Strand → SolveState → Merge
   failed : SolveState → Merge
 
 -- the copy of the strand for the next answer. It keeps the last pursued time, so that this stack entry won't take it again.
 abbrev pub next-answer-strand : Strand → SelectedSubgoal → Strand
-next-answer-strand s selected =
-    with-selected s (some (record { subgoal-index = selected .subgoal-index; subgoal-table = selected .subgoal-table; answer-index = suc (selected .answer-index) }))
+next-answer-strand s selected = with-selected s (some (record {
+  subgoal-index = selected .subgoal-index;
+  subgoal-table = selected .subgoal-table;
+  answer-index = suc (selected .answer-index);
+}))
 
 -- 22 is tested when the copy is queued; the strand in hand counts
 abbrev pub enqueue-next-answer : SolveState → Strand → SelectedSubgoal → Literal → Answer → Stops SolveState
@@ -245,7 +258,9 @@ merge-into s strand (Positive goal want outsized) a = do
   applied ← apply-answer-subst (Positive goal want outsized) a (strand .ex-clause)
   elim applied [
     | none ↦ no-solution s
-    | some x ↦ go (merged (with-ex-clause strand (with-answer-time (with-ambiguous x (x .ambiguous || a .ambiguous)) (suc (x .answer-time)))) s)
+    | some x ↦ do
+      let marked = with-ambiguous x (x .ambiguous || a .ambiguous)
+      go (merged (with-ex-clause strand (with-answer-time marked (suc (x .answer-time)))) s)
   ]
 merge-into s strand (Negative goal outsized) a = do
   stop-if (not (is-empty (a .delayed-subgoals))) 27
@@ -267,5 +282,6 @@ merge-answer-into-strand s strand selected a = do
       literal ← unwrap (getElem? (strand .ex-clause .subgoals) (selected .subgoal-index))
       s′ ← enqueue-next-answer s strand selected literal a
       let x = strand .ex-clause
-      merge-into s′ (with-ex-clause (with-selected strand none) (with-subgoals x (remove (x .subgoals) (selected .subgoal-index)))) literal a
+      let x′ = with-subgoals x (remove (x .subgoals) (selected .subgoal-index))
+      merge-into s′ (with-ex-clause (with-selected strand none) x′) literal a
   ]

@@ -52,9 +52,16 @@ Levelled book level = (goal : ℕ) (c : Clause) → List·Memᴰ c (clauses-of b
 -- holds, a "not" if its goal is not below. As an inductive type it is the least set that is closed under the clauses of level n.
 pub data Holds (book : Book) (level : ℕ → ℕ) (n : ℕ) (Below : ℕ → Type 0) : List Literal → Type 0 where
   holds-end : Holds book level n Below []
-  holds-below : {goal want : ℕ} {outsized : Bool} {ls : List Literal} → Below goal → Holds book level n Below ls → Holds book level n Below (Positive goal want outsized ∷ ls)
-  holds-here : {goal want : ℕ} {outsized : Bool} {ls : List Literal} (c : Clause) → level goal ≡ n → List·Memᴰ c (clauses-of book goal) → Holds book level n Below (c .literals) → Holds book level n Below ls → Holds book level n Below (Positive goal want outsized ∷ ls)
-  holds-not : {goal : ℕ} {outsized : Bool} {ls : List Literal} → (Below goal → ⊥) → Holds book level n Below ls → Holds book level n Below (Negative goal outsized ∷ ls)
+  holds-below :
+      {goal want : ℕ} {outsized : Bool} {ls : List Literal} → Below goal → Holds book level n Below ls →
+      Holds book level n Below (Positive goal want outsized ∷ ls)
+  holds-here :
+      {goal want : ℕ} {outsized : Bool} {ls : List Literal} (c : Clause) →
+      level goal ≡ n → List·Memᴰ c (clauses-of book goal) → Holds book level n Below (c .literals) → Holds book level n Below ls →
+      Holds book level n Below (Positive goal want outsized ∷ ls)
+  holds-not :
+      {goal : ℕ} {outsized : Bool} {ls : List Literal} → (Below goal → ⊥) → Holds book level n Below ls →
+      Holds book level n Below (Negative goal outsized ∷ ls)
 
 module _ (book : Book) (level : ℕ → ℕ) where
   -- the goals of the levels below n that are in the model

@@ -17,7 +17,14 @@ next-subgoal-index x = length (x .subgoals) - 1
 
 -- `resolvent_clause`
 abbrev pub resolvent-clause : Clause → ExClause
-resolvent-clause c = record { subst = record { variant = c .variant; outsized = c .outsized }; ambiguous = c .cannot-prove; subgoals = c .literals; delayed-subgoals = []; answer-time = 0; floundered-subgoals = [] }
+resolvent-clause c = record {
+  subst = record { variant = c .variant; outsized = c .outsized };
+  ambiguous = c .cannot-prove;
+  subgoals = c .literals;
+  delayed-subgoals = [];
+  answer-time = 0;
+  floundered-subgoals = [];
+}
 
 -- the most delayed goals that a strand holds
 abbrev pub most-delayed : ℕ

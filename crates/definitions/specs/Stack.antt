@@ -22,10 +22,20 @@ abbrev pub Stack : Type 0
 Stack = List StackEntry
 
 abbrev pub with-active : StackEntry → Option Strand → StackEntry
-with-active e s = record { table = e .table; clock = e .clock; cyclic-minimums = e .cyclic-minimums; active-strand = s }
+with-active e s = record {
+  table = e .table;
+  clock = e .clock;
+  cyclic-minimums = e .cyclic-minimums;
+  active-strand = s;
+}
 
 abbrev pub with-minimums : StackEntry → Minimums → StackEntry
-with-minimums e m = record { table = e .table; clock = e .clock; cyclic-minimums = m; active-strand = e .active-strand }
+with-minimums e m = record {
+  table = e .table;
+  clock = e .clock;
+  cyclic-minimums = m;
+  active-strand = e .active-strand;
+}
 
 -- `is_active`: the entry nearest the bottom counts
 abbrev pub is-active : TableIndex → Stack → Option ℕ
@@ -51,7 +61,12 @@ change-top (e ∷ es) change = go (change e ∷ es)
 
 -- `push`
 abbrev pub push-entry : TableIndex → Minimums → TimeStamp → Stack → Stack
-push-entry t m c es = record { table = t; clock = c; cyclic-minimums = m; active-strand = none } ∷ es
+push-entry t m c es = record {
+  table = t;
+  clock = c;
+  cyclic-minimums = m;
+  active-strand = none;
+} ∷ es
 
 -- What a pop leaves: nothing, or the caller's strand and the stack with the caller on top.
 pub data Popped : Type 0 where

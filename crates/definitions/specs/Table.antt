@@ -21,16 +21,44 @@ pub record Table : Type 0 where
 
 -- `Table::new`
 abbrev pub new : ℕ → Bool → Table
-new goal coinductive = record { table-goal = goal; coinductive-goal = coinductive; floundered = false; answers = []; strands = []; answer-mode = Complete }
+new goal coinductive = record {
+  table-goal = goal;
+  coinductive-goal = coinductive;
+  floundered = false;
+  answers = [];
+  strands = [];
+  answer-mode = Complete;
+}
 
 abbrev pub with-strands : Table → List Strand → Table
-with-strands t ss = record { table-goal = t .table-goal; coinductive-goal = t .coinductive-goal; floundered = t .floundered; answers = t .answers; strands = ss; answer-mode = t .answer-mode }
+with-strands t ss = record {
+  table-goal = t .table-goal;
+  coinductive-goal = t .coinductive-goal;
+  floundered = t .floundered;
+  answers = t .answers;
+  strands = ss;
+  answer-mode = t .answer-mode;
+}
 
 abbrev pub with-answers : Table → List Answer → Table
-with-answers t as′ = record { table-goal = t .table-goal; coinductive-goal = t .coinductive-goal; floundered = t .floundered; answers = as′; strands = t .strands; answer-mode = t .answer-mode }
+with-answers t as′ = record {
+  table-goal = t .table-goal;
+  coinductive-goal = t .coinductive-goal;
+  floundered = t .floundered;
+  answers = as′;
+  strands = t .strands;
+  answer-mode = t .answer-mode;
+}
 
 abbrev pub with-mode : Table → AnswerMode → Table
-with-mode t m = record { table-goal = t .table-goal; coinductive-goal = t .coinductive-goal; floundered = t .floundered; answers = t .answers; strands = t .strands; answer-mode = m }
+with-mode t m = record {
+  table-goal = t .table-goal;
+  coinductive-goal = t .coinductive-goal;
+  floundered = t .floundered;
+  answers = t .answers;
+  strands = t .strands;
+  answer-mode = m;
+}
 
 -- `enqueue_strand`
 abbrev pub enqueue-strand : Strand → Table → Table
@@ -53,7 +81,14 @@ dequeue-next-strand-that test t = elim (position test (t .strands)) [
 
 -- `mark_floundered`
 abbrev pub mark-floundered : Table → Table
-mark-floundered t = record { table-goal = t .table-goal; coinductive-goal = t .coinductive-goal; floundered = true; answers = []; strands = []; answer-mode = t .answer-mode }
+mark-floundered t = record {
+  table-goal = t .table-goal;
+  coinductive-goal = t .coinductive-goal;
+  floundered = true;
+  answers = [];
+  strands = [];
+  answer-mode = t .answer-mode;
+}
 
 -- the stored answer with the same variant and delayed goals; the ambiguous flag doesn't count
 abbrev pub equal-answer : Answer → List Answer → Option Answer

@@ -32,10 +32,31 @@ pub record Forest : Type 0 where
   pub clock : TimeStamp
 
 abbrev pub with-tables : Forest → Tables → Forest
-with-tables f ts = record { book = f .book; clock-limit = f .clock-limit; mark = f .mark; tables = ts; clock = f .clock }
+with-tables f ts = record {
+  book = f .book;
+  clock-limit = f .clock-limit;
+  mark = f .mark;
+  tables = ts;
+  clock = f .clock;
+}
 
 abbrev pub with-mark : Forest → ℕ → Forest
-with-mark f n = record { book = f .book; clock-limit = f .clock-limit; mark = n; tables = f .tables; clock = f .clock }
+with-mark f n = record {
+  book = f .book;
+  clock-limit = f .clock-limit;
+  mark = n;
+  tables = f .tables;
+  clock = f .clock;
+}
+
+abbrev pub with-clock : Forest → TimeStamp → Forest
+with-clock f t = record {
+  book = f .book;
+  clock-limit = f .clock-limit;
+  mark = f .mark;
+  tables = f .tables;
+  clock = t;
+}
 
 -- `Index`: `tables[i]`
 abbrev pub table-at : Forest → TableIndex → Stops Table
@@ -49,7 +70,7 @@ change-table f i change = table-at f i >>= λ t. go (with-tables f (set (f .tabl
 abbrev pub increment-clock : Forest → Stops Forest
 increment-clock f = do
   stop-if (leb (f .clock-limit) (f .clock)) 21
-  go (record { book = f .book; clock-limit = f .clock-limit; mark = f .mark; tables = f .tables; clock = suc (f .clock) })
+  go (with-clock f (suc (f .clock)))
 
 -- the strands in the queues
 abbrev pub queued : Forest → ℕ

@@ -5,17 +5,23 @@ use mathlib.Core.Option.{Option, none, some}
 use mathlib.Core.List.{List, [], _∷_, map}
 use lib.ListN.{getElem?}
 use lib.Dec.{eqb, leb, ltb}
-use Rattle.definitions.specs.{TableIndex, TimeStamp, MAX, Answer, CompleteAnswer, Minimums, minimums-MAX, take-minimums, minimum-of-pos-and-neg, AnswerMode, Ambiguous, is-complete}
+use Rattle.definitions.specs.{TableIndex, TimeStamp, MAX, Answer, CompleteAnswer, AnswerMode, Ambiguous, is-complete}
+use Rattle.definitions.specs.{Minimums, minimums-MAX, take-minimums, minimum-of-pos-and-neg}
 use Rattle.definitions.specs.Book.{Literal, Positive, Negative}
 use Rattle.definitions.specs.Fitting.{is-trivial, is-outsized}
 use Rattle.definitions.specs.Stop.{Stops, stop, go, _>>=_, _>>_, stop-if, unwrap}
 use Rattle.definitions.specs.Lists.{is-empty, remove}
 use Rattle.definitions.specs.Strand.{SelectedSubgoal, Strand, with-ex-clause, with-selected, with-pursued, with-subgoals}
-use Rattle.definitions.specs.Table.{Table, with-mode, enqueue-strand, take-strands, dequeue-next-strand-that, mark-floundered, push-answer, answer, next-answer-index}
+use Rattle.definitions.specs.Table.{Table, with-mode, enqueue-strand, take-strands, dequeue-next-strand-that, mark-floundered}
+use Rattle.definitions.specs.Table.{push-answer, answer, next-answer-index}
 use Rattle.definitions.specs.Tables.{Forest, with-mark, table-at, change-table, increment-clock, queued, held}
-use Rattle.definitions.specs.Stack.{StackEntry, Stack, with-active, with-minimums, is-active, top-of-stack-from, top, change-top, push-entry, no-caller, caller, pop-and-take-caller-strand, pop-and-borrow-caller-strand}
+use Rattle.definitions.specs.Stack.{StackEntry, Stack, with-active, with-minimums, is-active, top-of-stack-from, top, change-top}
+use Rattle.definitions.specs.Stack.{push-entry, no-caller, caller, pop-and-take-caller-strand, pop-and-borrow-caller-strand}
 use Rattle.definitions.specs.Slg.{delay}
-use Rattle.definitions.specs.Logic.{RootSearchFail, NoMoreSolutions, Floundered, QuantumExceeded, NegativeCycle, InvalidAnswer, Selected, NotSelected, SolveState, with-forest, Flow, continue, return-ok, return-err, select-subgoal, drop-state, unwound, enqueue-at-top, activate, merged, failed, merge-answer-into-strand}
+use Rattle.definitions.specs.Logic.{RootSearchFail, NoMoreSolutions, Floundered, QuantumExceeded, NegativeCycle, InvalidAnswer}
+use Rattle.definitions.specs.Logic.{Selected, NotSelected, SolveState, with-forest, Flow, continue, return-ok, return-err}
+use Rattle.definitions.specs.Logic.{select-subgoal, drop-state, unwound, enqueue-at-top, activate}
+use Rattle.definitions.specs.Logic.{merged, failed, merge-answer-into-strand}
 
 -- Cycles.
 
@@ -112,13 +118,18 @@ pursue-answer f t strand = do
     | true ↦ change-table f t mark-floundered >>= λ f′. go (none, f′)
     | false ↦ do
       table ← table-at f t
-      let a : Answer = record { variant = x .subst .variant; delayed-subgoals = other-than (table .table-goal) (x .delayed-subgoals); ambiguous = x .ambiguous }
+      let a : Answer = record {
+        variant = x .subst .variant;
+        delayed-subgoals = other-than (table .table-goal) (x .delayed-subgoals);
+        ambiguous = x .ambiguous;
+      }
       let is-trivial-answer = is-trivial (x .subst .variant)
       pushed ← push-answer (held f) a table
       elim (pushed .0) [
         | none ↦ go (none, f)
         | some index ↦ do
-          f′ ← change-table f t (λ _. elim (not (x .ambiguous) && is-trivial-answer) [ true ↦ take-strands (pushed .1) | false ↦ pushed .1 ])
+          let table′ : Table = elim (not (x .ambiguous) && is-trivial-answer) [ true ↦ take-strands (pushed .1) | false ↦ pushed .1 ]
+          f′ ← change-table f t (λ _. table′)
           go (some index, f′)
       ]
   ]
@@ -128,7 +139,14 @@ abbrev pub create-refinement-strand : Answer → Option Strand
 create-refinement-strand a = elim (is-empty (a .delayed-subgoals)) [
   | true ↦ none
   | false ↦ some (record {
-    ex-clause = record { subst = record { variant = a .variant; outsized = false }; ambiguous = a .ambiguous; subgoals = map (λ g. Positive g 0 false) (a .delayed-subgoals); delayed-subgoals = []; answer-time = 0; floundered-subgoals = [] };
+    ex-clause = record {
+      subst = record { variant = a .variant; outsized = false };
+      ambiguous = a .ambiguous;
+      subgoals = map (λ g. Positive g 0 false) (a .delayed-subgoals);
+      delayed-subgoals = [];
+      answer-time = 0;
+      floundered-subgoals = [];
+    };
     selected-subgoal = none;
     last-pursued-time = 0;
   })
@@ -199,7 +217,8 @@ on-no-strands s = do
           unwound QuantumExceeded (record { forest = s .forest; stack = es′ })
         | Negative goal outsized ↦ do
           let x = strand .ex-clause
-          s′ ← activate (record { forest = s .forest; stack = es }) (with-ex-clause (with-selected strand none) (with-subgoals x (remove (x .subgoals) (selected .subgoal-index))))
+          let x′ = with-subgoals x (remove (x .subgoals) (selected .subgoal-index))
+          s′ ← activate (record { forest = s .forest; stack = es }) (with-ex-clause (with-selected strand none) x′)
           go (continue s′)
       ]
   ]

@@ -2,6 +2,7 @@
 -- from a plain levelled book, every clock limit that 13 lets through, and every list of calls.
 use Prim.Native.Nat.{ℕ, _+_, _-_, _≤_}
 use native.Mathlib.Omega.{arith}
+use borrow.Author.Tests.{leb-false}
 use mathlib.Core.Path.{_≡_, refl, sym, ap, subst, _∙_}
 use mathlib.Core.Bool.{Bool, true, false, _||_}
 use mathlib.Core.List.{List, [], _∷_}
@@ -13,21 +14,21 @@ use Rattle.definitions.specs.Refusal.{Refusable, refused, accepted, _refuses_, 
 use Rattle.definitions.specs.Tables.{Forest}
 use Rattle.definitions.specs.Turn.{root-answer}
 use Rattle.definitions.specs.Forest.{make, is-marked, opened, open-goal, not-made, index-above, search, peek, peek-rounds, SearchMade, any-future-answer}
-use Rattle.definitions.specs.Calls.{Call, opens, searches, peeks, asks-future, Reply, refusal, table, searched, peeked, future, call, searches-made, calls}
+use Rattle.definitions.specs.Calls.{Call, opens, searches, peeks, asks-future, Reply, refusal, future, call, searches-made, calls}
 use Rattle.definitions.specs.Model.{Plain, Levelled, In}
 use Rattle.definitions.specs.Claim.{MarkedSays, reply-stopped, AllSay, exceeded-among, exceeded, Demand3}
-use Rattle.promises.proofs.Plain.Model as P
-use Rattle.promises.proofs.Plain.Claim.{Inside}
+use Rattle.laws.proofs.Options.{no-such}
+use Rattle.laws.proofs.Bools.{or-right}
+use Rattle.promises.proofs.Reading.{not-accepted, all-pass, Good, read-good}
 use Rattle.promises.proofs.Plain.Machine as M
 use Rattle.promises.proofs.Plain.Whole.{potential, initial-ok, initial-total}
 use Rattle.promises.proofs.Link.View.{t-end}
-use Rattle.promises.proofs.Link.Tables.{book-of, no-such, forest-of, Agree}
-use Rattle.promises.proofs.Link.Tests.{leb-false}
-use Rattle.promises.proofs.Link.Making.{Sound}
+use Rattle.promises.proofs.Link.Tables.{book-of, forest-of, Agree}
+use Rattle.promises.proofs.Link.Premises.{Premises, setting-of}
 use Rattle.promises.proofs.Link.Models.{levelled-is, inside-is, clauses-total}
-use Rattle.promises.proofs.Link.Reading.{not-accepted, all-pass, Good, read-good, good-sound}
-use Rattle.promises.proofs.Link.Naming.{unless-stop}
-use Rattle.promises.proofs.Link.Calls.{The, Betw, Left, goes-on, is-over, CallOK, call-ok}
+use Rattle.promises.proofs.Link.Reading.{good-sound}
+use Rattle.promises.proofs.Link.Naming.{unless-stop, Between}
+use Rattle.promises.proofs.Link.Calls.{Left, goes-on, is-over, CallOK, call-ok}
 
 -- On a marked forest.
 
@@ -69,27 +70,27 @@ marked-calls I limit (c ∷ cs) f m =
 
 -- The whole list.
 
-module _ {book : Book} (sound : Sound book) (limit : ℕ) (level : ℕ → ℕ) (levelled : P.Levelled (book-of book) level) (inside : Inside (book-of book) (length book)) (room : limit ≤ MAX) (few : M.total (length book) (λ g. length (book-of book g)) ≤ 256) where
+module _ (G : Premises) where
   abbrev measure : M.Forest → ℕ
-  measure p = potential (The sound limit level levelled inside room few) p
+  measure p = potential (setting-of G) p
 
   abbrev AllOK : Forest → M.Forest → List Call → Type 0
-  AllOK f p cs = AllSay (In book level) limit false (calls f cs) × (exceeded (calls f cs) ≤ measure p)
+  AllOK f p cs = AllSay (In (G .book) (G .level)) (G .limit) false (calls f cs) × (exceeded (calls f cs) ≤ measure p)
 
-  call-at : (f : Forest) (p : M.Forest) → Betw sound limit level levelled inside room few f p → (c : Call) → CallOK sound limit level levelled inside room few p (searches-made f c) c (call f c .0) (call f c .1)
-  call-at f p b c = subst (λ (z : Forest). CallOK sound limit level levelled inside room few p (searches-made z c) c (call z c .0) (call z c .1)) (sym (b .is)) (call-ok sound limit level levelled inside room few (b .agree) (b .ready) c)
+  call-at : (f : Forest) (p : M.Forest) → Between G f p → (c : Call) → CallOK G p (searches-made f c) c (call f c .0) (call f c .1)
+  call-at f p b c = subst (λ (z : Forest). CallOK G p (searches-made z c) c (call z c .0) (call z c .1)) (sym (b .is)) (call-ok G (b .agree) (b .ready) c)
 
   -- the calls after one
-  rest-ok : (cs : List Call) → ((f : Forest) (p : M.Forest) → Betw sound limit level levelled inside room few f p → AllOK f p cs) → (p : M.Forest) (k : ℕ) (r : Reply) (f : Forest) → Left sound limit level levelled inside room few p k r f
-      → AllSay (In book level) limit (false || reply-stopped r) (calls f cs) × (k + exceeded (calls f cs) ≤ measure p)
+  rest-ok : (cs : List Call) → ((f : Forest) (p : M.Forest) → Between G f p → AllOK f p cs) → (p : M.Forest) (k : ℕ) (r : Reply) (f : Forest) → Left G p k r f
+      → AllSay (In (G .book) (G .level)) (G .limit) (false || reply-stopped r) (calls f cs) × (k + exceeded (calls f cs) ≤ measure p)
   rest-ok cs ih p k r f (goes-on p' e b fall) =
       let x = ih f p' b in
-      (subst (λ (z : Bool). AllSay (In book level) limit z (calls f cs)) (sym e) (x .0), (let y = x .1 in omega arith))
+      (subst (λ (z : Bool). AllSay (In (G .book) (G .level)) (G .limit) z (calls f cs)) (sym e) (x .0), (let y = x .1 in omega arith))
   rest-ok cs ih p k r f (is-over e m fall) =
-      let x = marked-calls (In book level) limit cs f m in
-      (subst (λ (z : Bool). AllSay (In book level) limit z (calls f cs)) (sym e) (x .0), (let y = x .1 in omega arith))
+      let x = marked-calls (In (G .book) (G .level)) (G .limit) cs f m in
+      (subst (λ (z : Bool). AllSay (In (G .book) (G .level)) (G .limit) z (calls f cs)) (sym e) (x .0), (let y = x .1 in omega arith))
 
-  pub all-calls : (cs : List Call) (f : Forest) (p : M.Forest) → Betw sound limit level levelled inside room few f p → AllOK f p cs
+  pub all-calls : (cs : List Call) (f : Forest) (p : M.Forest) → Between G f p → AllOK f p cs
   all-calls [] f p b = (tt, omega arith)
   all-calls (c ∷ cs) f p b =
       let k = call-at f p b c in
@@ -103,13 +104,21 @@ start book = record { tables = t-end; distinct = λ i j g e o. absurd (no-such e
 from-start : (book : Book) (limit : ℕ) (level : ℕ → ℕ) → limit ≤ MAX → Good book → Plain book → Levelled book level → (cs : List Call)
     → AllSay (In book level) limit false (calls (forest-of book limit 0 [] 0) cs) × (exceeded (calls (forest-of book limit 0 [] 0) cs) ≤ length book + clause-count book)
 from-start book limit level room good plain levelled cs =
-    let sound = good-sound book good plain in
-    let l = levelled-is book level levelled in
-    let inside = inside-is book in
     let sum = clauses-total book in
-    let few : M.total (length book) (λ g. length (book-of book g)) ≤ 256 = let x = good .small .few-clauses in omega arith in
+    let G : Premises = record {
+      book = book;
+      sound = good-sound book good plain;
+      limit = limit;
+      level = level;
+      levelled = levelled-is book level levelled;
+      inside = inside-is book;
+      room = room;
+      few = let x = good .small .few-clauses in omega arith;
+    } in
     let p = M.initial (book-of book) in
-    let r = all-calls sound limit level l inside room few cs (forest-of book limit 0 [] 0) p (record { goals = []; tables = []; is = refl; agree = start book; ready = initial-ok (The sound limit level l inside room few) }) in
+    let between : Between G (forest-of book limit 0 [] 0) p =
+    record { goals = []; tables = []; is = refl; agree = start book; ready = initial-ok (setting-of G) } in
+    let r = all-calls G cs (forest-of book limit 0 [] 0) p between in
     let most = initial-total (length book) (book-of book) in
     (r .0, (let x = r .1 in omega arith))
 
@@ -119,10 +128,6 @@ pub record MadeFrom (bytes : List ℕ) (limit : ℕ) (f : Forest) : Type 0 where
   pub good : Good book
   pub is : forest-of book limit 0 [] 0 ≡ f
   pub room : limit ≤ MAX
-
-or-right : (a b : Bool) → (a || b) ≡ false → b ≡ false
-or-right true b e = let z : _≡_ {A = ℕ} 0 1 = cc in absurd (omega arith)
-or-right false b e = e
 
 made-from : (bytes : List ℕ) (limit : ℕ) (f : Forest) → make bytes limit ≡ accepted f → MadeFrom bytes limit f
 made-from bytes limit f e = go (read bytes) refl e

@@ -2,7 +2,6 @@
 -- side; `Turns`, `Searches`, `Peeks` and `Calls` follow a turn, a search, a peek and a call.
 pub mod View
 pub mod Lists
-pub mod Tests
 pub mod Choose
 pub mod Tables
 pub mod Sums
@@ -10,6 +9,7 @@ pub mod Making
 pub mod Back
 pub mod Turn
 pub mod Selected
+pub mod Premises
 pub mod Answers
 pub mod Clearing
 pub mod Idle

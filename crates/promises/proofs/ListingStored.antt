@@ -20,7 +20,7 @@ use Rattle.definitions.specs.Logic.{unwind-callers, drop-state}
 use Rattle.definitions.specs.Turn.{Ending, found, fail, cut, stopped, Searched}
 use Rattle.definitions.specs.Turn.{put-back, stored-answer, ok-ending, turn, search-turns, begin, root-answer}
 use Rattle.definitions.specs.Forest.{Peeked, is-invalid, is-exceeded, skip-invalid, peek-rounds}
-use Rattle.promises.proofs.Link.Tables.{same-some}
+use Rattle.laws.proofs.Options.{same-some}
 use Rattle.promises.proofs.Asserts.Safe.{false-true, case-option, case-bool, case-stops, stop-go, unwrapped}
 use Rattle.promises.proofs.Asserts.Lists.{place-under}
 

@@ -16,7 +16,7 @@ use Rattle.definitions.specs.Tables.{Forest, with-tables, table-at, change-tabl
 use Rattle.definitions.specs.Stack.{StackEntry, Stack, with-active, caller, no-caller}
 use Rattle.definitions.specs.Logic.{QuantumExceeded, SolveState, Flow, continue, return-ok, return-err, activate, unwound}
 use Rattle.definitions.specs.Turn.{other-than, pursue-answer, create-refinement-strand, on-answer, on-no-remaining-subgoals}
-use Rattle.promises.proofs.Link.Lists.{last-one, set-here}
+use Rattle.laws.proofs.Lists.{last-one, set-here}
 use Rattle.promises.proofs.Asserts.Keeping.{table-is, change-is}
 use Rattle.promises.proofs.Asserts.Safe.{unwraps}
 use Rattle.split.specs.Acts.{Deed, gives-up, flounders, answers, stored, answered, perform-deed, changed, top-table}

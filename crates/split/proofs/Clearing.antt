@@ -15,9 +15,9 @@ use Rattle.definitions.specs.Table.{Table, with-strands, take-strands}
 use Rattle.definitions.specs.Tables.{Tables, Forest, with-tables, table-at, change-table}
 use Rattle.definitions.specs.Stack.{Stack}
 use Rattle.definitions.specs.Turn.{clear-each, clear-strands-after-cycle}
-use Rattle.promises.proofs.Link.Lists.{set-here}
-use Rattle.promises.proofs.Link.Tables.{no-such, same-some}
-use Rattle.promises.proofs.Link.Tests.{eqb-yes, eqb-no}
+use Rattle.laws.proofs.Lists.{set-here}
+use Rattle.laws.proofs.Options.{no-such, same-some}
+use borrow.Author.Tests.{eq-eqb, ne-eqb}
 use Rattle.promises.proofs.Asserts.Lists.{set-other}
 use Rattle.split.specs.Acts.{changed, emptied}
 use Rattle.split.specs.Decide.{or, no-table, strands-left, decide-each, decide-clear}
@@ -50,9 +50,9 @@ changed-at f j i c = by (ℕ-discrete i j)
         elim (eqb i z) [ true ↦ mapped c (getElem? (f .tables) i) | false ↦ getElem? (f .tables) i ]) q
         (same i (getElem? (f .tables) i) refl ∙ ap
         (λ (b : Bool). elim b [ true ↦ mapped c (getElem? (f .tables) i) | false ↦ getElem? (f .tables) i ])
-        (sym (eqb-yes i i refl)))
+        (sym (eq-eqb i i refl)))
     by (no n) = other (λ q. n (sym q)) (getElem? (f .tables) j)
-        ∙ ap (λ (b : Bool). elim b [ true ↦ mapped c (getElem? (f .tables) i) | false ↦ getElem? (f .tables) i ]) (sym (eqb-no i j n))
+        ∙ ap (λ (b : Bool). elim b [ true ↦ mapped c (getElem? (f .tables) i) | false ↦ getElem? (f .tables) i ]) (sym (ne-eqb i j n))
 
 module _ (f : Forest) where
   -- a table, after these have lost their queues

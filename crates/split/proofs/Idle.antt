@@ -17,7 +17,7 @@ use Rattle.definitions.specs.Tables.{Forest, queued}
 use Rattle.definitions.specs.Stack.{StackEntry, Stack, with-active, change-top, no-caller, caller}
 use Rattle.definitions.specs.Logic.{NoMoreSolutions, QuantumExceeded, NegativeCycle, SolveState, Flow, continue, return-err, unwound, activate, enqueue-at-top}
 use Rattle.definitions.specs.Turn.{cycle-minimums, clear-strands-after-cycle, on-no-strands, on-own-cycle, on-part-of-cycle, on-no-strands-left}
-use Rattle.promises.proofs.Link.Lists.{total-set}
+use Rattle.laws.proofs.Lists.{total-set}
 use Rattle.promises.proofs.Asserts.Keeping.{table-is}
 use Rattle.split.specs.Acts.{Act, caller-failed, negative-cycle, clears, part-of-cycle, perform, changed, emptied}
 use Rattle.split.specs.Decide.{no-literal, no-selected, no-strand, or, selected-of, selected-literal, decide-clear, decide-failed, decide-no-strands, decide-part-of-cycle, decide-idle}

@@ -15,8 +15,8 @@ use Rattle.definitions.specs.Strand.{SelectedSubgoal, Strand}
 use Rattle.definitions.specs.Table.{Table, answer}
 use Rattle.definitions.specs.Tables.{Tables, Forest}
 use Rattle.definitions.specs.Stack.{StackEntry, Stack, is-active}
-use Rattle.promises.proofs.Link.Lists.{at-append}
-use Rattle.promises.proofs.Link.Tests.{eqb-no}
+use Rattle.laws.proofs.Lists.{at-append}
+use borrow.Author.Tests.{ne-eqb}
 use Rattle.promises.proofs.Asserts.Lists.{All, all-first, all-rest}
 use Rattle.split.specs.Acts.{Deed, pushes, built, with-made}
 use Rattle.split.specs.Decide.{or, no-table, table-of, decide-awaiting, decide-merge, decide-cycle}
@@ -62,7 +62,7 @@ off-stack i (e ∷ es) w =
       | none ↦ elim (eqb (e .table) i) [ true ↦ some 0 | false ↦ none ]
     ]) (off-stack i es (all-rest w))
     ∙ ap (λ (b : Bool). elim b as (λ _. Option ℕ) [ true ↦ some 0 | false ↦ none ])
-    (eqb-no (e .table) i (let o = all-first w in λ q. omega arith))
+    (ne-eqb (e .table) i (let o = all-first w in λ q. omega arith))
 
 -- a new table is pushed: 21 is all that may stop that
 pub new-pushed : (live : ℕ) (f : Forest) (made : List ℕ) (e : StackEntry) (es : Stack) (strand : Strand) (selected : SelectedSubgoal)

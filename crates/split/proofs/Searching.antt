@@ -13,7 +13,7 @@ use Rattle.definitions.specs.Tables.{Forest, with-mark, table-at, increment-clo
 use Rattle.definitions.specs.Stack.{push-entry}
 use Rattle.definitions.specs.Logic.{Floundered, SolveState, with-forest, Flow, continue, return-ok, return-err}
 use Rattle.definitions.specs.Turn.{turn, Searched, fail, cut, stopped, put-back, ok-ending, search-turns, begin, root-answer}
-use Rattle.promises.proofs.Link.Tests.{leb-yes, leb-no}
+use borrow.Author.Tests.{le-leb, lt-leb}
 use Rattle.split.specs.Steps.{Standing, Progress, ended, stands, cut-short, standing, gone-on, after-turn, stop-short, step, pushes-root, start, Ends, at-once, after-step}
 
 -- Both sides go by the same tests.
@@ -36,10 +36,10 @@ module _ {A : Type 0} {q : A → Progress} {s : A → Searched} where
 
 -- a search with turns left stands; one without is cut
 left-over : (w : Standing) (k : ℕ) → w .limit ≡ w .done + suc k → standing w ≡ stands w
-left-over w k e = rw (standing, leb-no (w .limit) (w .done) (omega arith))
+left-over w k e = rw (standing, lt-leb (w .limit) (w .done) (omega arith))
 
 used-up : (w : Standing) → w .limit ≡ w .done + 0 → standing w ≡ ended (cut-short w)
-used-up w e = rw (standing, leb-yes (w .limit) (w .done) (omega arith))
+used-up w e = rw (standing, le-leb (w .limit) (w .done) (omega arith))
 
 -- what the definitions do after a turn, with k turns left
 abbrev goes-on : ℕ → Standing → Flow → Searched

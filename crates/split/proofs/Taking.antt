@@ -11,8 +11,8 @@ use Rattle.definitions.specs.Strand.{Strand}
 use Rattle.definitions.specs.Table.{Table, with-strands, take-strands, pop-front, dequeue-next-strand-that}
 use Rattle.definitions.specs.Tables.{Tables, Forest, with-tables, queued, held}
 use Rattle.definitions.specs.Stack.{StackEntry, Stack, with-active, active, active-count}
-use Rattle.promises.proofs.Link.Lists.{total-set}
-use Rattle.promises.proofs.Link.Tables.{no-such, same-some}
+use Rattle.laws.proofs.Lists.{total-set}
+use Rattle.laws.proofs.Options.{no-such, same-some}
 use Rattle.promises.proofs.Asserts.Lists.{rotate-length}
 use Rattle.split.specs.Acts.{changed}
 use Rattle.split.proofs.Writing.{heads, changed-is}

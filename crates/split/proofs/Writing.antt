@@ -11,7 +11,7 @@ use Rattle.definitions.specs.Table.{Table, with-strands, take-strands, enqueue-
 use Rattle.definitions.specs.Tables.{Tables, Forest, with-tables, table-at, change-table}
 use Rattle.definitions.specs.Stack.{StackEntry, Stack}
 use Rattle.definitions.specs.Logic.{SolveState, RootSearchFail, return-err, unwind-callers, unwind-stack, unwound, enqueue-at-top}
-use Rattle.promises.proofs.Link.Tables.{no-such, same-some}
+use Rattle.laws.proofs.Options.{no-such, same-some}
 use Rattle.split.specs.Acts.{changed, queued-at-top, callers-unwound, gone}
 use Rattle.split.specs.Decide.{or, no-table, table-of}
 use Rattle.split.proofs.Matches.{Matches, asserts, Goes, asserting, going, goes-after}

@@ -1,6 +1,7 @@
 -- A strand with nothing left to choose: its answer is stored, and the caller goes on with it or the search has its result.
 use Prim.Native.Nat.{ℕ, suc, _+_, _≤_, _<_}
 use native.Mathlib.Omega.{arith}
+use borrow.Author.Tests.{leb-false}
 use mathlib.Core.Path.{_≡_, refl, sym, subst, _∙_}
 use mathlib.Core.Bool.{Bool, true, false, not, _&&_}
 use mathlib.Core.Logic.{inl, inr}
@@ -16,9 +17,8 @@ use Rattle.definitions.specs.Table.{Table, with-answers, take-strands, mark-flo
 use Rattle.definitions.specs.Tables.{Tables, Forest, with-tables, queued, held}
 use Rattle.definitions.specs.Stack.{StackEntry, Stack, active}
 use Rattle.definitions.specs.Turn.{other-than, pursue-answer}
-use Rattle.promises.proofs.Link.Lists.{total-set, last-one, set-here}
-use Rattle.promises.proofs.Link.Tables.{no-such, same-some}
-use Rattle.promises.proofs.Link.Tests.{leb-false}
+use Rattle.laws.proofs.Lists.{total-set, last-one, set-here}
+use Rattle.laws.proofs.Options.{no-such, same-some}
 use Rattle.promises.proofs.Asserts.Safe.{true-false, Safe, goes, after, known, guard, asserted, by-bool, by-option, case-bool}
 use Rattle.promises.proofs.Asserts.Lists.{All, end, more, all-first, all-rest, set-other, all-push}
 use Rattle.promises.proofs.Asserts.Sound.{Goals, SoundAnswer, SoundClause, SoundTable, SoundStack, Off}

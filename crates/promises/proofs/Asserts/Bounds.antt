@@ -9,8 +9,8 @@ use Rattle.definitions.specs.{Minimums}
 use Rattle.definitions.specs.Table.{Table}
 use Rattle.definitions.specs.Tables.{Tables, Forest}
 use Rattle.definitions.specs.Stack.{Stack}
-use Rattle.promises.proofs.Link.Tables.{no-such, same-some}
-use Rattle.promises.proofs.Link.Sums.{Distinct, few-distinct}
+use Rattle.laws.proofs.Distinct.{Distinct, few-distinct}
+use Rattle.laws.proofs.Options.{no-such, same-some}
 use Rattle.promises.proofs.Asserts.Lists.{all-at, place-under, total-one}
 use Rattle.promises.proofs.Asserts.Sound.{SoundForest, Below, Off, Searching}
 

@@ -19,8 +19,9 @@ use Rattle.definitions.specs.Tables.{Tables, Forest, table-at, queued}
 use Rattle.definitions.specs.Stack.{active}
 use Rattle.definitions.specs.Slg.{next-subgoal-index}
 use Rattle.definitions.specs.Logic.{SubGoalSelection, Selected, NotSelected, SolveState, Selection, selecting, flounder-subgoal, reconsider-floundered-subgoals, propagate-floundered-subgoal, get-or-create-table-for-subgoal, select-from, select-subgoal}
+use Rattle.laws.proofs.Lists.{at-place}
 use Rattle.promises.proofs.Asserts.Safe.{true-false, false-true, Safe, goes, after, weaker, known, asserted, by-bool, by-option, unwraps}
-use Rattle.promises.proofs.Asserts.Lists.{all-at, at-place, is-nil, not-nil, no-nil}
+use Rattle.promises.proofs.Asserts.Lists.{all-at, is-nil, not-nil, no-nil}
 use Rattle.promises.proofs.Asserts.Sound.{Awaits, Selects, SoundClause, SoundStrand, SoundForest}
 use Rattle.promises.proofs.Asserts.Keeping.{Kept, kept-same, kept-trans, table-is}
 use Rattle.promises.proofs.Asserts.Making.{makes-for}

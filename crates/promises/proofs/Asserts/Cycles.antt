@@ -1,6 +1,7 @@
 -- A selected literal whose table is not floundered: it has the answer, stands on the stack already, or is pushed.
 use Prim.Native.Nat.{ℕ, zero, suc, _+_, _≤_, _<_}
 use native.Mathlib.Omega.{arith}
+use borrow.Author.Tests.{eq-eqb}
 use mathlib.Core.Path.{_≡_, refl, sym, subst, _∙_}
 use mathlib.Core.Bool.{Bool, true, false, not, _&&_}
 use mathlib.Core.Logic.{inl, inr}
@@ -19,10 +20,10 @@ use Rattle.definitions.specs.Stack.{StackEntry, Stack, with-active, is-active, 
 use Rattle.definitions.specs.Slg.{delay}
 use Rattle.definitions.specs.Logic.{SolveState, QuantumExceeded, continue, return-err, Merge, merged, failed, activate}
 use Rattle.definitions.specs.Turn.{on-coinductive-subgoal, cycle-minimums, on-positive-cycle, coinductive-entries, on-cycle, on-subgoal-selected}
-use Rattle.promises.proofs.Link.Tables.{no-such, same-some}
-use Rattle.promises.proofs.Link.Tests.{eqb-yes}
+use Rattle.laws.proofs.Lists.{at-place}
+use Rattle.laws.proofs.Options.{no-such, same-some}
 use Rattle.promises.proofs.Asserts.Safe.{true-false, false-true, Safe, stops, goes, after, known, asserted, by-bool, by-option, unwraps}
-use Rattle.promises.proofs.Asserts.Lists.{All, end, more, all-first, all-rest, all-take, all-at, at-place, no-place}
+use Rattle.promises.proofs.Asserts.Lists.{All, end, more, all-first, all-rest, all-take, all-at, no-place}
 use Rattle.promises.proofs.Asserts.Sound.{Off, Named, Reached, Awaits, Selects, SoundStrand, Standing, Below, SoundStack, SoundState}
 use Rattle.promises.proofs.Asserts.Keeping.{grows-above, strand-grows, ticks, table-is, table-sound, searching-kept}
 use Rattle.promises.proofs.Asserts.Choosing.{Ready}
@@ -60,7 +61,7 @@ not-active t (e ∷ es) k = at (is-active t es) refl k (not-active t es)
   where
     here : (b : Bool) → eqb (e .table) t ≡ b → _≡_ {A = Option ℕ} (elim b [ true ↦ some 0 | false ↦ none ]) none → e .table ≡ t → ⊥
     here true q k c = absurd (no-such (sym k))
-    here false q k c = true-false (sym (eqb-yes (e .table) t c) ∙ q)
+    here false q k c = true-false (sym (eq-eqb (e .table) t c) ∙ q)
 
     at : (o : Option ℕ) → is-active t es ≡ o → _≡_ {A = Option ℕ} (elim o [ some d ↦ some (suc d) | none ↦ elim (eqb (e .table) t) [ true ↦ some 0 | false ↦ none ] ]) none → (is-active t es ≡ none → Off t es) → Off t (e ∷ es)
     at none q k h = more (here (eqb (e .table) t) refl k) (h q)
@@ -202,7 +203,7 @@ module _ (n root index first : ℕ) where
       (by-option (answer (r .own) (selected .answer-index))
       (λ q.
       let at-least = no-place (r .own .answers) (selected .answer-index) q in
-      asserted (not (eqb (next-answer-index (r .own)) (selected .answer-index))) 0 (rw (eqb-yes (length (r .own .answers)) (selected .answer-index) (omega arith)))
+      asserted (not (eqb (next-answer-index (r .own)) (selected .answer-index))) 0 (rw (eq-eqb (length (r .own .answers)) (selected .answer-index) (omega arith)))
       (by-option (is-active (selected .subgoal-table) (e ∷ es))
       (λ k. pushes f e es x free strand y selected w k (r .is-selected) (r .unfloundered))
       (λ depth k. cycle f e es x free strand y selected w depth k)))

@@ -1,6 +1,7 @@
 -- A clause of a book that is read has at most eight literals.
 use Prim.Native.Nat.{ℕ, zero, suc, _+_, _≤_, _<_}
 use native.Mathlib.Omega.{arith}
+use borrow.Author.Tests.{leb-false}
 use mathlib.Core.Path.{_≡_, refl, subst}
 use mathlib.Core.Bool.{Bool, true, false, not}
 use mathlib.Core.List.{List, [], _∷_, _++_}
@@ -8,8 +9,7 @@ use lib.ListN.{length, length-append}
 use lib.Dec.{ltb, leb, eqb}
 use Rattle.definitions.specs.Refusal.{Refusable, refused, accepted, _refuses_}
 use Rattle.definitions.specs.Book.{Book, Goal, Clause, Literal, Positive, Negative, clause-count, Command, goal, clause, positive, negative, end, unknown, command, width, is-end, with-clauses, add-clause, add-to-last, add-literal, last-literals, literals-so-far, goals-name, whole-command, read-from, apply-command, literal-command, byte, u16, bit0, bit1}
-use Rattle.promises.proofs.Link.Tests.{leb-false}
-use Rattle.promises.proofs.Link.Reading.{same-accepted, not-accepted, all-pass}
+use Rattle.promises.proofs.Reading.{same-accepted, not-accepted, all-pass}
 use Rattle.promises.proofs.Asserts.Lists.{All, more, all-first, all-rest, all-push}
 use Rattle.promises.proofs.Asserts.Lists as Lists
 

@@ -2,6 +2,7 @@
 -- further down.
 use Prim.Native.Nat.{ℕ, suc, _+_, _<_}
 use native.Mathlib.Omega.{arith}
+use borrow.Author.Tests.{le-leb}
 use mathlib.Core.Path.{_≡_, refl, sym, ap, subst, _∙_}
 use mathlib.Core.Bool.{Bool, true, false, _&&_}
 use mathlib.Core.Option.{Option, none, some}
@@ -18,10 +19,9 @@ use Rattle.definitions.specs.Tables.{Tables, Forest, with-tables, queued}
 use Rattle.definitions.specs.Stack.{StackEntry, Stack, with-active, caller, active, active-count}
 use Rattle.definitions.specs.Logic.{NoMoreSolutions, QuantumExceeded, NegativeCycle, continue, return-err, activate, unwound, enqueue-at-top}
 use Rattle.definitions.specs.Turn.{cycle-minimums, on-no-strands, on-own-cycle, on-part-of-cycle, on-no-strands-left}
-use Rattle.promises.proofs.Link.Lists.{total-set}
-use Rattle.promises.proofs.Link.Tests.{leb-yes}
+use Rattle.laws.proofs.Lists.{total-set, at-place}
 use Rattle.promises.proofs.Asserts.Safe.{true-false, Safe, goes, after, known, by-bool, unwraps}
-use Rattle.promises.proofs.Asserts.Lists.{end, all-map, at-place}
+use Rattle.promises.proofs.Asserts.Lists.{end, all-map}
 use Rattle.promises.proofs.Asserts.Sound.{Awaits, Selects, Calls, Active, SoundStack}
 use Rattle.promises.proofs.Asserts.Keeping.{grows-above, strand-grows, kept-trans, set-kept, strands-kept, table-is, change-is, table-sound}
 use Rattle.promises.proofs.Asserts.Unwinding.{Flows, searching-ended}
@@ -89,7 +89,7 @@ module _ (n root index first : ℕ) where
       let same = x .0 .below .1 in
       let p = x .0 .standing .positive-late in
       let q = x .0 .standing .negative-late in
-      true-false (sym (both-yes (leb (e .clock) (e .cyclic-minimums .positive)) (leb (e .clock) (e .cyclic-minimums .negative)) (leb-yes (e .clock) (e .cyclic-minimums .positive) (omega arith)) (leb-yes (e .clock) (e .cyclic-minimums .negative) (omega arith))) ∙ b)
+      true-false (sym (both-yes (leb (e .clock) (e .cyclic-minimums .positive)) (leb (e .clock) (e .cyclic-minimums .negative)) (le-leb (e .clock) (e .cyclic-minimums .positive) (omega arith)) (le-leb (e .clock) (e .cyclic-minimums .negative) (omega arith))) ∙ b)
     where
       both-yes : (a b : Bool) → a ≡ true → b ≡ true → (a && b) ≡ true
       both-yes a b p q = rw (p, q)

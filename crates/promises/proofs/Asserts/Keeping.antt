@@ -2,6 +2,7 @@
 use Prim.Native.Nat.{ℕ, suc, _+_, _≤_, _<_}
 use native.Mathlib.Omega.{arith}
 use native.Mathlib.Decide.{ℕ-discrete}
+use borrow.Author.Tests.{leb-false}
 use mathlib.Core.Path.{_≡_, refl, sym, ap, subst, _∙_}
 use mathlib.Core.Bool.{true, false}
 use mathlib.Core.Logic.{inl, inr}
@@ -15,9 +16,8 @@ use Rattle.definitions.specs.Strand.{SelectedSubgoal, Strand}
 use Rattle.definitions.specs.Table.{Table, with-strands, enqueue-strand}
 use Rattle.definitions.specs.Tables.{Tables, Forest, with-tables, table-at, change-table, increment-clock, queued, held}
 use Rattle.definitions.specs.Stack.{Stack}
-use Rattle.promises.proofs.Link.Lists.{total-set, set-here, at-append}
-use Rattle.promises.proofs.Link.Tables.{same-some}
-use Rattle.promises.proofs.Link.Tests.{leb-false}
+use Rattle.laws.proofs.Lists.{total-set, set-here, at-append}
+use Rattle.laws.proofs.Options.{same-some}
 use Rattle.promises.proofs.Asserts.Safe.{true-false, Safe, goes, guard}
 use Rattle.promises.proofs.Asserts.Lists.{All, all-at, all-set, all-map, all-push, set-there, set-other}
 use Rattle.promises.proofs.Asserts.Sound.{Reached, Selects, SoundStrand, SoundTable, SoundForest, Standing, Calls, Below, Rooted, Searching, Active}

@@ -8,8 +8,8 @@ use mathlib.Core.Option.{Option, none, some}
 use mathlib.Core.List.{List, [], _∷_, _++_}
 use lib.ListN.{length, getElem?, set, take, drop, length-append, length-take, length-drop}
 use Rattle.definitions.specs.Lists.{push, remove, swap-remove, total, position, rotate-left, is-empty}
-use Rattle.promises.proofs.Link.Lists.{last-place, last-one}
-use Rattle.promises.proofs.Link.Tables.{no-such, same-some}
+use Rattle.laws.proofs.Lists.{last-place, last-one}
+use Rattle.laws.proofs.Options.{no-such, same-some}
 
 -- P holds of each one
 pub data All {A : Type 0} (P : A → Type 0) : List A → Type 0 where
@@ -71,11 +71,6 @@ module _ {A : Type 0} {P Q : A → Type 0} where
   all-map f (more {a = a} p x) = more (f a p) (all-map f x)
 
 module _ {A : Type 0} where
-  pub at-place : (l : List A) (i : ℕ) → i < length l → (a : A) × (getElem? l i ≡ some a)
-  at-place [] i lt = absurd (omega arith)
-  at-place (a ∷ l) zero lt = (a, refl)
-  at-place (a ∷ l) (suc i) lt = at-place l i (omega arith)
-
   pub place-under : (l : List A) (i : ℕ) (a : A) → getElem? l i ≡ some a → i < length l
   place-under [] i a e = absurd (no-such e)
   place-under (b ∷ l) zero a e = omega arith

@@ -1,6 +1,7 @@
 -- Making a table: the goal is in the book, and the new table is sound.
 use Prim.Native.Nat.{ℕ, _+_, _≤_, _<_}
 use native.Mathlib.Omega.{arith}
+use borrow.Author.Tests.{eq-eqb, leb-false}
 use mathlib.Core.Path.{_≡_, refl, sym, ap, _∙_}
 use mathlib.Core.Logic.{_⊎_, inl, inr}
 use mathlib.Core.Option.{Option, none, some}
@@ -13,11 +14,10 @@ use Rattle.definitions.specs.Fitting.{gets-table}
 use Rattle.definitions.specs.Table.{Table}
 use Rattle.definitions.specs.Tables.{Tables, Forest, with-tables, index-of, queued}
 use Rattle.definitions.specs.Logic.{initial-strand, build-table, get-or-create-table-for-ucanonical-goal, get-or-create-table-for-subgoal}
-use Rattle.promises.proofs.Link.Lists.{last-one}
-use Rattle.promises.proofs.Link.Tests.{eqb-yes, leb-false}
-use Rattle.promises.proofs.Link.Tables.{no-such, same-some}
+use Rattle.laws.proofs.Lists.{last-one, at-place}
+use Rattle.laws.proofs.Options.{no-such, same-some}
 use Rattle.promises.proofs.Asserts.Safe.{true-false, false-true, Safe, goes, after, known, guard, by-bool, by-option, unwraps}
-use Rattle.promises.proofs.Asserts.Lists.{All, end, more, all-at, all-map, all-push, at-place, position-at, position-none, at-push, total-append}
+use Rattle.promises.proofs.Asserts.Lists.{All, end, more, all-at, all-map, all-push, position-at, position-none, at-push, total-append}
 use Rattle.promises.proofs.Asserts.Sound.{AsGoal, Named, SoundStrand, SoundTable, SoundForest}
 use Rattle.promises.proofs.Asserts.Keeping.{Steady, grows-push, grows-above, steady-same, table-grows, Kept, kept-same}
 
@@ -63,7 +63,7 @@ push-kept {n} {f} s goal new t x places =
     }
   where
     not-new : (i : ℕ) (u : Table) → getElem? (f .tables) i ≡ some u → u .table-goal ≡ goal → ⊥
-    not-new i u a q = true-false (sym (eqb-yes (u .table-goal) goal q) ∙ position-none (λ v. eqb (v .table-goal) goal) (f .tables) new i u a)
+    not-new i u a q = true-false (sym (eq-eqb (u .table-goal) goal q) ∙ position-none (λ v. eqb (v .table-goal) goal) (f .tables) new i u a)
 
     apart : (i j : ℕ) (u v : Table) → (getElem? (f .tables) i ≡ some u) ⊎ ((t ≡ u) × (i ≡ length (f .tables))) → (getElem? (f .tables) j ≡ some v) ⊎ ((t ≡ v) × (j ≡ length (f .tables))) → u .table-goal ≡ v .table-goal → i ≡ j
     apart i j u v (inl a) (inl b) c = s .tables-apart i j u v a b c

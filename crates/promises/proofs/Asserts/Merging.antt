@@ -1,6 +1,7 @@
 -- An answer taken into a strand: the literal is there, and the strand stays sound.
 use Prim.Native.Nat.{ℕ, suc, _+_, _<_}
 use native.Mathlib.Omega.{arith}
+use borrow.Author.Tests.{leb-false}
 use mathlib.Core.Path.{_≡_, refl, sym, subst}
 use mathlib.Core.Bool.{true, not, _&&_, _||_}
 use mathlib.Core.Logic.{inr}
@@ -18,9 +19,9 @@ use Rattle.definitions.specs.Tables.{Forest, queued}
 use Rattle.definitions.specs.Stack.{StackEntry, Stack, active}
 use Rattle.definitions.specs.Slg.{delay, apply-answer-subst}
 use Rattle.definitions.specs.Logic.{SolveState, Merge, merged, failed, next-answer-strand, enqueue-next-answer, no-solution, merge-into, merge-answer-into-strand}
-use Rattle.promises.proofs.Link.Tests.{leb-false}
+use Rattle.laws.proofs.Lists.{at-place}
 use Rattle.promises.proofs.Asserts.Safe.{Safe, goes, after, known, guard, by-bool, passing, unwraps}
-use Rattle.promises.proofs.Asserts.Lists.{all-append, all-remove, remove-length, at-place, place-under}
+use Rattle.promises.proofs.Asserts.Lists.{all-append, all-remove, remove-length, place-under}
 use Rattle.promises.proofs.Asserts.Sound.{Goals, size, SoundAnswer, Awaits, Selects, SoundClause, SoundStrand, SoundStack, SoundState}
 use Rattle.promises.proofs.Asserts.Keeping.{table-is}
 use Rattle.promises.proofs.Asserts.Returning.{flounders}

@@ -1,8 +1,9 @@
 -- A forest that is made is sound: the literals of a book that is read name goals of it, and the clock's limit is in range.
 use Prim.Native.Nat.{ℕ, suc, _≤_}
 use native.Mathlib.Omega.{arith}
+use borrow.Author.Tests.{leb-true, leb-false}
 use mathlib.Core.Path.{_≡_, refl, subst}
-use mathlib.Core.Bool.{Bool, true, false, _||_}
+use mathlib.Core.Bool.{true, _||_}
 use mathlib.Core.List.{List, [], _∷_}
 use lib.ListN.{length}
 use lib.Dec.{eqb, leb, ltb}
@@ -11,17 +12,12 @@ use Rattle.definitions.specs.Refusal.{Refusable, refused, accepted, _refuses_, 
 use Rattle.definitions.specs.Book.{Book, Goal, Clause, Literal, goal-of, literals-name, clauses-name, goals-name, read}
 use Rattle.definitions.specs.Tables.{Forest}
 use Rattle.definitions.specs.Forest.{make}
-use Rattle.promises.proofs.Link.Tests.{leb-true, leb-false}
-use Rattle.promises.proofs.Link.Tables.{no-such}
-use Rattle.promises.proofs.Link.Reading.{not-accepted, all-pass, read-good}
-use Rattle.promises.proofs.Asserts.Safe.{true-false, false-true}
+use Rattle.laws.proofs.Options.{no-such}
+use Rattle.promises.proofs.Reading.{not-accepted, all-pass, read-good}
+use Rattle.laws.proofs.Bools.{both-true, or-right}
 use Rattle.promises.proofs.Asserts.Lists.{All, end, more, all-first, all-rest}
 use Rattle.promises.proofs.Asserts.Few.{Few, FewLiterals, read-few}
 use Rattle.promises.proofs.Asserts.Sound.{Named, SoundBook, SoundForest}
-
-both-true : (a b : Bool) → elim a [ true ↦ b | false ↦ false ] ≡ true → (a ≡ true) × (b ≡ true)
-both-true true b e = (refl, e)
-both-true false b e = false-true e
 
 literals-named : (n : ℕ) (ls : List Literal) → literals-name n ls ≡ true → All (Named n) ls
 literals-named n [] e = end
@@ -34,10 +30,6 @@ clauses-named n (c ∷ cs) e w = let x = both-true (literals-name n (c .literals
 goals-named : (n : ℕ) (gs : List Goal) → goals-name n gs ≡ true → FewLiterals gs → SoundBook n gs
 goals-named n [] e w = end
 goals-named n (g ∷ gs) e w = let x = both-true (clauses-name n (g .clauses)) (goals-name n gs) e in more (clauses-named n (g .clauses) (x .0) (all-first w)) (goals-named n gs (x .1) (all-rest w))
-
-neither : (a b : Bool) → (a || b) ≡ false → b ≡ false
-neither true b e = true-false e
-neither false b e = e
 
 pub made-sound : (bytes : List ℕ) (limit : ℕ) (f : Forest) → make bytes limit ≡ accepted f → SoundForest (length (f .book)) f
 made-sound bytes limit f e = on (read bytes) refl e
@@ -60,5 +52,5 @@ made-sound bytes limit f e = on (read bytes) refl e
           few-answers = omega arith;
           few-strands = omega arith;
           clock-within = omega arith;
-          limit-within = leb-false MAX limit (neither (eqb limit 0) (leb MAX limit) (a .0 .0));
+          limit-within = leb-false MAX limit (or-right (eqb limit 0) (leb MAX limit) (a .0 .0));
         })

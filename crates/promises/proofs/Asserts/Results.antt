@@ -16,7 +16,7 @@ use Rattle.definitions.specs.Tables.{Tables, Forest, queued}
 use Rattle.definitions.specs.Stack.{StackEntry, Stack, with-active, caller, active, active-count}
 use Rattle.definitions.specs.Logic.{QuantumExceeded, continue, return-ok, return-err, unwound}
 use Rattle.definitions.specs.Turn.{create-refinement-strand, on-answer, on-no-remaining-subgoals}
-use Rattle.promises.proofs.Link.Tables.{no-such, same-some}
+use Rattle.laws.proofs.Options.{no-such, same-some}
 use Rattle.promises.proofs.Asserts.Safe.{Safe, goes, after, known, by-bool, by-option, unwraps, case-bool}
 use Rattle.promises.proofs.Asserts.Lists.{All, end, more, all-at}
 use Rattle.promises.proofs.Asserts.Sound.{Named, Goals, SoundAnswer, SoundStrand, Rooted, SoundStack}

@@ -2,6 +2,7 @@
 -- strand's answer time, and of the others none is left that could return.
 use Prim.Native.Nat.{ℕ, zero, suc, _+_, _≤_, _<_}
 use native.Mathlib.Omega.{arith}
+use borrow.Author.Tests.{le-ltb}
 use mathlib.Core.Path.{_≡_, refl, ap}
 use mathlib.Core.Bool.{Bool, true, false}
 use mathlib.Core.Option.{some}
@@ -13,9 +14,9 @@ use Rattle.definitions.specs.Lists.{total, push, swap-remove}
 use Rattle.definitions.specs.Strand.{with-floundered}
 use Rattle.definitions.specs.Logic.{flounder-subgoal, reconsider-from, reconsider-floundered-subgoals}
 use Rattle.promises.specs.NeverAsserts.{PassesFind}
-use Rattle.promises.proofs.Link.Tests.{ltb-no}
+use Rattle.laws.proofs.Lists.{at-place}
 use Rattle.promises.proofs.Asserts.Safe.{Safe, goes, known, unwraps, case-option, case-bool}
-use Rattle.promises.proofs.Asserts.Lists.{all-at, all-push, all-remove, all-swap-remove, at-place, remove-length, total-append, total-length, take-whole, take-next, take-none, swapped}
+use Rattle.promises.proofs.Asserts.Lists.{all-at, all-push, all-remove, all-swap-remove, remove-length, total-append, total-length, take-whole, take-next, take-none, swapped}
 use Rattle.promises.proofs.Asserts.Sound.{SoundClause}
 
 -- 1 for a literal that would return at this answer time
@@ -35,7 +36,7 @@ pub flounders : {n : ℕ} {x : ExClause} → SoundClause n x → (i : ℕ) → i
 flounders {n} {x} s i lt =
     let l = at-place (x .subgoals) i lt in
     let new : FlounderedSubgoal = record { floundered-literal = l .0; floundered-time = x .answer-time } in
-    let none-late : late (x .answer-time) new ≡ 0 = ap (λ b. elim b [ true ↦ 1 | false ↦ 0 ]) (ltb-no (x .answer-time) (x .answer-time) (omega arith)) in
+    let none-late : late (x .answer-time) new ≡ 0 = ap (λ b. elim b [ true ↦ 1 | false ↦ 0 ]) (le-ltb (x .answer-time) (x .answer-time) (omega arith)) in
     let count = total-append (late (x .answer-time)) (x .floundered-subgoals) (new ∷ []) in
     known _ (unwraps (getElem? (x .subgoals) i) (l .0) (l .1)) (goes (record {
       clause = record { subgoals-named = all-remove i (s .subgoals-named); floundered-named = all-push (s .floundered-named) (all-at i (s .subgoals-named) (l .1)); delayed-named = s .delayed-named; few-literals = let o = s .few-literals in let p = remove-length (x .subgoals) i lt in let q : length (x .floundered-subgoals ++ (new ∷ [])) ≡ length (x .floundered-subgoals) + 1 = length-append (x .floundered-subgoals) (new ∷ []) in omega arith; few-delayed = s .few-delayed };

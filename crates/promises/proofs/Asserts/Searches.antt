@@ -1,6 +1,7 @@
 -- A search over a sound forest ends without an assert, and leaves a sound forest. Where its answer has delayed goals, that is stored.
 use Prim.Native.Nat.{ℕ, zero, suc, _≤_}
 use native.Mathlib.Omega.{arith}
+use borrow.Author.Tests.{eq-eqb}
 use mathlib.Core.Path.{_≡_, refl, sym, ap, subst, _∙_}
 use mathlib.Core.Bool.{true, false}
 use mathlib.Core.Logic.{inl, inr}
@@ -16,10 +17,10 @@ use Rattle.definitions.specs.Stack.{Stack, push-entry}
 use Rattle.definitions.specs.Logic.{InvalidAnswer, SolveState, with-forest, Flow, continue, return-ok, return-err}
 use Rattle.definitions.specs.Turn.{Ending, found, fail, cut, stopped, Searched, put-back, stored-answer, ok-ending, search-turns, begin, root-answer}
 use Rattle.definitions.specs.Forest.{is-invalid}
-use Rattle.promises.proofs.Link.Tables.{same-some}
-use Rattle.promises.proofs.Link.Tests.{eqb-yes}
+use Rattle.laws.proofs.Lists.{at-place}
+use Rattle.laws.proofs.Options.{same-some}
 use Rattle.promises.proofs.Asserts.Safe.{true-false, false-true, NotZero, case-option, case-bool, case-stops, case-safe, stop-go, unwrapped, unwraps}
-use Rattle.promises.proofs.Asserts.Lists.{end, at-place, place-under, no-place}
+use Rattle.promises.proofs.Asserts.Lists.{end, place-under, no-place}
 use Rattle.promises.proofs.Asserts.Sound.{Reached, SoundForest, Rooted, SoundState}
 use Rattle.promises.proofs.Asserts.Keeping.{grows-same, steady-same, Kept, ticks, table-is}
 use Rattle.promises.proofs.Asserts.Unwinding.{Ended, ended-kept, Left, Flows}
@@ -135,7 +136,7 @@ module _ (n root index : ℕ) where
       let most = unfloundered-reached t u r in
       case-bool (Well n root index) (eqb (next-answer-index t) index)
       (λ b. begins limit f here u most)
-      (λ b. true-false (sym (eqb-yes (length (t .answers)) index (omega arith)) ∙ b)))
+      (λ b. true-false (sym (eq-eqb (length (t .answers)) index (omega arith)) ∙ b)))
       (λ a q.
       let under = place-under (t .answers) index a q in
       let there : Rooted (f .tables) root (suc index) = record { own = t; is-made = k; enough = under } in

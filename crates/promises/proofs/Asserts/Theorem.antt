@@ -1,6 +1,7 @@
 -- No call meets an assert: each is made on a sound forest, and leaves a sound one.
 use Prim.Native.Nat.{ℕ, suc, _-_, _<_}
 use native.Mathlib.Omega.{arith}
+use borrow.Author.Tests.{leb-false}
 use mathlib.Core.Path.{_≡_, refl, sym, ap, subst, _∙_}
 use mathlib.Core.Bool.{Bool, true, false, not, _&&_, _||_}
 use mathlib.Core.Logic.{inl, inr}
@@ -16,10 +17,9 @@ use Rattle.definitions.specs.Turn.{Searched, root-answer}
 use Rattle.definitions.specs.Forest.{is-marked, Opened, opened, open-goal, not-made, index-above, search, is-invalid, Peeked, peek, peek-rounds, any-future-answer}
 use Rattle.definitions.specs.Calls.{Call, opens, searches, peeks, asks-future, Reply, refusal, table, searched, peeked, future, call, calls}
 use Rattle.definitions.specs.Model.{Each}
-use Rattle.promises.proofs.Link.Tests.{leb-false}
-use Rattle.promises.proofs.Link.Reading.{all-pass}
+use Rattle.laws.proofs.Lists.{at-place}
+use Rattle.promises.proofs.Reading.{all-pass}
 use Rattle.promises.proofs.Asserts.Safe.{true-false, NotZero, case-safe}
-use Rattle.promises.proofs.Asserts.Lists.{at-place}
 use Rattle.promises.proofs.Asserts.Sound.{Reached, SoundForest}
 use Rattle.promises.proofs.Asserts.Making.{makes}
 use Rattle.promises.proofs.Asserts.Returning.{passes-find}

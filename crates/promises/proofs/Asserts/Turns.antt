@@ -14,7 +14,7 @@ use Rattle.definitions.specs.Tables.{Tables, Forest, with-tables, change-table,
 use Rattle.definitions.specs.Stack.{StackEntry, Stack, with-active, active, active-count}
 use Rattle.definitions.specs.Logic.{SolveState, with-forest, SubGoalSelection, Selected, NotSelected, select-subgoal}
 use Rattle.definitions.specs.Turn.{on-subgoal-selected, on-no-remaining-subgoals, on-no-strands-left, eligible, next-strand, turn}
-use Rattle.promises.proofs.Link.Lists.{total-set}
+use Rattle.laws.proofs.Lists.{total-set}
 use Rattle.promises.proofs.Asserts.Safe.{true-false, Safe, goes, after, known, by-option, case-option}
 use Rattle.promises.proofs.Asserts.Lists.{All, all-first, all-rest, all-rotate, rotate-length}
 use Rattle.promises.proofs.Asserts.Sound.{SoundStrand, SoundForest, Active, SoundStack, SoundState}

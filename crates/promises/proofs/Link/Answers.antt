@@ -1,6 +1,7 @@
 -- A strand with no literal left: its table gets its answer, and its caller goes on, or the search is over.
 use Prim.Native.Nat.{ℕ, _≤_, _<_}
 use native.Mathlib.Omega.{arith}
+use borrow.Author.Tests.{lt-leb}
 use mathlib.Core.Path.{_≡_, refl, ap, _∙_}
 use mathlib.Core.Bool.{Bool, true, false}
 use mathlib.Core.Option.{none, some}
@@ -14,14 +15,15 @@ use Rattle.definitions.specs.Strand.{Strand}
 use Rattle.definitions.specs.Tables.{Tables, Forest}
 use Rattle.definitions.specs.Stack.{Stack}
 use Rattle.definitions.specs.Turn.{pursue-answer, on-no-remaining-subgoals}
+use Rattle.laws.proofs.Distinct.{few-distinct}
+use Rattle.laws.proofs.Lists.{set-here}
+use Rattle.laws.proofs.Options.{no-such}
 use Rattle.promises.proofs.Plain.Machine as M
 use Rattle.promises.proofs.Plain.Steps.{put-here, put-there}
 use Rattle.promises.proofs.Plain.Turns.{root-of}
 use Rattle.promises.proofs.Link.View.{strand-of, q-end, table-of, mode-of, table-is, no-active, an-active, entry-of, machine-entry, StackIs, s-end, s-more}
-use Rattle.promises.proofs.Link.Lists.{set-here}
-use Rattle.promises.proofs.Link.Tests.{leb-no}
-use Rattle.promises.proofs.Link.Tables.{no-such, forest-of, Agree, agree-set}
-use Rattle.promises.proofs.Link.Sums.{held-few, few-distinct}
+use Rattle.promises.proofs.Link.Tables.{forest-of, Agree, agree-set}
+use Rattle.promises.proofs.Link.Sums.{held-few}
 use Rattle.promises.proofs.Link.Back.{table-here}
 use Rattle.promises.proofs.Link.Turn.{state-of, TurnIs, going, answered, lost, Lined, and-false}
 use Rattle.promises.proofs.Link.Selected.{limits-of}
@@ -37,7 +39,7 @@ answer-agree {book} {gs} {p = p} a i g e =
 
 pursue-is : (book : Book) (limit mark c : ℕ) (ts : Tables) (i g : ℕ) (m : Bool) (ss : List Strand) (a t : ℕ) → getElem? ts i ≡ some (table-of g false m ss) → total (λ t. length (t .answers)) ts < 256
     → pursue-answer (forest-of book limit mark ts c) i (strand-of a [] none t) ≡ go (some 0, forest-of book limit mark (set ts i (table-of g true m [])) c)
-pursue-is book limit mark c ts i g m ss a t e few = rw e (rw (leb-no 256 (total (λ t. length (t .answers)) ts) few) (rw e))
+pursue-is book limit mark c ts i g m ss a t e few = rw e (rw (lt-leb 256 (total (λ t. length (t .answers)) ts) few) (rw e))
 
 module _ (book : Book) (limit : ℕ) (few-goals : length book ≤ 64) {gs : List ℕ} {ts : Tables} {p : M.Forest} (agree : Agree book gs ts p) (i g c pm nm : ℕ) (at : getElem? gs i ≡ some g) (m : M.Strand) (a : ℕ) (before : M.Forest) where
   few-answers : total (λ t. length (t .answers)) ts < 256

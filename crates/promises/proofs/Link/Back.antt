@@ -11,10 +11,11 @@ use Rattle.definitions.specs.Table.{Table, enqueue-strand}
 use Rattle.definitions.specs.Tables.{Tables, Forest, change-table}
 use Rattle.definitions.specs.Stack.{StackEntry, Stack}
 use Rattle.definitions.specs.Logic.{unwind-callers, drop-state}
+use Rattle.laws.proofs.Options.{no-such}
 use Rattle.promises.proofs.Plain.Machine as M
 use Rattle.promises.proofs.Plain.Steps.{put-here, put-there}
 use Rattle.promises.proofs.Link.View.{StrandIs, QueueIs, q-end, q-more, table-of, TableIs, table-is, TableAt, no-active, an-active, StackIs, s-end, s-more}
-use Rattle.promises.proofs.Link.Tables.{queue-append, no-such, table-found, forest-of, Agree, SameBut, agree-set}
+use Rattle.promises.proofs.Link.Tables.{queue-append, table-found, forest-of, Agree, SameBut, agree-set}
 
 -- the table at a place, as it stands beside the machine's
 pub record TableHere (book : Book) (gs : List ℕ) (ts : Tables) (p : M.Forest) (i g : ℕ) : Type 0 where

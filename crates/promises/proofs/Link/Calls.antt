@@ -1,6 +1,7 @@
 -- One call on a forest that no stop has marked: what it says is so, and it leaves such a forest again, or one that 21 has marked.
 use Prim.Native.Nat.{ℕ, zero, suc, _+_, _-_, _≤_, _<_}
 use native.Mathlib.Omega.{arith}
+use borrow.Author.Tests.{leb-false}
 use mathlib.Core.Path.{_≡_, refl, sym, ap, subst, _∙_}
 use mathlib.Core.Bool.{Bool, true, false, _||_}
 use mathlib.Core.Logic.{inl, inr}
@@ -8,8 +9,6 @@ use mathlib.Core.Option.{some}
 use mathlib.Core.List.{List, [], _∷_}
 use lib.ListN.{length, getElem?}
 use lib.Dec.{leb, eqb}
-use Rattle.definitions.specs.{MAX}
-use Rattle.definitions.specs.Book.{Book}
 use Rattle.definitions.specs.Refusal.{Refusable, refused, accepted, _refuses_}
 use Rattle.definitions.specs.Tables.{Tables, Forest}
 use Rattle.definitions.specs.Turn.{Ending, Searched, root-answer}
@@ -18,80 +17,71 @@ use Rattle.definitions.specs.Forest.{is-exceeded, SearchMade, peek-searches, mo
 use Rattle.definitions.specs.Calls.{Call, opens, searches, peeks, asks-future, Reply, refusal, table, searched, peeked, future, call, searches-made}
 use Rattle.definitions.specs.Model as D
 use Rattle.definitions.specs.Claim.{OpenRefused, SearchRefused, ReadOff, EndingSays, ReplySays, reply-stopped, one-if, exceeded-among}
+use Rattle.laws.proofs.Lists.{at-place}
 use Rattle.promises.proofs.Plain.Model as P
-use Rattle.promises.proofs.Plain.Model.{Levelled}
-use Rattle.promises.proofs.Plain.Claim.{Inside}
 use Rattle.promises.proofs.Plain.Claim as C
 use Rattle.promises.proofs.Plain.Machine as M
-use Rattle.promises.proofs.Plain.Steps.{Setting}
 use Rattle.promises.proofs.Plain.Whole.{Ready, potential, search-ok, peek-ok}
 use Rattle.promises.proofs.Link.View.{answers-of}
-use Rattle.promises.proofs.Link.Tests.{leb-false}
-use Rattle.promises.proofs.Link.Tables.{book-of, forest-of, Agree}
-use Rattle.promises.proofs.Link.Making.{Sound, tables-length}
-use Rattle.promises.proofs.Link.Selected.{limits-of}
-use Rattle.promises.proofs.Link.Searches.{EndIs, found-is, none-is, again-is, cut-is, stopped-is, S}
+use Rattle.promises.proofs.Link.Tables.{book-of, Agree}
+use Rattle.promises.proofs.Link.Making.{tables-length}
+use Rattle.promises.proofs.Link.Premises.{Premises, setting-of, limits-in, forest-in}
+use Rattle.promises.proofs.Link.Searches.{EndIs, found-is, none-is, again-is, cut-is, stopped-is}
 use Rattle.promises.proofs.Link.Peeks.{index-within, root-is, PeekIs, peek-is}
 use Rattle.promises.proofs.Link.Models.{in-to, in-from}
 use Rattle.promises.proofs.Link.Naming.{Failed, Comes, turned-down, let-through, comes, Between, open-made, opened-is, named}
 
-module _ {book : Book} (sound : Sound book) (limit : ℕ) (level : ℕ → ℕ) (levelled : Levelled (book-of book) level) (inside : Inside (book-of book) (length book)) (room : limit ≤ MAX) (few : M.total (length book) (λ g. length (book-of book g)) ≤ 256) where
-  abbrev pub The : Setting
-  The = S sound limit level levelled inside room few
-
-  abbrev pub Betw : Forest → M.Forest → Type 0
-  Betw f p = Between sound limit level levelled inside room few f p
-
+module _ (G : Premises) where
   -- what a call leaves: the machine's forest, its measure lower by the searches that ended in QuantumExceeded; or a mark
   pub data Left (p : M.Forest) (k : ℕ) (r : Reply) (f : Forest) : Type 0 where
-    goes-on : (p' : M.Forest) → reply-stopped r ≡ false → Betw f p' → potential The p' + k ≤ potential The p → Left p k r f
-    is-over : reply-stopped r ≡ true → is-marked f ≡ true → k ≤ potential The p → Left p k r f
+    goes-on : (p' : M.Forest) → reply-stopped r ≡ false → Between G f p' → potential (setting-of G) p' + k ≤ potential (setting-of G) p → Left p k r f
+    is-over : reply-stopped r ≡ true → is-marked f ≡ true → k ≤ potential (setting-of G) p → Left p k r f
 
   -- a call, with the searches that it made
   pub record CallOK (p : M.Forest) (made : List SearchMade) (c : Call) (r : Reply) (f : Forest) : Type 0 where
-    pub says : ReplySays (D.In book level) limit made f c r
+    pub says : ReplySays (D.In (G .book) (G .level)) (G .limit) made f c r
     pub left : Left p (exceeded-among made) r f
 
   -- what an ending says
-  ending-says : {mark : ℕ} {e : Ending} {o : M.Outcome} {gs : List ℕ} {ts : Tables} {p : M.Forest} → EndIs limit (p .clock) mark e o → Agree book gs ts p → Ready The p → (t g i : ℕ) → getElem? gs t ≡ some g → C.Reply (P.In (book-of book) level) g i o
-      → EndingSays (D.In book level) limit (forest-of book limit mark ts (p .clock)) t i e
-  ending-says found-is a ready t g i at x = (refl, named sound limit level levelled inside room few a ready t g at (D.In book level) (in-from book level sound g x))
-  ending-says none-is a ready t g i at x = λ z. named sound limit level levelled inside room few a ready t g at (λ h. D.In book level h → ⊥) (λ y. x z (in-to book level sound g y))
+  ending-says : {mark : ℕ} {e : Ending} {o : M.Outcome} {gs : List ℕ} {ts : Tables} {p : M.Forest} → EndIs (G .limit) (p .clock) mark e o → Agree (G .book) gs ts p → Ready (setting-of G) p → (t g i : ℕ) → getElem? gs t ≡ some g → C.Reply (P.In (book-of (G .book)) (G .level)) g i o
+      → EndingSays (D.In (G .book) (G .level)) (G .limit) (forest-in G mark ts (p .clock)) t i e
+  ending-says found-is a ready t g i at x = (refl, named G a ready t g at (D.In (G .book) (G .level)) (in-from (G .book) (G .level) (G .sound) g x))
+  ending-says none-is a ready t g i at x = λ z. named G a ready t g at (λ h. D.In (G .book) (G .level) h → ⊥) (λ y. x z (in-to (G .book) (G .level) (G .sound) g y))
   ending-says again-is a ready t g i at x = tt
   ending-says cut-is a ready t g i at x = tt
   ending-says (stopped-is o) a ready t g i at x = (refl, let y = ready .bound in omega arith)
 
-  between-at : {gs : List ℕ} {ts : Tables} {p : M.Forest} → Agree book gs ts p → Ready The p → Betw (forest-of book limit 0 ts (p .clock)) p
+  between-at : {gs : List ℕ} {ts : Tables} {p : M.Forest} → Agree (G .book) gs ts p → Ready (setting-of G) p → Between G (forest-in G 0 ts (p .clock)) p
   between-at {gs} {ts} a ready = record { goals = gs; tables = ts; is = refl; agree = a; ready = ready }
 
-  search-left : {mark : ℕ} {e : Ending} {o : M.Outcome} {gs : List ℕ} {ts : Tables} {p' : M.Forest} (p : M.Forest) (turns : ℕ) → EndIs limit (p' .clock) mark e o → Agree book gs ts p' → Ready The p' → potential The p' + M.counts o ≤ potential The p
-      → Left p (one-if (is-exceeded e) + 0) (searched e turns) (forest-of book limit mark ts (p' .clock))
+  search-left : {mark : ℕ} {e : Ending} {o : M.Outcome} {gs : List ℕ} {ts : Tables} {p' : M.Forest} (p : M.Forest) (turns : ℕ) → EndIs (G .limit) (p' .clock) mark e o → Agree (G .book) gs ts p' → Ready (setting-of G) p' → potential (setting-of G) p' + M.counts o ≤ potential (setting-of G) p
+      → Left p (one-if (is-exceeded e) + 0) (searched e turns) (forest-in G mark ts (p' .clock))
   search-left {p' = p'} p turns found-is a ready fall = goes-on p' refl (between-at a ready) fall
   search-left {p' = p'} p turns none-is a ready fall = goes-on p' refl (between-at a ready) fall
   search-left {p' = p'} p turns again-is a ready fall = goes-on p' refl (between-at a ready) fall
   search-left {p' = p'} p turns cut-is a ready fall = goes-on p' refl (between-at a ready) fall
   search-left p turns (stopped-is o) a ready fall = is-over refl refl (omega arith)
 
-  peek-left : {mark : ℕ} {e : Ending} {o : M.Outcome} {gs : List ℕ} {ts : Tables} {p' : M.Forest} (p : M.Forest) (i turns k j : ℕ) → EndIs limit (p' .clock) mark e o → Agree book gs ts p' → Ready The p' → potential The p' + j ≤ potential The p
-      → Left p j (peeked e i turns k) (forest-of book limit mark ts (p' .clock))
+  peek-left : {mark : ℕ} {e : Ending} {o : M.Outcome} {gs : List ℕ} {ts : Tables} {p' : M.Forest} (p : M.Forest) (i turns k j : ℕ) → EndIs (G .limit) (p' .clock) mark e o → Agree (G .book) gs ts p' → Ready (setting-of G) p' → potential (setting-of G) p' + j ≤ potential (setting-of G) p
+      → Left p j (peeked e i turns k) (forest-in G mark ts (p' .clock))
   peek-left {p' = p'} p i turns k j found-is a ready fall = goes-on p' refl (between-at a ready) fall
   peek-left {p' = p'} p i turns k j none-is a ready fall = goes-on p' refl (between-at a ready) fall
   peek-left {p' = p'} p i turns k j again-is a ready fall = goes-on p' refl (between-at a ready) fall
   peek-left {p' = p'} p i turns k j cut-is a ready fall = goes-on p' refl (between-at a ready) fall
   peek-left p i turns k j (stopped-is o) a ready fall = is-over refl refl (omega arith)
 
-  module _ {gs : List ℕ} {ts : Tables} {p : M.Forest} (a : Agree book gs ts p) (ready : Ready The p) where
+  module _ {gs : List ℕ} {ts : Tables} {p : M.Forest} (a : Agree (G .book) gs ts p) (ready : Ready (setting-of G) p) where
     abbrev F : Forest
-    F = forest-of book limit 0 ts (p .clock)
+    F = forest-in G 0 ts (p .clock)
 
-    stays : (r : Reply) → reply-stopped r ≡ false → Left p 0 r (forest-of book limit 0 ts (p .clock))
+    stays : (r : Reply) → reply-stopped r ≡ false → Left p 0 r (forest-in G 0 ts (p .clock))
     stays r e = goes-on p e (between-at a ready) (omega arith)
 
     searched-ok : (t g i n : ℕ) → getElem? gs t ≡ some g → i ≤ length (answers-of (p .answered g))
         → CallOK p (record { index = i; result = root-answer (suc n) t i F } ∷ []) (searches t i (suc n)) (searched (root-answer (suc n) t i F .ending) (root-answer (suc n) t i F .turns)) (root-answer (suc n) t i F .forest)
     searched-ok t g i n at o =
-        let s = root-is sound limit level levelled inside room few a ready t g n i at o in
-        let k = search-ok The p g i (suc n) ready in
+        let s = root-is G a ready t g n i at o in
+        let k = search-ok (setting-of G) p g i (suc n) ready in
         subst (λ (z : Forest). CallOK p (record { index = i; result = root-answer (suc n) t i F } ∷ []) (searches t i (suc n)) (searched (root-answer (suc n) t i F .ending) (root-answer (suc n) t i F .turns)) z) (sym (s .forest))
         (record { says = ending-says (s .ends) (s .agree) (k .rest) t g i (s .more t g at) (k .says); left = search-left p (root-answer (suc n) t i F .turns) (s .ends) (s .agree) (k .rest) (k .falls) })
 
@@ -99,28 +89,23 @@ module _ {book : Book} (sound : Sound book) (limit : ℕ) (level : ℕ → ℕ) 
         → CallOK p (peek-searches passes r (suc n) t i F) (peeks t i (suc r) (suc n)) (peeked (R .ending) (R .index) (R .turns) (R .exceeded)) (R .forest)
     peeked-ok t g i r n passes enough at o R e =
         let made = peek-searches passes r (suc n) t i F in
-        let p' = M.rounds (limits-of book limit) (suc r) g i (suc n) p .2 in
-        let j = M.rounds (limits-of book limit) (suc r) g i (suc n) p .1 in
-        let u = M.rounds (limits-of book limit) (suc r) g i (suc n) p .0 in
-        let s : PeekIs book limit gs i 0 made R u j p' = subst (λ (z : Peeked). PeekIs book limit gs i 0 made z u j p') e (peek-is sound limit level levelled inside room few r gs ts p a ready t g n i 0 at o passes enough) in
-        let k = peek-ok The (suc r) g i (suc n) p ready in
-        let G = forest-of book limit (s .mark) (s .after) (p' .clock) in
-        let lower : potential The p' + exceeded-among made ≤ potential The p = let y = s .among in let z = k .falls in omega arith in
+        let p' = M.rounds (limits-in G) (suc r) g i (suc n) p .2 in
+        let j = M.rounds (limits-in G) (suc r) g i (suc n) p .1 in
+        let u = M.rounds (limits-in G) (suc r) g i (suc n) p .0 in
+        let s : PeekIs G gs i 0 made R u j p' = subst (λ (z : Peeked). PeekIs G gs i 0 made z u j p') e (peek-is G r gs ts p a ready t g n i 0 at o passes enough) in
+        let k = peek-ok (setting-of G) (suc r) g i (suc n) p ready in
+        let left-forest = forest-in G (s .mark) (s .after) (p' .clock) in
+        let lower : potential (setting-of G) p' + exceeded-among made ≤ potential (setting-of G) p = let y = s .among in let z = k .falls in omega arith in
         let says = ending-says (s .ends) (s .agree) (k .rest) t g i (s .more t g at) (k .says) in
         let reads : ReadOff made (R .forest) (R .ending) i (R .turns) (R .exceeded) = record { earlier = s .earlier; made-are = s .made-are; count-is = let y = s .exceeded in let z = s .among in omega arith } in
-        let x : CallOK p made (peeks t i (suc r) (suc n)) (peeked (R .ending) i (R .turns) (R .exceeded)) G =
+        let x : CallOK p made (peeks t i (suc r) (suc n)) (peeked (R .ending) i (R .turns) (R .exceeded)) left-forest =
         record { says = (says, subst (λ (z : Forest). ReadOff made z (R .ending) i (R .turns) (R .exceeded)) (s .forest) reads); left = peek-left p i (R .turns) (R .exceeded) (exceeded-among made) (s .ends) (s .agree) (k .rest) lower } in
         subst (λ (z : Forest). CallOK p made (peeks t i (suc r) (suc n)) (peeked (R .ending) (R .index) (R .turns) (R .exceeded)) z) (sym (s .forest))
-        (subst (λ (z : ℕ). CallOK p made (peeks t i (suc r) (suc n)) (peeked (R .ending) z (R .turns) (R .exceeded)) G) (sym (s .index)) x)
+        (subst (λ (z : ℕ). CallOK p made (peeks t i (suc r) (suc n)) (peeked (R .ending) z (R .turns) (R .exceeded)) left-forest) (sym (s .index)) x)
 
     -- the table is made
     place-named : (t : ℕ) → leb (length ts) t ≡ false → (g : ℕ) × (getElem? gs t ≡ some g)
-    place-named t e = let x = leb-false (length ts) t e in let y = tables-length (a .tables) in found-place gs t (omega arith)
-      where
-        found-place : (xs : List ℕ) (i : ℕ) → i < length xs → (x : ℕ) × (getElem? xs i ≡ some x)
-        found-place [] i lt = absurd (omega arith)
-        found-place (x ∷ xs) zero lt = (x, refl)
-        found-place (x ∷ xs) (suc i) lt = found-place xs i (omega arith)
+    place-named t e = let x = leb-false (length ts) t e in let y = tables-length (a .tables) in at-place gs t (omega arith)
 
     search-refused : (b₁ b₂ b₃ : Bool) (n : ℕ) → Failed n (false refuses 20 ∷ b₁ refuses 10 ∷ b₂ refuses 11 ∷ b₃ refuses 12 ∷ []) → SearchRefused n
     search-refused b₁ b₂ b₃ n (inl (e, k)) = absurd (let z : _≡_ {A = ℕ} 0 1 = cc in omega arith)
@@ -141,7 +126,7 @@ module _ {book : Book} (sound : Sound book) (limit : ℕ) (level : ℕ → ℕ) 
         let g = place-named t (x .1 .0) in
         subst (λ (z : Reply × Forest). CallOK p made (searches t i (suc n)) (z .0) (z .1)) (sym e)
         (subst (λ ss. CallOK p ss (searches t i (suc n)) (searched (R .ending) (R .turns)) (R .forest)) (sym q)
-        (searched-ok t (g .0) i n (g .1) (index-within limit 0 (p .clock) a t (g .0) i (g .1) (x .1 .1 .0))))
+        (searched-ok t (g .0) i n (g .1) (index-within (G .limit) 0 (p .clock) a t (g .0) i (g .1) (x .1 .1 .0))))
 
     call-search : (t i n : ℕ) → CallOK p (searches-made F (searches t i n)) (searches t i n) (call F (searches t i n) .0) (call F (searches t i n) .1)
     call-search t i n = searching t i n (search F t i n) (comes (is-marked F refuses 20 ∷ not-made F t refuses 10 ∷ index-above F t i refuses 11 ∷ eqb n 0 refuses 12 ∷ []) (root-answer n t i F)) (call F (searches t i n)) refl (searches-made F (searches t i n)) refl
@@ -178,12 +163,12 @@ module _ {book : Book} (sound : Sound book) (limit : ℕ) (level : ℕ → ℕ) 
         let some-r = some-of .0 in
         subst (λ (z : Reply × Forest). CallOK p made (peeks t i r n) (z .0) (z .1)) (sym e)
         (subst (λ ss. CallOK p ss (peeks t i r n) (peeked (R .ending) (R .index) (R .turns) (R .exceeded)) (R .forest)) (sym m)
-        (peeked-at t (g .0) i r n (most-passes r) (omega arith) (g .1) (index-within limit 0 (p .clock) a t (g .0) i (g .1) (x .1 .1 .0)) (some-of .0) (some-of .1) R q))
+        (peeked-at t (g .0) i r n (most-passes r) (omega arith) (g .1) (index-within (G .limit) 0 (p .clock) a t (g .0) i (g .1) (x .1 .1 .0)) (some-of .0) (some-of .1) R q))
 
     call-peek : (t i r n : ℕ) → CallOK p (searches-made F (peeks t i r n)) (peeks t i r n) (call F (peeks t i r n) .0) (call F (peeks t i r n) .1)
     call-peek t i r n = peeking t i r n (peek-rounds (r - 1) n 0 t i F) refl (peek F t i r n) (comes (is-marked F refuses 20 ∷ not-made F t refuses 10 ∷ index-above F t i refuses 11 ∷ (eqb r 0 || eqb n 0) refuses 12 ∷ []) (peek-rounds (r - 1) n 0 t i F)) (call F (peeks t i r n)) refl (searches-made F (peeks t i r n)) refl
 
-    made-ready : (h : ℕ) → Ready The (M.make p h)
+    made-ready : (h : ℕ) → Ready (setting-of G) (M.make p h)
     made-ready h = record { fine = ready .fine; bound = ready .bound; live = ready .live }
 
     open-refused : (b : Bool) (n : ℕ) → Failed n (false refuses 20 ∷ b refuses 9 ∷ []) → OpenRefused n
@@ -191,18 +176,18 @@ module _ {book : Book} (sound : Sound book) (limit : ℕ) (level : ℕ → ℕ) 
     open-refused b n (inr (inl (e, k))) = sym k
     open-refused b n (inr (inr x)) = absurd x
 
-    opening : (g : ℕ) (o : Refusable Opened) → Comes (is-marked F refuses 20 ∷ leb (length book) g refuses 9 ∷ []) (opened 0 F g) o
+    opening : (g : ℕ) (o : Refusable Opened) → Comes (is-marked F refuses 20 ∷ leb (length (G .book)) g refuses 9 ∷ []) (opened 0 F g) o
         → (s : Reply × Forest) → s ≡ elim o [ refused n ↦ (refusal n, F) | accepted r ↦ (table (r .table), r .forest) ] → CallOK p [] (opens g) (s .0) (s .1)
-    opening g (refused k) (turned-down x) s e = subst (λ (z : Reply × Forest). CallOK p [] (opens g) (z .0) (z .1)) (sym e) (record { says = open-refused (leb (length book) g) k x; left = stays (refusal k) refl })
+    opening g (refused k) (turned-down x) s e = subst (λ (z : Reply × Forest). CallOK p [] (opens g) (z .0) (z .1)) (sym e) (record { says = open-refused (leb (length (G .book)) g) k x; left = stays (refusal k) refl })
     opening g (accepted R) (let-through x) s e =
-        let lt = leb-false (length book) g (x .1 .0) in
-        let m = open-made sound limit level levelled inside room few a ready g lt in
+        let lt = leb-false (length (G .book)) g (x .1 .0) in
+        let m = open-made G a ready g lt in
         subst (λ (z : Reply × Forest). CallOK p [] (opens g) (z .0) (z .1)) (sym e)
-        (subst (λ (z : Opened). CallOK p [] (opens g) (table (z .table)) (z .forest)) (sym (opened-is sound limit level levelled inside room few a ready g lt))
+        (subst (λ (z : Opened). CallOK p [] (opens g) (table (z .table)) (z .forest)) (sym (opened-is G a ready g lt))
         (record { says = tt; left = goes-on (M.make p g) refl (between-at (m .agree) (made-ready g)) (omega arith) }))
 
     call-open : (g : ℕ) → CallOK p [] (opens g) (call F (opens g) .0) (call F (opens g) .1)
-    call-open g = opening g (open-goal F g) (comes (is-marked F refuses 20 ∷ leb (length book) g refuses 9 ∷ []) (opened 0 F g)) (call F (opens g)) refl
+    call-open g = opening g (open-goal F g) (comes (is-marked F refuses 20 ∷ leb (length (G .book)) g refuses 9 ∷ []) (opened 0 F g)) (call F (opens g)) refl
 
     asking : (t i v : ℕ) (o : Refusable Bool) (s : Reply × Forest) → s ≡ elim o [ refused n ↦ (refusal n, F) | accepted b ↦ (future b, F) ] → CallOK p [] (asks-future t i v) (s .0) (s .1)
     asking t i v (refused n) s e = subst (λ (z : Reply × Forest). CallOK p [] (asks-future t i v) (z .0) (z .1)) (sym e) (record { says = tt; left = stays (refusal n) refl })

@@ -9,9 +9,10 @@ use Rattle.definitions.specs.Stop.{go}
 use Rattle.definitions.specs.Table.{Table}
 use Rattle.definitions.specs.Tables.{Forest}
 use Rattle.definitions.specs.Logic.{Selected, selecting, select-from, get-or-create-table-for-ucanonical-goal, get-or-create-table-for-subgoal}
+use Rattle.laws.proofs.Lists.{last-place, last-one}
 use Rattle.promises.proofs.Plain.Model.{Lit, pos, neg, Body, literal-goal}
 use Rattle.promises.proofs.Link.View.{literal, literals, strand-of, selection}
-use Rattle.promises.proofs.Link.Lists.{last-place, last-one, last-some}
+use Rattle.promises.proofs.Link.Lists.{last-some}
 
 -- a strand with its last literal selected, at any index k that is so
 module _ (others : ℕ) (f : Forest) (a : ℕ) (l : Lit) (b : Body) (t i : ℕ) (tb : Table) (made : getElem? (f .tables) i ≡ some tb) (sound : tb .floundered ≡ false) where

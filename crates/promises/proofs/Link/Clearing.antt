@@ -11,11 +11,12 @@ use Rattle.definitions.specs.Lists.{total}
 use Rattle.definitions.specs.Strand.{Strand}
 use Rattle.definitions.specs.Tables.{Tables, Forest}
 use Rattle.definitions.specs.Turn.{clear-each, clear-strands-after-cycle}
+use Rattle.laws.proofs.Lists.{total-set}
+use Rattle.laws.proofs.Options.{no-such}
 use Rattle.promises.proofs.Plain.Model.{literal-goal}
 use Rattle.promises.proofs.Plain.Machine as M
 use Rattle.promises.proofs.Link.View.{free, bound, QueueIs, q-end, q-more, table-of}
-use Rattle.promises.proofs.Link.Lists.{total-set}
-use Rattle.promises.proofs.Link.Tables.{no-such, forest-of, Agree}
+use Rattle.promises.proofs.Link.Tables.{forest-of, Agree}
 use Rattle.promises.proofs.Link.Back.{table-here, queue-set}
 
 abbrev pub strands-in : Tables → ℕ

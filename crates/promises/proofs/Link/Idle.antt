@@ -2,6 +2,7 @@
 use Prim.Native.Nat.{ℕ, zero, suc, _≤_, min}
 use native.Mathlib.Omega.{arith}
 use native.Mathlib.Decide.{decLe, ℕ-discrete}
+use borrow.Author.Tests.{le-leb, lt-leb, le-ltb}
 use mathlib.Core.Path.{_≡_, refl, sym, ap, subst, _∙_}
 use mathlib.Core.Bool.{Bool, true, false}
 use mathlib.Core.Option.{Option, none, some}
@@ -15,13 +16,14 @@ use Rattle.definitions.specs.Stack.{Stack}
 use Rattle.definitions.specs.Stop.{go}
 use Rattle.definitions.specs.Logic.{return-err, QuantumExceeded}
 use Rattle.definitions.specs.Turn.{on-no-strands, on-own-cycle, on-part-of-cycle, on-no-strands-left}
+use Rattle.laws.proofs.Lists.{last-one}
+use Rattle.laws.proofs.Options.{no-such, same-some}
 use Rattle.promises.proofs.Plain.Model.{pos, neg, Body}
 use Rattle.promises.proofs.Plain.Machine as M
 use Rattle.promises.proofs.Plain.Steps.{put-here, put-there}
 use Rattle.promises.proofs.Link.View.{literals, strand-of, selection, machine-strand, free, bound, QueueIs, q-end, q-more, table-of, table-is, no-active, an-active, entry-of, machine-entry, StackIs, s-end, s-more}
-use Rattle.promises.proofs.Link.Lists.{last-one, last-gone}
-use Rattle.promises.proofs.Link.Tests.{leb-yes, leb-no, ltb-no}
-use Rattle.promises.proofs.Link.Tables.{no-such, same-some, Agree, agree-set}
+use Rattle.promises.proofs.Link.Lists.{last-gone}
+use Rattle.promises.proofs.Link.Tables.{Agree, agree-set}
 use Rattle.promises.proofs.Link.Back.{table-here, queue-set, enqueued, unwound-is}
 use Rattle.promises.proofs.Link.Turn.{state-of, TurnIs, going, gave-up, no-more, lost, Lined, lined-busy}
 use Rattle.promises.proofs.Link.Selected.{limits-of, names-tail}
@@ -77,7 +79,7 @@ module _ (book : Book) (limit : ℕ) {gs : List ℕ} {ts : Tables} {p : M.Forest
       (ap (λ z. M.clear (M.total (length book) (λ g. length (p .queue g))) z (M.put (p .queue) g [])) (append-nil (p .queue g)) ∙ k) in
       let done : Agree book gs (d .after) (M.with-queue p q') = subst (λ z. Agree book gs (d .after) (M.with-queue p z)) (finished (d .fuel) (d .queues) q' (d .onward)) (d .agree) in
       let b = unwound-is book limit 0 (p .clock) xs (lined-busy (limits-of book limit) (machine-entry g c pm nm none) es lined) done in
-      rw (ltb-no nm MAX (omega arith), on-own-cycle) (rw (t .is) (rw (d .is) (rw (b .is) (over {ts = b .after} (b .agree)))))
+      rw (le-ltb nm MAX (omega arith), on-own-cycle) (rw (t .is) (rw (d .is) (rw (b .is) (over {ts = b .after} (b .agree)))))
     where
       finished : (n : ℕ) (q q' : M.Queues) → M.clear n [] q ≡ some q' → q ≡ q'
       finished zero q q' e = same-some e
@@ -99,9 +101,9 @@ module _ (book : Book) (limit : ℕ) {gs : List ℕ} {ts : Tables} {p : M.Forest
   waiting-is {es = es} xs lined true s ss x e d d' =
       let b = unwound-is book limit 0 (p .clock) xs (lined-busy (limits-of book limit) (machine-entry g c pm nm none) es lined) (mode-agree (s ∷ ss) x) in
       rw e (rw e (gave-up (λ i h o. o) (b .is) (b .agree)))
-  waiting-is xs lined false s ss x e (yes o) (yes o') = rw e (rw (leb-yes c pm o) (rw (leb-yes c nm o') (own-is xs lined (p .answered g) false (s ∷ ss) x e (ℕ-discrete nm MAX))))
-  waiting-is xs lined false s ss x e (yes o) (no n) = rw e (rw (leb-yes c pm o) (rw (leb-no c nm (omega arith)) (part-is xs lined)))
-  waiting-is xs lined false s ss x e (no n) d' = rw e (rw (leb-no c pm (omega arith)) (part-is xs lined))
+  waiting-is xs lined false s ss x e (yes o) (yes o') = rw e (rw (le-leb c pm o) (rw (le-leb c nm o') (own-is xs lined (p .answered g) false (s ∷ ss) x e (ℕ-discrete nm MAX))))
+  waiting-is xs lined false s ss x e (yes o) (no n) = rw e (rw (le-leb c pm o) (rw (lt-leb c nm (omega arith)) (part-is xs lined)))
+  waiting-is xs lined false s ss x e (no n) d' = rw e (rw (lt-leb c pm (omega arith)) (part-is xs lined))
 
   idle-at : {ds : Stack} {es : List M.Entry} → StackIs (length book) gs ds es → Lined (limits-of book limit) (machine-entry g c pm nm none) es → (m : Bool) (ss : List Strand) (q : List M.Strand) → QueueIs (length book) gs ss q → p .queue g ≡ q → p .first g ≡ m
       → getElem? ts i ≡ some (table-of g (p .answered g) m ss)

@@ -2,6 +2,7 @@
 use Prim.Native.Nat.{ℕ, zero, suc, _+_, _≤_, _<_}
 use native.Mathlib.Omega.{arith}
 use native.Mathlib.Decide.{ℕ-discrete}
+use borrow.Author.Tests.{le-ltb}
 use mathlib.Core.Path.{_≡_, refl, sym, ap, subst, _∙_}
 use mathlib.Core.Bool.{Bool, true, false}
 use mathlib.Core.Option.{Option, none, some}
@@ -14,12 +15,12 @@ use Rattle.definitions.specs.Table.{Table}
 use Rattle.definitions.specs.Tables.{Tables, Forest, index-of}
 use Rattle.definitions.specs.Model.{Each, PlainLiteral, PlainClause, PlainGoal}
 use Rattle.definitions.specs.Logic.{initial-strand, build-table, get-or-create-table-for-ucanonical-goal}
+use Rattle.laws.proofs.Lists.{at-append, last-one}
+use Rattle.laws.proofs.Options.{no-such, same-some}
 use Rattle.promises.proofs.Plain.Model.{Lit, Body}
 use Rattle.promises.proofs.Plain.Machine as M
 use Rattle.promises.proofs.Link.View.{literal, literals, Names, strand-of, StrandIs, free, QueueIs, q-end, q-more, table-of, table-is, TableAt, TablesAre, t-end, t-more}
-use Rattle.promises.proofs.Link.Lists.{at-append, last-one}
-use Rattle.promises.proofs.Link.Tests.{ltb-no}
-use Rattle.promises.proofs.Link.Tables.{lit, body-of, bodies, book-of, Extends, Absent, table-more, no-such, same-some, tables-map, FoundIs, found-at, found-none, goal-found, forest-of, Agree}
+use Rattle.promises.proofs.Link.Tables.{lit, body-of, bodies, book-of, Extends, Absent, table-more, tables-map, FoundIs, found-at, found-none, goal-found, forest-of, Agree}
 use Rattle.promises.proofs.Link.Sums.{queued-under}
 
 -- a book that can be used: plain, its literals name goals, and it keeps within the limits
@@ -158,7 +159,7 @@ module _ {book : Book} (sound : Sound book) (limit mark : ℕ) {gs : List ℕ} {
         place = length ts;
         goals = gs ++ (h ∷ []);
         after = ts ++ (t ∷ []);
-        is = rw (e, get-or-create-table-for-ucanonical-goal) (rw (build-is book h G k (sound .plain h G k)) (rw (ltb-no 256 (others + total (λ t. length (t .strands)) (ts ++ (t ∷ []))) (omega arith))));
+        is = rw (e, get-or-create-table-for-ucanonical-goal) (rw (build-is book h G k (sound .plain h G k)) (rw (le-ltb 256 (others + total (λ t. length (t .strands)) (ts ++ (t ∷ []))) (omega arith))));
         more = λ i g o. at-append gs (h ∷ []) i g o;
         at = ap (λ z. getElem? (gs ++ (h ∷ [])) z) (tables-length (a .tables)) ∙ last-one gs h;
         agree = agree;

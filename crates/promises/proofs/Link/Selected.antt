@@ -2,6 +2,7 @@
 use Prim.Native.Nat.{ℕ, zero, suc, _≤_, _<_, min}
 use native.Mathlib.Omega.{arith}
 use native.Mathlib.Decide.{decLt}
+use borrow.Author.Tests.{le-leb, lt-leb}
 use mathlib.Core.Path.{_≡_, refl, ap, _∙_}
 use mathlib.Core.Bool.{Bool, true, false}
 use mathlib.Core.Option.{Option, none, some}
@@ -16,11 +17,11 @@ use Rattle.definitions.specs.Tables.{Tables, Forest}
 use Rattle.definitions.specs.Stack.{StackEntry, Stack, is-active}
 use Rattle.definitions.specs.Logic.{merge-answer-into-strand, merged, failed, unwind-stack}
 use Rattle.definitions.specs.Turn.{on-subgoal-selected, coinductive-entries, on-cycle}
+use Rattle.laws.proofs.Lists.{last-one}
 use Rattle.promises.proofs.Plain.Model.{Lit, pos, neg, Body, literal-goal}
 use Rattle.promises.proofs.Plain.Machine as M
 use Rattle.promises.proofs.Link.View.{literals, Names, names, strand-of, selection, machine-strand, free, bound, table-of, no-active, an-active, entry-of, machine-entry, StackIs, s-end, s-more}
-use Rattle.promises.proofs.Link.Lists.{last-one, last-gone}
-use Rattle.promises.proofs.Link.Tests.{leb-yes, leb-no}
+use Rattle.promises.proofs.Link.Lists.{last-gone}
 use Rattle.promises.proofs.Link.Tables.{tables-map, forest-of, Agree}
 use Rattle.promises.proofs.Link.Back.{table-here, enqueued, unwound-is}
 use Rattle.promises.proofs.Link.Turn.{state-of, TurnIs, going, gave-up, clock-out, Lined, lined-top, lined-busy, lined-apart, CycleIs, no-cycle, a-cycle, cycle-is, and-false}
@@ -101,12 +102,12 @@ module _ (book : Book) (limit : ℕ) {gs : List ℕ} {ts : Tables} {p : M.Forest
   pushed l b w at-j no-h off (yes lt) =
       let u = table-here agree j (literal-goal l) at-j in
       let e : getElem? ts j ≡ some (table-of (literal-goal l) false (p .first (literal-goal l)) (u .waiting)) = u .is ∙ ap (λ z. some (table-of (literal-goal l) z (p .first (literal-goal l)) (u .waiting))) no-h in
-      rw e (rw off (rw (leb-no limit (p .clock) lt) (going (λ i h o. o) (ticked agree) (s-more j (literal-goal l) (suc (p .clock)) MAX MAX at-j no-active (s-more i g c pm nm at (an-active (bound a l b c j w at-j)) xs)))))
+      rw e (rw off (rw (lt-leb limit (p .clock) lt) (going (λ i h o. o) (ticked agree) (s-more j (literal-goal l) (suc (p .clock)) MAX MAX at-j no-active (s-more i g c pm nm at (an-active (bound a l b c j w at-j)) xs)))))
   pushed l b w at-j no-h off (no o) =
       let u = table-here agree j (literal-goal l) at-j in
       let e : getElem? ts j ≡ some (table-of (literal-goal l) false (p .first (literal-goal l)) (u .waiting)) = u .is ∙ ap (λ z. some (table-of (literal-goal l) z (p .first (literal-goal l)) (u .waiting))) no-h in
       let full : limit ≤ p .clock = omega arith in
-      rw e (rw off (rw (leb-yes limit (p .clock) full) (clock-out (rw now full))))
+      rw e (rw off (rw (le-leb limit (p .clock) full) (clock-out (rw now full))))
 
   unanswered-is : (l : Lit) (b : Body) → Names (length book) (l ∷ b) → getElem? gs j ≡ some (literal-goal l) → p .answered (literal-goal l) ≡ false → (o : Option ℕ) (k : Option ℕ) → is-active j (entry-of i c pm nm none ∷ ds) ≡ o → CycleIs (entry-of i c pm nm none ∷ ds) o k
       → TurnIs book limit gs before r (on-subgoal-selected (state-of book limit ts (p .clock) (entry-of i c pm nm none ∷ ds)) (strand-of a (l ∷ b) (some (selection j b)) c))

@@ -13,18 +13,13 @@ use Rattle.definitions.specs.Strand.{Strand}
 use Rattle.definitions.specs.Table.{Table}
 use Rattle.definitions.specs.Tables.{Tables, Forest}
 use Rattle.definitions.specs.Stack.{Stack, active}
+use Rattle.laws.proofs.Distinct.{Distinct, Under}
 use Rattle.promises.proofs.Plain.Machine as M
 use Rattle.promises.proofs.Plain.Steps.{put-here, put-there}
 use Rattle.promises.proofs.Plain.Clear.{total-drop}
 use Rattle.promises.proofs.Plain.Turns.{one, count, self-one}
 use Rattle.promises.proofs.Link.View.{QueueIs, q-end, q-more, answers-of, TableIs, table-is, TablesAre, t-end, t-more, no-active, an-active, StackIs, s-end, s-more}
 use Rattle.promises.proofs.Link.Tables.{Agree}
-
-abbrev pub Distinct : List ℕ → Type 0
-Distinct hs = (i j g : ℕ) → getElem? hs i ≡ some g → getElem? hs j ≡ some g → i ≡ j
-
-abbrev pub Under : ℕ → List ℕ → Type 0
-Under n hs = (i g : ℕ) → getElem? hs i ≡ some g → g < n
 
 total-same : (f f' : ℕ → ℕ) (hs : List ℕ) → ((i g : ℕ) → getElem? hs i ≡ some g → f' g ≡ f g) → total f' hs ≡ total f hs
 total-same f f' [] e = refl
@@ -51,17 +46,6 @@ sum-under n (h ∷ hs) f d u =
 pub total-add : (n : ℕ) (f g : ℕ → ℕ) → M.total n (λ u. f u + g u) ≡ M.total n f + M.total n g
 total-add zero f g = refl
 total-add (suc n) f g = let x = total-add n f g in omega arith
-
-total-one : (hs : List ℕ) → total (λ h. 1) hs ≡ length hs
-total-one [] = refl
-total-one (h ∷ hs) = let x = total-one hs in omega arith
-
-machine-one : (n : ℕ) → M.total n (λ h. 1) ≡ n
-machine-one zero = refl
-machine-one (suc n) = let x = machine-one n in omega arith
-
-pub few-distinct : (n : ℕ) (hs : List ℕ) → Distinct hs → Under n hs → length hs ≤ n
-few-distinct n hs d u = let x = sum-under n hs (λ h. 1) d u in let y = total-one hs in let z = machine-one n in omega arith
 
 pub queue-length : {n : ℕ} {gs : List ℕ} {ss : List Strand} {ms : List M.Strand} → QueueIs n gs ss ms → length ss ≡ length ms
 queue-length q-end = refl

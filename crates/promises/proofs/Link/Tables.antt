@@ -2,6 +2,7 @@
 use Prim.Native.Nat.{ℕ, zero, suc, _<_}
 use native.Mathlib.Omega.{arith}
 use native.Mathlib.Decide.{ℕ-discrete}
+use borrow.Author.Tests.{eq-eqb, ne-eqb}
 use mathlib.Core.Path.{_≡_, refl, sym, ap, subst, _∙_}
 use mathlib.Core.Bool.{Bool, true, false}
 use mathlib.Core.Option.{Option, none, some}
@@ -14,10 +15,10 @@ use Rattle.definitions.specs.Table.{Table}
 use Rattle.definitions.specs.Tables.{Tables, Forest, index-of}
 use Rattle.definitions.specs.Stack.{Stack}
 use Rattle.definitions.specs.Model.{clauses-of}
+use Rattle.laws.proofs.Options.{no-such, same-some}
 use Rattle.promises.proofs.Plain.Model.{Lit, pos, neg, Body, literal-goal}
 use Rattle.promises.proofs.Plain.Machine as M
 use Rattle.promises.proofs.Link.View.{StrandIs, free, bound, QueueIs, q-end, q-more, TableIs, table-is, TableAt, TablesAre, t-end, t-more, ActiveIs, no-active, an-active, StackIs, s-end, s-more}
-use Rattle.promises.proofs.Link.Tests.{eqb-yes, eqb-no}
 
 abbrev pub lit : Literal → Lit
 lit (Positive g w o) = pos g
@@ -69,12 +70,6 @@ queue-append (q-more x xs) y = q-more x (queue-append xs y)
 
 -- Places.
 
-pub no-such : {A : Type 0} {x : A} → none ≡ some x → ⊥
-no-such {A} {x} e = let z : _≡_ {A = ℕ} 0 1 = cc in omega arith
-
-pub same-some : {A : Type 0} {x y : A} → some x ≡ some y → x ≡ y
-same-some {A} {x} {y} e = cc
-
 pub table-found : {n : ℕ} {gs : List ℕ} {p : M.Forest} {hs : List ℕ} {ts : Tables} → TablesAre n gs p hs ts → (i g : ℕ) → getElem? hs i ≡ some g → (t : Table) × (getElem? ts i ≡ some t) × TableAt n gs p g t
 table-found t-end i g e = absurd (no-such e)
 table-found {n} {gs} {p} (t-more {g = h} {t = t} x xs) zero g e = (t, refl, subst (λ z. TableAt n gs p z t) (same-some e) x)
@@ -109,8 +104,8 @@ found-next g h hs none no-h (found-none a) = found-none go
 found-next g h hs (some i) no-h (found-at j e) = found-at (suc j) e
 
 found-step : (g h : ℕ) (hs : List ℕ) (t : Table) (ts : Tables) → t .table-goal ≡ h → Dec (h ≡ g) → FoundIs g hs (index-of g ts) → FoundIs g (h ∷ hs) (index-of g (t ∷ ts))
-found-step g h hs t ts k (yes e) r = rw (eqb-yes (t .table-goal) g (k ∙ e), position) (found-at 0 (ap some e))
-found-step g h hs t ts k (no o) r = rw (eqb-no (t .table-goal) g (λ x. o (sym k ∙ x)), position) (found-next g h hs (index-of g ts) o r)
+found-step g h hs t ts k (yes e) r = rw (eq-eqb (t .table-goal) g (k ∙ e), position) (found-at 0 (ap some e))
+found-step g h hs t ts k (no o) r = rw (ne-eqb (t .table-goal) g (λ x. o (sym k ∙ x)), position) (found-next g h hs (index-of g ts) o r)
 
 pub goal-found : {n : ℕ} {gs : List ℕ} {p : M.Forest} {hs : List ℕ} {ts : Tables} → TablesAre n gs p hs ts → (g : ℕ) → FoundIs g hs (index-of g ts)
 goal-found t-end g = found-none (λ i e. no-such e)

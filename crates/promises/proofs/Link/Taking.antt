@@ -2,6 +2,7 @@
 use Prim.Native.Nat.{ℕ, suc, _≤_, _<_}
 use native.Mathlib.Omega.{arith}
 use native.Mathlib.Decide.{decLt}
+use borrow.Author.Tests.{lt-ltb, le-ltb}
 use mathlib.Core.Path.{_≡_, refl, sym, subst}
 use mathlib.Core.Bool.{Bool, true, false}
 use mathlib.Core.Option.{Option, none, some}
@@ -14,18 +15,17 @@ use Rattle.definitions.specs.Table.{Table, pop-front, with-strands, dequeue-nex
 use Rattle.definitions.specs.Turn.{eligible}
 use Rattle.promises.proofs.Plain.Machine as M
 use Rattle.promises.proofs.Link.View.{StrandIs, free, bound, QueueIs, q-end, q-more}
-use Rattle.promises.proofs.Link.Tests.{ltb-yes, ltb-no}
 use Rattle.promises.proofs.Link.Tables.{queue-append}
 use Rattle.promises.proofs.Link.Turn.{and-false}
 
 module _ {n : ℕ} {gs : List ℕ} (c : ℕ) (mode : AnswerMode) where
   may : {s : Strand} {m : M.Strand} → StrandIs n gs s m → m .time < c → eligible c mode s ≡ true
-  may (free a b t w) o = rw (ltb-yes t c o) (rw (and-false (is-complete mode)))
-  may (bound a l b t i w e) o = rw (ltb-yes t c o) (rw (and-false (is-complete mode)))
+  may (free a b t w) o = rw (lt-ltb t c o) (rw (and-false (is-complete mode)))
+  may (bound a l b t i w e) o = rw (lt-ltb t c o) (rw (and-false (is-complete mode)))
 
   may-not : {s : Strand} {m : M.Strand} → StrandIs n gs s m → c ≤ m .time → eligible c mode s ≡ false
-  may-not (free a b t w) o = rw (ltb-no t c o)
-  may-not (bound a l b t i w e) o = rw (ltb-no t c o)
+  may-not (free a b t w) o = rw (le-ltb t c o)
+  may-not (bound a l b t i w e) o = rw (le-ltb t c o)
 
 -- what taking gives: `pre` has been passed over
 pub data TakeIs (n : ℕ) (gs : List ℕ) (pre xs : List Strand) : Option ℕ → Option (M.Strand × List M.Strand) → Type 0 where

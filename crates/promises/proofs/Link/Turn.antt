@@ -1,6 +1,7 @@
 -- What it means that a turn of the definitions comes to what a turn of the machine comes to, and what a turn may ask of the stack.
 use Prim.Native.Nat.{ℕ, _≤_}
 use native.Mathlib.Decide.{ℕ-discrete}
+use borrow.Author.Tests.{eq-eqb, ne-eqb}
 use mathlib.Core.Path.{_≡_, refl, sym, ap, subst, _∙_}
 use mathlib.Core.Bool.{Bool, true, false, _&&_}
 use mathlib.Core.Logic.{inl, inr}
@@ -13,13 +14,13 @@ use Rattle.definitions.specs.Stop.{Stops, stop, go}
 use Rattle.definitions.specs.Tables.{Tables, Forest}
 use Rattle.definitions.specs.Stack.{StackEntry, Stack, is-active}
 use Rattle.definitions.specs.Logic.{SolveState, Flow, continue, return-ok, return-err, NoMoreSolutions, QuantumExceeded, drop-state}
+use Rattle.laws.proofs.Distinct.{Distinct}
+use Rattle.laws.proofs.Options.{same-some}
 use Rattle.promises.proofs.Plain.Machine as M
 use Rattle.promises.proofs.Plain.Steps.{Setting}
 use Rattle.promises.proofs.Plain.Stack.{On, Calls, Piled}
 use Rattle.promises.proofs.Link.View.{entry-of, StackIs, s-end, s-more}
-use Rattle.promises.proofs.Link.Tests.{eqb-yes, eqb-no}
-use Rattle.promises.proofs.Link.Tables.{Extends, same-some, forest-of, Agree}
-use Rattle.promises.proofs.Link.Sums.{Distinct}
+use Rattle.promises.proofs.Link.Tables.{Extends, forest-of, Agree}
 use Rattle.promises.proofs.Link.Back.{Busy}
 
 abbrev pub state-of : Book → (limit : ℕ) → Tables → (clock : ℕ) → Stack → SolveState
@@ -92,7 +93,7 @@ pub data CycleIs (ds : Stack) : Option ℕ → Option ℕ → Type 0 where
 module _ (n : ℕ) (gs : List ℕ) (distinct : Distinct gs) (j u : ℕ) (named : getElem? gs j ≡ some u) where
   inactive : {ds : Stack} {es : List M.Entry} → StackIs n gs ds es → (On u es → ⊥) → is-active j ds ≡ none
   inactive s-end o = refl
-  inactive (s-more i g c p r e a xs) o = rw (inactive xs (λ x. o (inr x)), is-active) (rw (eqb-no i j (λ k. o (inl (same-some (sym e ∙ ap (getElem? gs) k ∙ named))))))
+  inactive (s-more i g c p r e a xs) o = rw (inactive xs (λ x. o (inr x)), is-active) (rw (ne-eqb i j (λ k. o (inl (same-some (sym e ∙ ap (getElem? gs) k ∙ named))))))
 
   cycle-next : (d : StackEntry) (ds : Stack) (o : Option ℕ) (k : Option ℕ) → eqb (d .table) j ≡ false → is-active j ds ≡ o → CycleIs ds o k → CycleIs (d ∷ ds) (is-active j (d ∷ ds)) k
   cycle-next d ds none none q e no-cycle = rw (e, is-active) (rw q no-cycle)
@@ -103,8 +104,8 @@ module _ (n : ℕ) (gs : List ℕ) (distinct : Distinct gs) (j u : ℕ) (named :
   cycle-is (s-more {ds = ds} {es = es} {a = a} i g c p r e act xs) w = at (ℕ-discrete g u) (cycle-is xs (w .1))
     where
       at : (d : Dec (g ≡ u)) → CycleIs ds (is-active j ds) (M.find-clock u es) → CycleIs (entry-of i c p r a ∷ ds) (is-active j (entry-of i c p r a ∷ ds)) (M.pick d (some c) (M.find-clock u es))
-      at (yes k) x = rw (inactive xs (λ o. w .0 (subst (λ v. On v es) (sym k) o)), is-active) (rw (eqb-yes i j (distinct i j u (e ∙ ap some k) named)) (a-cycle refl refl))
-      at (no k) x = cycle-next (entry-of i c p r a) ds (is-active j ds) (M.find-clock u es) (eqb-no i j (λ y. k (same-some (sym e ∙ ap (getElem? gs) y ∙ named)))) refl x
+      at (yes k) x = rw (inactive xs (λ o. w .0 (subst (λ v. On v es) (sym k) o)), is-active) (rw (eq-eqb i j (distinct i j u (e ∙ ap some k) named)) (a-cycle refl refl))
+      at (no k) x = cycle-next (entry-of i c p r a) ds (is-active j ds) (M.find-clock u es) (ne-eqb i j (λ y. k (same-some (sym e ∙ ap (getElem? gs) y ∙ named)))) refl x
 
 pub and-false : (b : Bool) → (b && false) ≡ false
 and-false true = refl

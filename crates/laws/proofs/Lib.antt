@@ -1,0 +1,6 @@
+-- Laws that know neither the definitions nor the code, for whichever crate wants them: options, tests, lists, counts. What the kit has
+-- (lib.ListN, lib.Seq, borrow.Author.Tests) is not said again.
+pub mod Options
+pub mod Bools
+pub mod Lists
+pub mod Distinct

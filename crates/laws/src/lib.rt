@@ -1,0 +1,1 @@
+// This crate holds laws on options, tests and lists, in proofs/; there is no code.
