@@ -37,7 +37,8 @@ other-more : (goal d : ℕ) (ds : List ℕ) → other-than goal (ds ++ (d ∷ []
 other-more goal d [] = refl
 other-more goal d (x ∷ ds) = other-more-by goal d x ds (eqb x goal) (other-more goal d ds)
 
-other-few-by : (goal x : ℕ) (ds : List ℕ) (b : Bool) → length (other-than goal ds) ≤ length ds → length (kept-by goal x ds b) ≤ suc (length ds)
+other-few-by : (goal x : ℕ) (ds : List ℕ) (b : Bool) → length (other-than goal ds) ≤ length ds
+    → length (kept-by goal x ds b) ≤ suc (length ds)
 other-few-by goal x ds true h = omega arith
 other-few-by goal x ds false h = omega arith
 
@@ -76,10 +77,12 @@ module _ (goal i : ℕ) (goals : List ℕ) (i-in : i < length goals) where
 
 -- A turn of the loop that compares: what is left of the first n of two lists.
 module _ (n i : ℕ) (a b : List ℕ) (i-in : i < n) (n-a : n ≤ length a) (n-b : n ≤ length b) where
-  heads : same (drop i (take n b)) (drop i (take n a)) ≡ eqb (getD b i 0) (getD a i 0) && same (drop (i + 1) (take n b)) (drop (i + 1) (take n a))
+  heads : same (drop i (take n b)) (drop i (take n a))
+      ≡ eqb (getD b i 0) (getD a i 0) && same (drop (i + 1) (take n b)) (drop (i + 1) (take n a))
   heads = ap₂ same (left-next n i b 0 i-in n-b) (left-next n i a 0 i-in n-a)
 
-  pub turn-same : getD b i 0 ≡ getD a i 0 → same (drop i (take n b)) (drop i (take n a)) ≡ same (drop (i + 1) (take n b)) (drop (i + 1) (take n a))
+  pub turn-same : getD b i 0 ≡ getD a i 0
+      → same (drop i (take n b)) (drop i (take n a)) ≡ same (drop (i + 1) (take n b)) (drop (i + 1) (take n a))
   turn-same e = heads ∙ ap (λ (t : Bool). t && same (drop (i + 1) (take n b)) (drop (i + 1) (take n a))) (eq-eqb _ _ e)
 
   pub turn-differs : (getD b i 0 ≡ getD a i 0 → ⊥) → same (drop i (take n b)) (drop i (take n a)) ≡ false
@@ -107,10 +110,12 @@ by-variants a b t = t && same (answer b .delayed-subgoals) (answer a .delayed-su
 pub other-variants : (a b : Answer) → (b .variant ≡ a .variant → ⊥) → same-answer a b ≡ false
 other-variants a b h = ap (by-variants a b) (ne-eqb (b .variant) (a .variant) h)
 
-pub same-variants : (a b : Answer) → b .variant ≡ a .variant → same-answer a b ≡ same (answer b .delayed-subgoals) (answer a .delayed-subgoals)
+pub same-variants : (a b : Answer) → b .variant ≡ a .variant
+    → same-answer a b ≡ same (answer b .delayed-subgoals) (answer a .delayed-subgoals)
 same-variants a b e = ap (by-variants a b) (eq-eqb (b .variant) (a .variant) e)
 
 -- `same-answer` is the test of `equal-answer`: the search goes by it.
 pub equal-answer-by : (a b : Answer) (stored : List said.Answer)
-    → equal-answer (answer a) (answer b ∷ stored) ≡ elim (same-answer a b) as (λ _. Option said.Answer) [ true ↦ some (answer b) | false ↦ equal-answer (answer a) stored ]
+    → equal-answer (answer a) (answer b ∷ stored)
+    ≡ elim (same-answer a b) as (λ _. Option said.Answer) [ true ↦ some (answer b) | false ↦ equal-answer (answer a) stored ]
 equal-answer-by a b stored = refl

@@ -26,7 +26,8 @@ by-test goals x b = stop-if b 24 >> go (with-delayed x (x .delayed-subgoals ++ g
 over : (goals : List ℕ) (x : said.ExClause) → 8 < length (x .delayed-subgoals) + length goals → delay goals x ≡ stop 24
 over goals x h = ap (by-test goals x) (lt-ltb _ _ h)
 
-room : (goals : List ℕ) (x : said.ExClause) → length (x .delayed-subgoals) + length goals ≤ 8 → delay goals x ≡ go (with-delayed x (x .delayed-subgoals ++ goals))
+room : (goals : List ℕ) (x : said.ExClause) → length (x .delayed-subgoals) + length goals ≤ 8
+    → delay goals x ≡ go (with-delayed x (x .delayed-subgoals ++ goals))
 room goals x h = ap (by-test goals x) (le-ltb _ _ h)
 
 module _ (goals : List ℕ) (s : Strand) where

@@ -2,11 +2,9 @@
 use Prim.Native.Nat.{ℕ, suc, _-_, _≤_, _<_}
 use native.Mathlib.Omega.{arith}
 use mathlib.Core.Path.{_≡_, ap}
-use lib.ListN.{getD}
 use borrow.Author.Tests.{lt-ltb, le-ltb, le-leb, lt-leb, eq-eqb, ne-eqb}
 use Rattle.strands.specs.declared.Strand.{Strand}
-use Rattle.strands.specs.Fields.{no-floundered}
-use Rattle.strands.specs.Floundering.{set-aside, flounder, taken-back, reconsider-at, reconsider-down}
+use Rattle.strands.specs.Floundering.{set-aside, flounder, aside-at, taken-back, reconsider-at, reconsider-down}
 
 module _ (s : Strand) where
   pub flounder-none : s .«literal_count» ≡ 0 → flounder s ≡ s
@@ -28,29 +26,29 @@ module _ (i : ℕ) (s : Strand) where
   pub reconsider-past : s .«floundered_count» ≤ 8 → s .«floundered_count» ≤ i → reconsider-at i s ≡ s
   reconsider-past p q = rw (le-ltb 8 (s .«floundered_count») p, le-leb (s .«floundered_count») i q)
 
-  pub reconsider-late : s .«floundered_count» ≤ 8 → i < s .«floundered_count» → s .«answer_time» ≤ getD (s .floundered) i no-floundered .time
+  pub reconsider-late : s .«floundered_count» ≤ 8 → i < s .«floundered_count» → s .«answer_time» ≤ aside-at i s .time
       → reconsider-at i s ≡ s
   reconsider-late p q r = rw (
     le-ltb 8 (s .«floundered_count») p,
     lt-leb (s .«floundered_count») i q,
-    le-leb (s .«answer_time») (getD (s .floundered) i no-floundered .time) r,
+    le-leb (s .«answer_time») (aside-at i s .time) r,
   )
 
-  pub reconsider-full : s .«floundered_count» ≤ 8 → i < s .«floundered_count» → getD (s .floundered) i no-floundered .time < s .«answer_time»
+  pub reconsider-full : s .«floundered_count» ≤ 8 → i < s .«floundered_count» → aside-at i s .time < s .«answer_time»
       → 8 ≤ s .«literal_count» → reconsider-at i s ≡ s
   reconsider-full p q r t = rw (
     le-ltb 8 (s .«floundered_count») p,
     lt-leb (s .«floundered_count») i q,
-    lt-leb (s .«answer_time») (getD (s .floundered) i no-floundered .time) r,
+    lt-leb (s .«answer_time») (aside-at i s .time) r,
     le-leb 8 (s .«literal_count») t,
   )
 
-  pub reconsider-back : s .«floundered_count» ≤ 8 → i < s .«floundered_count» → getD (s .floundered) i no-floundered .time < s .«answer_time»
+  pub reconsider-back : s .«floundered_count» ≤ 8 → i < s .«floundered_count» → aside-at i s .time < s .«answer_time»
       → s .«literal_count» < 8 → reconsider-at i s ≡ taken-back i s
   reconsider-back p q r t = rw (
     le-ltb 8 (s .«floundered_count») p,
     lt-leb (s .«floundered_count») i q,
-    lt-leb (s .«answer_time») (getD (s .floundered) i no-floundered .time) r,
+    lt-leb (s .«answer_time») (aside-at i s .time) r,
     lt-leb 8 (s .«literal_count») t,
   )
 

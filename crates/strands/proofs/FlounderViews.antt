@@ -20,7 +20,8 @@ use Rattle.definitions.specs.Strand.{with-floundered}
 use Rattle.book.specs.View.{meant}
 use Rattle.strands.specs.declared.Strand.{Strand}
 use Rattle.strands.specs.Fields.{no-literal, no-floundered}
-use Rattle.strands.specs.Floundering.{last-aside, flounder-by, flounder, taken-back, reconsider-by, reconsider-at, reconsider-down, reconsider}
+use Rattle.strands.specs.Floundering.{last-aside, flounder-by, flounder}
+use Rattle.strands.specs.Floundering.{aside-at, taken-back, reconsider-by, reconsider-at, reconsider-down, reconsider}
 use Rattle.strands.specs.View.{Sound, clause, floundered, Kept}
 use Rattle.strands.proofs.FieldViews.{kept-on}
 use Rattle.strands.proofs.FlounderCases.{flounder-last}
@@ -30,12 +31,16 @@ use Rattle.strands.proofs.LiteralCases.{index-is, found-at, removed}
 -- Floundering the last literal.
 
 abbrev aside : said.ExClause → ℕ → books.Literal → said.ExClause
-aside x i l = with-floundered x (remove (x .subgoals) i) (push (x .floundered-subgoals) (record { floundered-literal = l; floundered-time = x .answer-time }))
+aside x i l =
+    with-floundered x (remove (x .subgoals) i)
+    (push (x .floundered-subgoals) (record { floundered-literal = l; floundered-time = x .answer-time }))
 
-flounder-found : (x : said.ExClause) (i : ℕ) (l : books.Literal) → getElem? (x .subgoals) i ≡ some l → flounder-subgoal x i ≡ go (aside x i l)
+flounder-found : (x : said.ExClause) (i : ℕ) (l : books.Literal) → getElem? (x .subgoals) i ≡ some l
+    → flounder-subgoal x i ≡ go (aside x i l)
 flounder-found x i l e = ap (λ (o : Option books.Literal). unwrap o >>= λ a. go (aside x i a)) e
 
-pub flounder-view : (s : Strand) → Sound s → 0 < s .«literal_count» → flounder-subgoal (clause s) (next-subgoal-index (clause s)) ≡ go (clause (flounder s))
+pub flounder-view : (s : Strand) → Sound s → 0 < s .«literal_count»
+    → flounder-subgoal (clause s) (next-subgoal-index (clause s)) ≡ go (clause (flounder s))
 flounder-view s o some-left =
     let few = o .few-literals in
     let long = o .literals-long in
@@ -105,17 +110,18 @@ module _ (i : ℕ) (s : Strand) where
   pub reconsider-at-kept : Kept s (reconsider-at i s)
   reconsider-at-kept =
       reconsider-by-kept (ltb 8 (s .«floundered_count»)) (leb (s .«floundered_count») i)
-      (leb (s .«answer_time») (getD (s .floundered) i no-floundered .time)) (leb 8 (s .«literal_count»))
+      (leb (s .«answer_time») (aside-at i s .time)) (leb 8 (s .«literal_count»))
 
   module _ (o : Sound s) where
-    reconsider-by-sound : (too-many past late full : Bool) → leb (s .«floundered_count») i ≡ past → Sound (reconsider-by too-many past late full i s)
+    reconsider-by-sound : (too-many past late full : Bool) → leb (s .«floundered_count») i ≡ past
+        → Sound (reconsider-by too-many past late full i s)
     reconsider-by-sound true past late full e = o
     reconsider-by-sound false true late full e = o
     reconsider-by-sound false false true full e = o
     reconsider-by-sound false false false true e = o
     reconsider-by-sound false false false false e = record {
-      literals-long = length-set (s .literals) (s .«literal_count») (getD (s .floundered) i no-floundered .literal) ∙ o .literals-long;
-      floundered-long = length-set (s .floundered) i (getD (s .floundered) (s .«floundered_count» - 1) no-floundered) ∙ o .floundered-long;
+      literals-long = length-set (s .literals) (s .«literal_count») (aside-at i s .literal) ∙ o .literals-long;
+      floundered-long = length-set (s .floundered) i (aside-at (s .«floundered_count» - 1) s) ∙ o .floundered-long;
       delayed-long = o .delayed-long;
       few-literals = omega (arith, o .few-literals, leb-false (s .«floundered_count») i e);
       few-delayed = o .few-delayed;
@@ -124,26 +130,26 @@ module _ (i : ℕ) (s : Strand) where
     pub reconsider-at-sound : Sound (reconsider-at i s)
     reconsider-at-sound =
         reconsider-by-sound (ltb 8 (s .«floundered_count»)) (leb (s .«floundered_count») i)
-        (leb (s .«answer_time») (getD (s .floundered) i no-floundered .time)) (leb 8 (s .«literal_count»)) refl
+        (leb (s .«answer_time») (aside-at i s .time)) (leb 8 (s .«literal_count»)) refl
 
-    floundered-at : i < s .«floundered_count» → getElem? (clause s .floundered-subgoals) i ≡ some (floundered (getD (s .floundered) i no-floundered))
+    floundered-at : i < s .«floundered_count» → getElem? (clause s .floundered-subgoals) i ≡ some (floundered (aside-at i s))
     floundered-at p =
         let few = o .few-literals in
         let long = o .floundered-long in
         view-at floundered (s .«floundered_count») i (s .floundered) no-floundered (omega arith)
 
-    returned-is : i < s .«floundered_count» → getD (s .floundered) i no-floundered .time < s .«answer_time»
-        → returned (clause s) i (floundered (getD (s .floundered) i no-floundered)) ≡ clause (taken-back i s)
+    returned-is : i < s .«floundered_count» → aside-at i s .time < s .«answer_time»
+        → returned (clause s) i (floundered (aside-at i s)) ≡ clause (taken-back i s)
     returned-is p early =
         let few = o .few-literals in
         let long = o .literals-long in
         let long-floundered = o .floundered-long in
         ap₂ (λ (ls : List books.Literal) (fs : List said.FlounderedSubgoal). with-floundered (clause s) ls fs)
-        (view-push meant (s .«literal_count») (s .literals) (getD (s .floundered) i no-floundered .literal) (omega arith))
+        (view-push meant (s .«literal_count») (s .literals) (aside-at i s .literal) (omega arith))
         (view-swap-remove floundered (s .«floundered_count») i (s .floundered) no-floundered p (omega arith))
 
     turn-is : (too-many past late full : Bool) → ltb 8 (s .«floundered_count») ≡ too-many → leb (s .«floundered_count») i ≡ past
-        → leb (s .«answer_time») (getD (s .floundered) i no-floundered .time) ≡ late → leb 8 (s .«literal_count») ≡ full
+        → leb (s .«answer_time») (aside-at i s .time) ≡ late → leb 8 (s .«literal_count») ≡ full
         → reconsider-from (suc i) (clause s) ≡ reconsider-from i (clause (reconsider-by too-many past late full i s))
     turn-is true past late full p q r t = absurd (omega (arith, o .few-literals, ltb-true 8 (s .«floundered_count») p))
     turn-is false true late full p q r t =
@@ -151,20 +157,20 @@ module _ (i : ℕ) (s : Strand) where
         let beyond = leb-true (s .«floundered_count») i q in
         turn-past i (clause s) (view-past floundered (s .«floundered_count») i (s .floundered) (omega arith))
     turn-is false false true full p q r t =
-        turn-found i (clause s) (floundered (getD (s .floundered) i no-floundered)) false (floundered-at (leb-false (s .«floundered_count») i q))
-        (le-ltb _ _ (leb-true (s .«answer_time») (getD (s .floundered) i no-floundered .time) r))
+        turn-found i (clause s) (floundered (aside-at i s)) false (floundered-at (leb-false (s .«floundered_count») i q))
+        (le-ltb _ _ (leb-true (s .«answer_time») (aside-at i s .time) r))
     turn-is false false false true p q r t =
         absurd (omega (arith, o .few-literals, leb-true 8 (s .«literal_count») t, leb-false (s .«floundered_count») i q))
     turn-is false false false false p q r t =
         let there = leb-false (s .«floundered_count») i q in
-        let early = leb-false (s .«answer_time») (getD (s .floundered) i no-floundered .time) r in
-        turn-found i (clause s) (floundered (getD (s .floundered) i no-floundered)) true (floundered-at there) (lt-ltb _ _ early)
+        let early = leb-false (s .«answer_time») (aside-at i s .time) r in
+        turn-found i (clause s) (floundered (aside-at i s)) true (floundered-at there) (lt-ltb _ _ early)
         ∙ ap (reconsider-from i) (returned-is there early)
 
     pub reconsider-at-view : reconsider-from (suc i) (clause s) ≡ reconsider-from i (clause (reconsider-at i s))
     reconsider-at-view =
         turn-is (ltb 8 (s .«floundered_count»)) (leb (s .«floundered_count») i)
-        (leb (s .«answer_time») (getD (s .floundered) i no-floundered .time)) (leb 8 (s .«literal_count»)) refl refl refl refl
+        (leb (s .«answer_time») (aside-at i s .time)) (leb 8 (s .«literal_count»)) refl refl refl refl
 
 -- The loop, and the whole.
 
@@ -175,7 +181,8 @@ reconsider-down-view (suc i) s o = reconsider-down-view i (reconsider-at i s) (r
 pub reconsider-down-kept : (i : ℕ) (s : Strand) → Kept s (reconsider-down i s)
 reconsider-down-kept zero s = refl
 reconsider-down-kept (suc i) s =
-    kept-on s (reconsider-at i s) (reconsider-down i (reconsider-at i s)) (reconsider-at-kept i s) (reconsider-down-kept i (reconsider-at i s))
+    kept-on s (reconsider-at i s) (reconsider-down i (reconsider-at i s)) (reconsider-at-kept i s)
+    (reconsider-down-kept i (reconsider-at i s))
 
 pub reconsider-down-sound : (i : ℕ) (s : Strand) → Sound s → Sound (reconsider-down i s)
 reconsider-down-sound zero s o = o
@@ -183,7 +190,7 @@ reconsider-down-sound (suc i) s o = reconsider-down-sound i (reconsider-at i s) 
 
 pub reconsider-view : (s : Strand) → Sound s → clause (reconsider s) ≡ reconsider-floundered-subgoals (clause s)
 reconsider-view s o =
-    let all : length (clause s .floundered-subgoals) ≡ min (s .«floundered_count») (length (s .floundered)) = length-view floundered (s .«floundered_count») (s .floundered) in
+    let all = length-view floundered (s .«floundered_count») (s .floundered) in
     let long = o .floundered-long in
     let same : min (s .«floundered_count») 8 ≡ length (clause s .floundered-subgoals) = omega arith in
     reconsider-down-view (min (s .«floundered_count») 8) s o ∙ ap (λ (k : ℕ). reconsider-from k (clause s)) same

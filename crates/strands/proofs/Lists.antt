@@ -88,7 +88,8 @@ module _ {A : Type 0} where
       ∙ ap (sets to n) (sym (take-next i more d q))
 
   -- `swap_remove` of a list that has a last one
-  swap-found : (l : List A) (i : ℕ) (last : A) → getElem? l (length l - 1) ≡ some last → swap-remove l i ≡ take (length l - 1) (set l i last)
+  swap-found : (l : List A) (i : ℕ) (last : A) → getElem? l (length l - 1) ≡ some last
+      → swap-remove l i ≡ take (length l - 1) (set l i last)
   swap-found l i last e = ap (λ (o : Option A). elim o as (λ _. List A) [ none ↦ l | some a ↦ take (length l - 1) (set l i a) ]) e
 
 module _ {A B : Type 0} (f : A → B) where
@@ -150,5 +151,6 @@ module _ {A B : Type 0} (f : A → B) where
       let last : A = getD l (n - 1) d in
       swap-found (map f (take n l)) i (f last) (ap (λ (k : ℕ). getElem? (map f (take n l)) (k - 1)) e ∙ view-at n (n - 1) l d (omega arith))
       ∙ ap (λ (k : ℕ). take (k - 1) (set (map f (take n l)) i (f last))) e
-      ∙ ap (λ (r : List B). take (n - 1) r) (sym (map-set (take n l) i last) ∙ ap (λ (r : List A). map f r) (sym (take-set-lt n l i last p)))
+      ∙ ap (λ (r : List B). take (n - 1) r)
+      (sym (map-set (take n l) i last) ∙ ap (λ (r : List A). map f r) (sym (take-set-lt n l i last p)))
       ∙ view-front (n - 1) n (set l i last) (omega arith)

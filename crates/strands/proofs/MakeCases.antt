@@ -23,7 +23,8 @@ positives-next goals i made i-in e =
     let long : i ≡ 0 + length first = omega (arith, length-map (take i goals) wants-any, length-take-le i goals (omega arith)) in
     ap (λ (ls : List Literal). set ls i l) e
     ∙ sets-one-more first (replicate 8 no-literal) 0 i l long
-    ∙ ap (sets (replicate 8 no-literal) 0) (sym (ap (map wants-any) (take-next i goals 0 i-in) ∙ map-append wants-any (take i goals) (getD goals i 0 ∷ [])))
+    ∙ ap (sets (replicate 8 no-literal) 0)
+    (sym (ap (map wants-any) (take-next i goals 0 i-in) ∙ map-append wants-any (take i goals) (getD goals i 0 ∷ [])))
 
 pub refine-none : (a : Answer) → a .«delayed_count» ≡ 0 → refine a ≡ refine-by true a
 refine-none a p = ap (λ b. refine-by b a) (eq-eqb (a .«delayed_count») 0 p)
@@ -38,7 +39,8 @@ pub says-initial : (variant flags : ℕ) (literals : List Literal) (count n : �
 says-initial variant flags literals count n r n-is e = e ∙ ap (λ (k : ℕ). new-strand variant (bit1 flags) (bit0 flags) literals k) n-is
 
 pub says-refined : (a : Answer) (n : ℕ) (literals : List Literal) (r : Strand) → length (a .delayed) ≡ 8 → n ≡ min (a .«delayed_count») 8
-    → (a .«delayed_count» ≡ 0 → ⊥) → literals ≡ positives (take n (a .delayed)) → r ≡ new-strand (a .variant) false (a .ambiguous) literals n
+    → (a .«delayed_count» ≡ 0 → ⊥) → literals ≡ positives (take n (a .delayed))
+    → r ≡ new-strand (a .variant) false (a .ambiguous) literals n
     → record { made = true; strand = r } ≡ refine a
 says-refined a n literals r long n-is some-delayed made e =
     ap (λ (s : Strand). record { made = true; strand = s })

@@ -17,7 +17,8 @@ use Rattle.book.specs.View.{meant}
 use Rattle.book.specs.declared.Literal.{Literal}
 use Rattle.strands.specs.declared.Answer.{Answer}
 use Rattle.strands.specs.Fields.{no-literal, no-floundered}
-use Rattle.strands.specs.Making.{new-strand, blank-strand, nothing, clause-of, strand-of, wants-any, positive, positives, refine-by, refine, refinement}
+use Rattle.strands.specs.Making.{new-strand, blank-strand, nothing, clause-of, strand-of}
+use Rattle.strands.specs.Making.{wants-any, positive, positives, refine-by, refine, refinement}
 use Rattle.strands.specs.View.{Sound, view, answer}
 use Rattle.strands.proofs.Lists.{shown, shown-length, take-empty, take-sets}
 
@@ -45,7 +46,8 @@ meaning variant outsized ambiguous literals =
 module _ (variant flags : ℕ) (literals : List Literal) (count : ℕ) (long : length literals ≡ 8) where
   pub initial-view : view (strand-of variant flags literals count) ≡ initial-strand (clause-of variant flags literals count)
   initial-view =
-      ap (λ (ls : List Literal). meaning variant (books.bit1 flags) (books.bit0 flags) (map meant ls)) (shown 8 count (min count 8) literals long refl)
+      ap (λ (ls : List Literal). meaning variant (books.bit1 flags) (books.bit0 flags) (map meant ls))
+      (shown 8 count (min count 8) literals long refl)
 
   pub initial-sound : Sound (strand-of variant flags literals count)
   initial-sound = new-sound variant (books.bit1 flags) (books.bit0 flags) literals (min count 8) long (omega arith)
@@ -68,7 +70,8 @@ module _ (a : Answer) where
 
   refine-by-sound : (b : Bool) → Sound (refine-by b a .strand)
   refine-by-sound true = blank-sound
-  refine-by-sound false = new-sound (a .variant) false (a .ambiguous) (positives goals) (min (a .«delayed_count») 8) positives-long (omega arith)
+  refine-by-sound false =
+      new-sound (a .variant) false (a .ambiguous) (positives goals) (min (a .«delayed_count») 8) positives-long (omega arith)
 
   pub refine-sound : Sound (refine a .strand)
   refine-sound = refine-by-sound (eqb (a .«delayed_count») 0)
@@ -77,11 +80,14 @@ module _ (a : Answer) where
     refine-by-view : (b : Bool) → refinement (refine-by b a) ≡ created-by (answer a) b
     refine-by-view true = refl
     refine-by-view false =
-        let count : length goals ≡ min (a .«delayed_count») 8 = shown-length 8 (a .«delayed_count») (min (a .«delayed_count») 8) (a .delayed) long refl in
+        let n : ℕ = min (a .«delayed_count») 8 in
+        let count = shown-length 8 (a .«delayed_count») n (a .delayed) long refl in
         let made = length-map goals wants-any in
         let whole = length-replicate 8 no-literal in
         ap (λ (ls : List books.Literal). some (meaning (a .variant) false (a .ambiguous) ls))
-        (ap (map meant) (take-sets (map wants-any goals) (replicate 8 no-literal) 0 (min (a .«delayed_count») 8) (omega arith) (omega arith)) ∙ positives-mean goals)
+        (ap (map meant) (take-sets (map wants-any goals) (replicate 8 no-literal) 0 n (omega arith) (omega arith)) ∙ positives-mean goals)
 
     pub refine-view : refinement (refine a) ≡ create-refinement-strand (answer a)
-    refine-view = refine-by-view (eqb (a .«delayed_count») 0) ∙ ap (created-by (answer a)) (take-empty (a .«delayed_count») (a .delayed) (omega arith))
+    refine-view =
+        refine-by-view (eqb (a .«delayed_count») 0)
+        ∙ ap (created-by (answer a)) (take-empty (a .«delayed_count») (a .delayed) (omega arith))

@@ -26,12 +26,16 @@ flounder-by false false false s = set-aside s
 abbrev pub flounder : Strand → Strand
 flounder s = flounder-by (eqb (s .«literal_count») 0) (ltb 8 (s .«literal_count»)) (leb 8 (s .«floundered_count»)) s
 
+-- what is set aside at an index
+abbrev pub aside-at : ℕ → Strand → Floundered
+aside-at i s = getD (s .floundered) i no-floundered
+
 -- the floundered literal at i returns, and the last floundered one takes its place
 abbrev pub taken-back : ℕ → Strand → Strand
 taken-back i s =
     with-floundered
-    (with-literals s (set (s .literals) (s .«literal_count») (getD (s .floundered) i no-floundered .literal)) (s .«literal_count» + 1))
-    (set (s .floundered) i (getD (s .floundered) (s .«floundered_count» - 1) no-floundered)) (s .«floundered_count» - 1)
+    (with-literals s (set (s .literals) (s .«literal_count») (aside-at i s .literal)) (s .«literal_count» + 1))
+    (set (s .floundered) i (aside-at (s .«floundered_count» - 1) s)) (s .«floundered_count» - 1)
 
 -- One turn of the loop. The strand is as it was where more than eight are floundered, none stands at i, its time is not past, or eight
 -- literals stand already.
@@ -45,7 +49,7 @@ reconsider-by false false false false i s = taken-back i s
 abbrev pub reconsider-at : ℕ → Strand → Strand
 reconsider-at i s =
     reconsider-by (ltb 8 (s .«floundered_count»)) (leb (s .«floundered_count») i)
-    (leb (s .«answer_time») (getD (s .floundered) i no-floundered .time)) (leb 8 (s .«literal_count»)) i s
+    (leb (s .«answer_time») (aside-at i s .time)) (leb 8 (s .«literal_count»)) i s
 
 -- the loop, at index i - 1 and down to 0
 abbrev pub reconsider-down : ℕ → Strand → Strand

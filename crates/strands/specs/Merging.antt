@@ -16,13 +16,16 @@ use Rattle.strands.specs.View.{answer}
 abbrev pub taking : (ambiguous : Bool) → said.ExClause → said.ExClause
 taking ambiguous x = held.with-answer-time (held.with-ambiguous x (x .ambiguous || ambiguous)) (suc (x .answer-time))
 
--- By whether no literal is left, whether it is over and whether the answer is ambiguous: s is the strand as it was, t the one that has
--- taken the answer.
-abbrev pub take-by : (none-left over ambiguous : Bool) → (s t : Strand) → Delayed
-take-by true over ambiguous s t = record { over = false; strand = s }
-take-by false true ambiguous s t = record { over = true; strand = s }
-take-by false false true s t = record { over = false; strand = with-ambiguous t true }
-take-by false false false s t = record { over = false; strand = t }
+-- an ambiguous answer makes the strand that takes it ambiguous
+abbrev pub ambiguous-too : (ambiguous : Bool) → Strand → Strand
+ambiguous-too true s = with-ambiguous s true
+ambiguous-too false s = s
+
+-- By whether no literal is left and whether it is over: s is the strand as it was, t the one that has taken the answer.
+abbrev pub take-by : (none-left over : Bool) → (s t : Strand) → Delayed
+take-by true over s t = record { over = false; strand = s }
+take-by false true s t = record { over = true; strand = s }
+take-by false false s t = record { over = false; strand = t }
 
 -- the goals that the answer hands on are delayed once its literal is gone
 abbrev pub goals-taken : Answer → Strand → Delayed
@@ -30,4 +33,4 @@ goals-taken a s = delay-goals (answer a .delayed-subgoals) (answered s)
 
 -- the answer a is taken for the last literal of s
 abbrev pub take-answer : Answer → Strand → Delayed
-take-answer a s = take-by (eqb (s .«literal_count») 0) (goals-taken a s .over) (a .ambiguous) s (goals-taken a s .strand)
+take-answer a s = take-by (eqb (s .«literal_count») 0) (goals-taken a s .over) s (ambiguous-too (a .ambiguous) (goals-taken a s .strand))

@@ -7,7 +7,14 @@ use crate::delaying::delay_answer;
 use crate::fields::made_ambiguous;
 use crate::literals::answered;
 ghost use mathlib.Core.Path.{_≡_};
-ghost use Rattle.strands.specs.Merging.{take-answer};
+ghost use Rattle.strands.specs.Merging.{ambiguous-too, take-answer};
+
+// An ambiguous answer makes the strand that takes it ambiguous.
+fn ambiguous_too(s: Strand, ambiguous: bool) -> Strand
+    ensures { λ r. ⌜ r ≡ ambiguous-too ambiguous s ⌝ }
+{
+    if ambiguous { made_ambiguous(s) } else { s }
+}
 
 // The last literal is removed and answer time rises; the answer's delayed goals are the strand's, and its ambiguity too. Over, or with
 // no literal to take it for, the strand is as it was.
@@ -29,15 +36,9 @@ pub fn take_answer(s: Strand, a: Answer) -> Delayed
         };
     }
     let u = d.strand;
-    if a.ambiguous {
-        let v = made_ambiguous(u);
-        return Delayed {
-            over: false,
-            strand: v,
-        };
-    }
+    let v = ambiguous_too(u, a.ambiguous);
     Delayed {
         over: false,
-        strand: u,
+        strand: v,
     }
 }

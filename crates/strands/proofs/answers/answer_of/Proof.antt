@@ -42,7 +42,8 @@ returns c =
     let n = called .within in
     let long : length (s .delayed) ≡ 8 = strand-long (called .before) in
     ap (λ (g : Goals). record { variant = s .variant; ambiguous = s .ambiguous; «delayed_count» = g .count; delayed = g .goals })
-    (o .ensures ∙ ap (λ (ds : List ℕ). goals-of (other-than (a .goal) ds)) (shown 8 (s .«delayed_count») (n .result) (s .delayed) long (n .ensures)))
+    (o .ensures
+    ∙ ap (λ (ds : List ℕ). goals-of (other-than (a .goal) ds)) (shown 8 (s .«delayed_count») (n .result) (s .delayed) long (n .ensures)))
 
 pub answer-of-spec : {M : Type 1} → statement M
 answer-of-spec = tie.close (tie.spec within-requires other-than-requires cast-t7 returns)

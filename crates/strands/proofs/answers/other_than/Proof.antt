@@ -11,7 +11,8 @@ use Rattle.strands.proofs.answers.other_than.Statement.{statement}
 use Rattle.strands.proofs.answers.other_than.Tie as tie
 
 abbrev Inv-loop : tie.InvT-loop
-Inv-loop goal n goals kept₀ count₀ i₀ kept count i = (i ≤ n) × (count ≤ i) × (length kept ≡ 8) × (record { count = count; goals = kept } ≡ goals-of (other-than goal (take i goals)))
+Inv-loop goal n goals kept₀ count₀ i₀ kept count i =
+    (i ≤ n) × (count ≤ i) × (length kept ≡ 8) × (record { count = count; goals = kept } ≡ goals-of (other-than goal (take i goals)))
 
 abbrev μ-loop : tie.MeasureT-loop
 μ-loop goal n goals kept₀ count₀ i₀ kept count i = n - i

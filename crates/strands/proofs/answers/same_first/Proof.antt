@@ -44,7 +44,8 @@ loop-again c =
     let a = l .before .args in
     let p : length (a .t1) ≡ 8 = search needs in
     let q : length (a .t2) ≡ 8 = search needs in
-    (omega arith, sym (turn-same (a .n) (l .loop .i) (a .t1) (a .t2) (omega arith) (omega arith) (omega arith) (c .if1 .left)) ∙ l .loop .inv .1)
+    let same-heads = turn-same (a .n) (l .loop .i) (a .t1) (a .t2) (omega arith) (omega arith) (omega arith) (c .if1 .left) in
+    (omega arith, sym same-heads ∙ l .loop .inv .1)
 
 returns-2 : tie.Need-returns-2 Inv-loop μ-loop
 returns-2 c =

@@ -18,7 +18,9 @@ returns-2 : tie.Need-returns-2
 returns-2 c = sym (flounder-many (c .before .before .args .t1) (c .before .if1 .left) (c .if2 .taken))
 
 returns-3 : tie.Need-returns-3
-returns-3 c = sym (flounder-full (c .before .before .before .args .t1) (c .before .before .if1 .left) (c .before .if2 .left) (c .if3 .taken))
+returns-3 c =
+    let none-left = c .before .before in
+    sym (flounder-full (none-left .before .args .t1) (none-left .if1 .left) (c .before .if2 .left) (c .if3 .taken))
 
 sub-last : tie.Need-sub-last
 sub-last c = search needs

@@ -39,8 +39,8 @@ returns-2 c =
     let n = called .within in
     let some-delayed = called .before in
     let start = some-delayed .before .before in
-    says-refined (start .args .a) (n .result) (made .result) (c .new-strand .result) (answer-long start) (n .ensures) (some-delayed .if1 .left)
-    (made .ensures) (c .new-strand .ensures)
+    says-refined (start .args .a) (n .result) (made .result) (c .new-strand .result) (answer-long start) (n .ensures)
+    (some-delayed .if1 .left) (made .ensures) (c .new-strand .ensures)
 
 pub create-refinement-strand-spec : {M : Type 1} → statement M
 create-refinement-strand-spec =

@@ -16,8 +16,8 @@ new-strand-requires c κs = search needs
 returns : tie.Need-returns
 returns c =
     let a = c .before .before .args in
-    says-initial (a .variant) (a .flags) (a .literals) (a .count) (c .before .within .result) (c .new-strand .result) (c .before .within .ensures)
-    (c .new-strand .ensures)
+    let n = c .before .within in
+    says-initial (a .variant) (a .flags) (a .literals) (a .count) (n .result) (c .new-strand .result) (n .ensures) (c .new-strand .ensures)
 
 pub initial-strand-spec : {M : Type 1} → statement M
 initial-strand-spec =
