@@ -140,9 +140,6 @@ module _ {A B : Type 0} (f : A → B) where
   pub view-push : (n : ℕ) (l : List A) (a : A) → n < length l → push (map f (take n l)) (f a) ≡ map f (take (n + 1) (set l n a))
   view-push n l a h = sym (map-append f (take n l) (a ∷ [])) ∙ ap (λ (r : List A). map f r) (sym (take-one-more n l a h))
 
-  pub view-next : (n : ℕ) (l : List A) (d : A) → n < length l → map f (take (n + 1) l) ≡ push (map f (take n l)) (f (getD l n d))
-  view-next n l d h = ap (λ (r : List A). map f r) (take-next n l d h) ∙ map-append f (take n l) (getD l n d ∷ [])
-
   -- `swap_remove`: the last one takes the place i
   pub view-swap-remove : (n i : ℕ) (l : List A) (d : A) → i < n → n ≤ length l
       → swap-remove (map f (take n l)) i ≡ map f (take (n - 1) (set l i (getD l (n - 1) d)))
