@@ -5,7 +5,8 @@ tools/compare-reading.py [SEED [COUNT]]     default 1 300000
 
 The oracle makes COUNT books and says of each how it reads it. The same books go, in one list, through the program `reading_tests` and,
 each as the input of a process of its own, through `inspect`, whose first line is `refused N` or the line of goal 0. Both programs are
-taken from target/bin, so `rt check` comes first. Status 0 if all agree.
+taken from target/bin, so `rt check` comes first. Last, `inspect` is run where it can't read or can't write, and has to say so on standard
+error. Status 0 if all agree.
 """
 import argparse
 import collections
@@ -44,6 +45,22 @@ def inspected(inspect, book):
     return "accepted" if first.startswith("goal 0") else first
 
 
+def failures(inspect):
+    """Whether inspect says it where its input or its output fails: a folder for input, a full device and a closed output."""
+    paper = os.path.join(tree.ROOT, "papers", "largest.book")
+    right = True
+    for name, words in (("a folder", "can't be read"), ("a full device", "can't be written"), ("a closed output", "can't be written")):
+        given = os.open(tree.ROOT if name == "a folder" else paper, os.O_RDONLY)
+        out = os.open("/dev/full", os.O_WRONLY)
+        closed = (lambda: os.close(1)) if name == "a closed output" else None
+        said = subprocess.run([inspect], stdin=given, stdout=out, stderr=subprocess.PIPE, preexec_fn=closed).stderr.decode()
+        os.close(given)
+        os.close(out)
+        print("inspect and %s: %s" % (name, said.strip() or "nothing is said"))
+        right = right and words in said
+    return right
+
+
 def report(name, books, wanted, found):
     wrong = [i for i, w in enumerate(wanted) if i >= len(found) or found[i] != w]
     print("%s: %d books, %d agree" % (name, len(wanted), len(wanted) - len(wrong)))
@@ -65,7 +82,8 @@ def main():
     for answer, number in sorted(collections.Counter(wanted).items()):
         print("%8d %s" % (number, answer))
     right = report("reading_tests", books, wanted, listed(books))
-    return 0 if report("inspect", books, wanted, [inspected(inspect, book) for book in books]) and right else 1
+    right = report("inspect", books, wanted, [inspected(inspect, book) for book in books]) and right
+    return 0 if failures(inspect) and right else 1
 
 
 if __name__ == "__main__":
