@@ -2,6 +2,7 @@
 import contextlib
 import os
 import shutil
+import signal
 import sys
 import tempfile
 
@@ -33,6 +34,7 @@ def folder(keep=None):
         yield os.path.abspath(keep)
         return
     made = tempfile.mkdtemp(prefix="sorgwenad-")
+    signal.signal(signal.SIGTERM, lambda number, frame: sys.exit(128 + number))
     try:
         yield made
     finally:
