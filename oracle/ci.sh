@@ -1,6 +1,6 @@
-#!/bin/sh
+#!/usr/bin/env bash
 # Builds the oracle and runs its checks, in under two minutes; stops at the first failure.
-set -eu
+set -euo pipefail
 here=$(cd "$(dirname "$0")" && pwd)
 cd "$here"
 oracle=${CARGO_TARGET_DIR:-$here/target}/release/oracle
@@ -35,6 +35,8 @@ for profile in mix plain tiny bytes answers small limits large; do
     "$oracle" run quiet <"$work/script" >"$work/quiet"
     awk 'NR % 2 == 1' "$work/out" >"$work/results"
     awk 'NR % 2 == 1' "$work/quiet" | cmp - "$work/results"
+    # With counts: the same but for the counts of peeks.
+    "$oracle" run counted <"$work/script" | sed 's/ exceeded [0-9]*$//' | cmp - "$work/out"
     echo "$profile: $(wc -l <"$work/script") lines"
 done
 

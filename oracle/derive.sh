@@ -1,12 +1,19 @@
-#!/bin/sh
+#!/usr/bin/env bash
 # Derives the control files again from the published ones and says for each whether it is the one in use.
 # Usage: derive.sh [FOLDER]    the folder of the published files; else $CHALK_SRC; else ../shared/docs/src
 #                              as seen from the root of the repository.
 # lib, strand, table, tables, stack, context, derived: as published. slg: its first 110 lines.
 # logic, forest: with the patches of this folder, which only add lines, each marked `// added`.
-# Where the published files are not at hand and no folder was named, the files in use, without the marked
-# lines, are held against the checksums of the published ones (patches/published.sha256).
-set -u
+# The last three are changed, and their first line says so, as the licence asks (Apache 2.0, 4 (b)).
+# Where the published files are not at hand and no folder was named, the files in use, without the notice and
+# the marked lines, are held against the checksums of the published ones (patches/published.sha256).
+set -euo pipefail
+case ${1:-} in
+-h | --help)
+    sed -n '2,/^set /{/^set /!s/^# //p}' "$0"
+    exit 0
+    ;;
+esac
 here=$(cd "$(dirname "$0")" && pwd)
 named=${1:-${CHALK_SRC:-}}
 folder=${named:-$here/../../shared/docs/src}
@@ -35,23 +42,30 @@ checksum() {
 
 for name in lib strand table tables stack context derived slg logic forest; do
     file=$name.rs
-    used=$here/engine/src/$file
+    used=$work/used
     note=""
+    cp "$here/engine/src/$file" "$used"
+    case $name in
+    slg | logic | forest)
+        if ! [[ $(head -n 1 "$used") == "// Changed from rust-lang/chalk, chalk-engine/src/$file: "* ]]; then
+            differs "$file" "its first line doesn't say that it was changed"
+            continue
+        fi
+        sed -i 1d "$used"
+        ;;
+    esac
+    cp "$used" "$work/bare"
     case $name in
     slg) note=" (its first 110 lines)" ;;
     logic | forest)
-        lines=$(grep -c '// added' "$used")
+        lines=$(grep -c '// added' "$used" || true)
         added=$((added + lines))
         note=" (with $lines added lines)"
+        # No line changed or removed: without the marked lines the file is the published one.
+        grep -v '// added' "$used" >"$work/bare"
         ;;
     esac
-
-    # No line changed or removed: without the marked lines the file is the published one.
-    case $name in
-    logic | forest) grep -v '// added' "$used" >"$work/bare" ;;
-    *) cp "$used" "$work/bare" ;;
-    esac
-    recorded=$(grep "  $file\$" "$here/patches/published.sha256" | cut -d ' ' -f 1)
+    recorded=$(sed -n "s/  $file\$//p" "$here/patches/published.sha256")
     if [ "$(checksum <"$work/bare")" != "$recorded" ]; then
         differs "$file" "without marked lines it is not the published file"
         continue

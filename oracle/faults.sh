@@ -1,7 +1,13 @@
-#!/bin/sh
+#!/usr/bin/env bash
 # Shows that `oracle demand3` sees faults: each patch of the folder faults is put into a copy of logic.rs,
 # the copy is built, and demand3 has to complain. Usage: faults.sh [SEED [BOOKS]]
-set -u
+set -euo pipefail
+case ${1:-} in
+-h | --help)
+    sed -n '2,3s/^# //p' "$0"
+    exit 0
+    ;;
+esac
 here=$(cd "$(dirname "$0")" && pwd)
 seed=${1:-1}
 books=${2:-30000}
@@ -32,11 +38,11 @@ echo "no fault: $(head -n 1 "$work/out")"
 for fault in "$here"/faults/*.patch; do
     name=$(basename "$fault" .patch)
     cp "$here/engine/src/logic.rs" "$work/engine/src/logic.rs"
-    patch -s "$work/engine/src/logic.rs" "$fault" || exit 1
+    patch -s "$work/engine/src/logic.rs" "$fault"
     build "$name"
-    timeout 60 "$CARGO_TARGET_DIR/faults/oracle" demand3 "$seed" "$books" >"$work/out" 2>&1
-    status=$?
-    complaint=$(grep -m 1 COMPLAINT "$work/out")
+    status=0
+    timeout 60 "$CARGO_TARGET_DIR/faults/oracle" demand3 "$seed" "$books" >"$work/out" 2>&1 || status=$?
+    complaint=$(grep -m 1 COMPLAINT "$work/out" || true)
     if [ "$status" -ne 0 ] && [ -n "$complaint" ]; then
         seen=$((seen + 1))
         echo "seen $name ($(head -n 1 "$fault")): $complaint"
@@ -46,4 +52,4 @@ for fault in "$here"/faults/*.patch; do
     fi
 done
 echo "$seen faults seen, $missed missed"
-[ "$missed" -eq 0 ]
+[ "$seen" -gt 0 ] && [ "$missed" -eq 0 ]

@@ -5,16 +5,16 @@ tools/compare-reading.py [SEED [COUNT]]     default 1 300000
 
 The oracle makes COUNT books and says of each how it reads it. The same books go, in one list, through the program `reading_tests` and,
 each as the input of a process of its own, through `inspect`, whose first line is `refused N` or the line of goal 0. Both programs are
-taken from target/bin, so `rt check` comes first. Status 0 if all agree.
+taken from target/bin, so `rt check` comes first. Last, `inspect` is run where it can't read or can't write, and has to say so on standard
+error. Status 0 if all agree.
 """
+import argparse
 import collections
 import os
 import subprocess
 import sys
 
-ROOT = os.path.dirname(os.path.dirname(os.path.abspath(__file__)))
-ORACLE = os.path.join(ROOT, "oracle", "target", "release", "oracle")
-BIN = os.path.join(ROOT, "target", "bin")
+import tree
 
 
 def output(words, given):
@@ -24,16 +24,16 @@ def output(words, given):
 def listed(books):
     """What reading_tests says of each, as the oracle would say it."""
     given = "".join(":%s\n" % book for book in books)
-    said = output([os.path.join(BIN, "reading_tests")], given.encode()).splitlines()
+    said = output([tree.built("reading_tests")], given.encode()).splitlines()
     return [line[2:].split(",")[0] for line in said]
 
 
-def inspected(book):
+def inspected(inspect, book):
     """What inspect says of one: the input is put into a pipe before it starts, for it fits."""
     given, out = os.pipe(), os.pipe()
     os.write(given[1], bytes.fromhex(book))
     os.close(given[1])
-    child = os.posix_spawn(os.path.join(BIN, "inspect"), ["inspect"], {}, file_actions=[
+    child = os.posix_spawn(inspect, ["inspect"], {}, file_actions=[
         (os.POSIX_SPAWN_DUP2, given[0], 0), (os.POSIX_SPAWN_DUP2, out[1], 1), (os.POSIX_SPAWN_CLOSE, out[0])])
     os.close(given[0])
     os.close(out[1])
@@ -45,6 +45,22 @@ def inspected(book):
     return "accepted" if first.startswith("goal 0") else first
 
 
+def failures(inspect):
+    """Whether inspect says it where its input or its output fails: a folder for input, a full device and a closed output."""
+    paper = os.path.join(tree.ROOT, "papers", "largest.book")
+    right = True
+    for name, words in (("a folder", "can't be read"), ("a full device", "can't be written"), ("a closed output", "can't be written")):
+        given = os.open(tree.ROOT if name == "a folder" else paper, os.O_RDONLY)
+        out = os.open("/dev/full", os.O_WRONLY)
+        closed = (lambda: os.close(1)) if name == "a closed output" else None
+        said = subprocess.run([inspect], stdin=given, stdout=out, stderr=subprocess.PIPE, preexec_fn=closed).stderr.decode()
+        os.close(given)
+        os.close(out)
+        print("inspect and %s: %s" % (name, said.strip() or "nothing is said"))
+        right = right and words in said
+    return right
+
+
 def report(name, books, wanted, found):
     wrong = [i for i, w in enumerate(wanted) if i >= len(found) or found[i] != w]
     print("%s: %d books, %d agree" % (name, len(wanted), len(wanted) - len(wrong)))
@@ -54,13 +70,20 @@ def report(name, books, wanted, found):
 
 
 def main():
-    seed, count = (sys.argv[1:] + ["1", "300000"][len(sys.argv) - 1:])[:2]
-    books = output([ORACLE, "books", seed, count], b"").splitlines()
-    wanted = output([ORACLE, "read"], "\n".join(books + [""]).encode()).splitlines()
+    p = argparse.ArgumentParser(description=__doc__, formatter_class=argparse.RawDescriptionHelpFormatter)
+    p.add_argument("seed", nargs="?", type=int, default=1)
+    p.add_argument("count", nargs="?", type=int, default=300000)
+    a = p.parse_args()
+    oracle, inspect = tree.oracle(), tree.built("inspect")
+    books = output([oracle, "books", str(a.seed), str(a.count)], b"").splitlines()
+    wanted = output([oracle, "read"], "\n".join(books + [""]).encode()).splitlines()
+    if not books:
+        sys.exit("compare-reading: no books to compare")
     for answer, number in sorted(collections.Counter(wanted).items()):
         print("%8d %s" % (number, answer))
     right = report("reading_tests", books, wanted, listed(books))
-    return 0 if report("inspect", books, wanted, [inspected(book) for book in books]) and right else 1
+    right = report("inspect", books, wanted, [inspected(inspect, book) for book in books]) and right
+    return 0 if failures(inspect) and right else 1
 
 
 if __name__ == "__main__":

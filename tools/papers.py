@@ -14,11 +14,14 @@ The notation is the one in which `inspect` prints a book, after document 01:
 
 Nothing here keeps to the limits of a book, so that the books which are refused can be written too.
 """
+import argparse
 import os
 import re
 import sys
 
-FOLDER = os.path.join(os.path.dirname(os.path.dirname(os.path.abspath(__file__))), "papers")
+import tree
+
+FOLDER = os.path.join(tree.ROOT, "papers")
 GOAL_MARKS = ("coinductive", "floundered")
 CLAUSE_MARKS = ("cannot prove", "outsized")
 LITERAL_MARKS = ("outsized",)
@@ -167,19 +170,30 @@ def write_files(folder, wanted):
             f.write(data)
 
 
+def not_as_made(folder, wanted):
+    """Which of the files are not there, or are others."""
+    def same(name, data):
+        path = os.path.join(folder, name)
+        if not os.path.exists(path):
+            return False
+        with open(path, "rb") as f:
+            return f.read() == data
+    return [name for name, data in wanted.items() if not same(name, data)]
+
+
+def checking(doc):
+    """Whether the command line asks for a comparison only."""
+    p = argparse.ArgumentParser(description=doc, formatter_class=argparse.RawDescriptionHelpFormatter)
+    p.add_argument("--check", action="store_true", help="write nothing: say whether the files are those")
+    return p.parse_args().check
+
+
 def main():
     wanted = files()
-    if sys.argv[1:] == ["--check"]:
-        wrong = sorted(set(os.listdir(FOLDER)) - set(wanted))
-        for name, data in wanted.items():
-            path = os.path.join(FOLDER, name)
-            if not os.path.exists(path) or open(path, "rb").read() != data:
-                wrong.append(name)
+    if checking(__doc__):
+        wrong = sorted(set(os.listdir(FOLDER)) - set(wanted)) + not_as_made(FOLDER, wanted)
         print("papers: %s" % ("not as made: " + " ".join(wrong) if wrong else "%d files as made" % len(wanted)))
         return 1 if wrong else 0
-    if sys.argv[1:]:
-        print(__doc__)
-        return 2
     write_files(FOLDER, wanted)
     return 0
 

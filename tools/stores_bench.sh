@@ -1,12 +1,34 @@
-#!/bin/sh
-# ns an operation of the stores, by the difference of two clocks; run from the repository's root after `rt check stores_bench`.
-B=target/bin/stores_bench
+#!/usr/bin/env bash
+# ns an operation of the stores, by the difference of two clocks. Usage: tools/stores_bench.sh, after `rt check stores_bench`.
+set -euo pipefail
+cd "$(dirname "$0")/.."
+bench=target/bin/stores_bench
+case ${1:-} in
+'') ;;
+-h | --help)
+    sed -n '2s/^# //p' "$0"
+    exit 0
+    ;;
+*)
+    echo "stores_bench.sh: it takes no arguments" >&2
+    exit 2
+    ;;
+esac
+if ! [ -x "$bench" ]; then
+    echo "stores_bench.sh: no program $bench; it is made by: rt check stores_bench" >&2
+    exit 1
+fi
+
+# The program picks what it runs by the number of its arguments.
 run() { # label, arguments, turns
-  label=$1; n=$2; turns=$3; set --
-  while [ $n -gt 0 ]; do set -- "$@" x; n=$((n - 1)); done
-  a=$(date +%s%N); $B "$@" > /dev/null; b=$(date +%s%N)
-  awk -v l="$label" -v t=$((b - a)) -v n=$turns 'BEGIN { printf "%-52s %8.1f ns\n", l, t / n }'
+    local words=() began ended
+    for ((i = 0; i < $2; i++)); do words+=(x); done
+    began=$(date +%s%N)
+    "$bench" "${words[@]}" >/dev/null
+    ended=$(date +%s%N)
+    awk -v l="$1" -v t=$((ended - began)) -v n="$3" 'BEGIN { printf "%-52s %8.1f ns\n", l, t / n }'
 }
+
 run 'place taken, another given back, 16 live' 1 100000000
 run 'place taken, another given back, 254 live' 2 100000000
 run 'first eligible taken and enqueued, 16 live' 3 100000000

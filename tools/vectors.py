@@ -11,10 +11,10 @@ one is 3 and the other 5, or one is 8 and the other 6: without a clause there ar
 import os
 import sys
 
-from papers import write_files
+import tree
+from papers import checking, not_as_made, write_files
 
-ROOT = os.path.dirname(os.path.dirname(os.path.abspath(__file__)))
-FOLDER = os.path.join(ROOT, "crates", "reading_tests")
+FOLDER = os.path.join(tree.ROOT, "crates", "reading_tests")
 
 PAPERS = [
     ("p1", (3, 4)), ("p2", (1, 1)), ("p2-coinductive", (1, 1)), ("p3", (2, 2)), ("p4", (3, 3)), ("p5", (2, 1)), ("p5-not", (2, 1)),
@@ -52,8 +52,16 @@ VECTORS = [
     ("no bytes", "", 1),
     ("a goal without flags", "47", 1),
     ("no end after a goal", G, 1),
+    ("a clause without operands", G + "43", 1),
+    ("a clause with half a variant", G + "43 00", 1),
     ("a clause without flags", G + "43 00 00", 1),
+    ("a literal without operands", G + C + "50", 1),
+    ("a literal with half a goal's number", G + C + "50 00", 1),
+    ("a literal without a want", G + C + "50 00 00", 1),
+    ("a literal with half a want", G + C + "50 00 00 00", 1),
     ("a literal without flags", G + C + "50 00 00 00 00", 1),
+    ("a not without operands", G + C + "4E", 1),
+    ("a not with half a goal's number", G + C + "4E 00", 1),
     ("a not without flags", G + C + "4E 00 00", 1),
     ("no end after a literal", G + C + P, 1),
     ("no command 00", "00 " + END, 2),
@@ -115,6 +123,10 @@ VECTORS = [
 ]
 
 
+# The program's buffer: its output is longer, so that the run shows that a full buffer is written out.
+BUFFER = 4096
+
+
 def said(expected):
     if isinstance(expected, int):
         return "refused %d" % expected
@@ -127,28 +139,23 @@ def files():
     given = "".join(name + ".book\n" for name, _ in PAPERS)
     wanted = "".join("%s.book: %s\n" % (name, said(e)) for name, e in PAPERS)
     for name, _ in PAPERS:
-        out["data/%s.book" % name] = open(os.path.join(ROOT, "papers", name + ".book"), "rb").read()
+        with open(os.path.join(tree.ROOT, "papers", name + ".book"), "rb") as f:
+            out["data/%s.book" % name] = f.read()
     for label, text, expected in VECTORS:
         given += "%s: %s\n" % (label, text)
         wanted += "%s: %s\n" % (label, said(expected))
+    assert len(wanted) > BUFFER, "the output fits the buffer: more lines are needed"
     return dict(out, stdin=given.encode(), stdout=wanted.encode())
-
-
-def same(name, data):
-    path = os.path.join(FOLDER, name)
-    return os.path.exists(path) and open(path, "rb").read() == data
 
 
 def main():
     wanted = files()
-    if sys.argv[1:] == ["--check"]:
-        wrong = [name for name, data in wanted.items() if not same(name, data)]
+    if checking(__doc__):
+        beside = ["data/" + f for f in sorted(os.listdir(os.path.join(FOLDER, "data"))) if "data/" + f not in wanted]
+        wrong = beside + not_as_made(FOLDER, wanted)
         there = len(PAPERS) + len(VECTORS)
         print("vectors: %s" % ("not as made: " + " ".join(wrong) if wrong else "%d lines as made" % there))
         return 1 if wrong else 0
-    if sys.argv[1:]:
-        print(__doc__)
-        return 2
     write_files(FOLDER, wanted)
     return 0
 

@@ -4,7 +4,7 @@
 use crate::book::{Book, Clause, GoalFlags, Literal};
 use crate::bounded::{Bounded, Reply};
 use crate::gen::{self, Profile};
-use crate::script::{parse, to_hex, Line, Runner};
+use crate::script::{parse, to_hex, Form, Line, Runner};
 use std::fmt::Write as _;
 use std::io::Write;
 use std::process::{Command, Stdio};
@@ -161,7 +161,7 @@ pub fn bench(other: &[&str]) -> Result<(), String> {
 pub fn script(name: &str) -> Option<String> {
     let load = loads().into_iter().find(|load| load.name.starts_with(name))?;
     // Each of them runs.
-    let mut runner = Runner::new(true);
+    let mut runner = Runner::new(Form::Quiet);
     let _ = runner.step(load.script.lines().next()?, &mut String::new());
     Some(load.script)
 }

@@ -3,7 +3,7 @@
 use crate::book::{Book, CLAUSE, END, GOAL, POSITIVE};
 use crate::gen::{self, Profile};
 use crate::list::list;
-use crate::script::{fnv1a, hex, Runner};
+use crate::script::{fnv1a, hex, Form, Runner};
 use std::collections::BTreeMap;
 
 /// The standard run goes on until it has as many calls.
@@ -125,7 +125,7 @@ fn literals(count: usize) -> Vec<u8> {
 
 /// The result lines of a script, without the dumps.
 fn results(script: &str) -> Result<String, String> {
-    let mut runner = Runner::new(true);
+    let mut runner = Runner::new(Form::Quiet);
     let mut all = String::new();
     for line in script.lines() {
         let mut out = String::new();
@@ -187,7 +187,7 @@ pub fn counted_run(seed: u64, calls: u64, profile: Profile) -> Result<Counts, St
         script.clear();
         gen::forest(&mut gen::rng_of(seed, counts.forests), profile, &mut script);
         counts.forests += 1;
-        let mut runner = Runner::new(true);
+        let mut runner = Runner::new(Form::Quiet);
         for line in script.lines() {
             out.clear();
             runner.step(line, &mut out)?;

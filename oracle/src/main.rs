@@ -14,7 +14,7 @@ use std::io::{self, Read, Write};
 use std::process::ExitCode;
 
 const USAGE: &str = "usage: oracle list [hex] < BOOK
-       oracle run [quiet] < SCRIPT
+       oracle run [quiet|counted] < SCRIPT
        oracle read < LINES OF HEX
        oracle gen SEED COUNT [mix|plain|tiny|bytes|answers|small|limits|large|lines]
        oracle books SEED COUNT
@@ -76,14 +76,19 @@ fn books(seed: u64, count: u64) -> Result<(), String> {
     stdout.flush().map_err(|e| e.to_string())
 }
 
+fn run(form: script::Form) -> Result<(), String> {
+    script::run(form, io::stdin().lock(), io::stdout().lock())
+}
+
 fn command(words: &[&str]) -> Result<(), String> {
     match words {
         ["list", rest @ ..] => {
             let text = list::list(&input_book(rest)?)?;
             io::stdout().write_all(text.as_bytes()).map_err(|e| e.to_string())
         }
-        ["run"] => script::run(false, io::stdin().lock(), io::stdout().lock()),
-        ["run", "quiet"] => script::run(true, io::stdin().lock(), io::stdout().lock()),
+        ["run"] => run(script::Form::Plain),
+        ["run", "quiet"] => run(script::Form::Quiet),
+        ["run", "counted"] => run(script::Form::Counted),
         ["read"] => read_books(),
         ["gen", seed, count] => generate(number(seed)?, number(count)?, gen::Profile::Mix),
         ["gen", seed, count, profile] => {

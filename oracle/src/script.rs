@@ -89,14 +89,27 @@ pub fn word(outcome: &Outcome) -> String {
     }
 }
 
-pub fn result_line(reply: &Reply, out: &mut String) {
+/// What `run` prints of a call: its result and the dump of the forest, or the hash of that dump; or, behind
+/// the result of a peek, also how many of its searches ended in QuantumExceeded.
+#[derive(Clone, Copy, PartialEq, Eq)]
+pub enum Form {
+    Plain,
+    Quiet,
+    Counted,
+}
+
+pub fn result_line(reply: &Reply, form: Form, out: &mut String) {
     let _ = match reply {
         Reply::Refused(number) => write!(out, "refused {number}"),
         Reply::Table(table) => write!(out, "table {table}"),
         Reply::OpenStop(number) => write!(out, "stop {number}"),
         Reply::Search(ended) => write!(out, "{} turns {}", word(&ended.outcome), ended.turns),
         Reply::Peek(ended) => {
-            write!(out, "{} at {} turns {}", word(&ended.outcome), ended.index, ended.turns)
+            let _ = write!(out, "{} at {} turns {}", word(&ended.outcome), ended.index, ended.turns);
+            match form {
+                Form::Counted => write!(out, " exceeded {}", ended.quanta),
+                Form::Plain | Form::Quiet => Ok(()),
+            }
         }
         Reply::Future(found) => write!(out, "{found}"),
     };
@@ -120,7 +133,7 @@ pub fn unexpected(reply: &Reply) -> Option<&str> {
 /// What a script does, line by line: the forest at hand, and what was printed.
 pub struct Runner {
     bounded: Option<Bounded>,
-    quiet: bool,
+    form: Form,
     line: u64,
     /// The lines since the last book, for the report of an unexpected panic.
     since_book: Vec<String>,
@@ -128,8 +141,8 @@ pub struct Runner {
 }
 
 impl Runner {
-    pub fn new(quiet: bool) -> Runner {
-        Runner { bounded: None, quiet, line: 0, since_book: Vec::new(), dump: String::new() }
+    pub fn new(form: Form) -> Runner {
+        Runner { bounded: None, form, line: 0, since_book: Vec::new(), dump: String::new() }
     }
 
     /// Runs one line, adds its output to `out`; the error is a report of an unexpected panic.
@@ -168,7 +181,7 @@ impl Runner {
                                 self.since_book.join("\n")
                             ));
                         }
-                        result_line(&reply, out);
+                        result_line(&reply, self.form, out);
                         out.push('\n');
                     }
                 }
@@ -179,7 +192,7 @@ impl Runner {
             None => self.dump.push_str("state none"),
             Some(bounded) => bounded.dump(&mut self.dump),
         }
-        if self.quiet {
+        if self.form == Form::Quiet {
             let _ = writeln!(out, "{:016x}", fnv1a(self.dump.as_bytes()));
         } else {
             out.push_str(&self.dump);
@@ -189,9 +202,9 @@ impl Runner {
     }
 }
 
-/// `oracle run [quiet]`
-pub fn run(quiet: bool, input: impl BufRead, mut output: impl Write) -> Result<(), String> {
-    let mut runner = Runner::new(quiet);
+/// `oracle run [quiet|counted]`
+pub fn run(form: Form, input: impl BufRead, mut output: impl Write) -> Result<(), String> {
+    let mut runner = Runner::new(form);
     let mut out = String::new();
     for line in input.split(b'\n') {
         let line = line.map_err(|e| e.to_string())?;

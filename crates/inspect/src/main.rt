@@ -1,26 +1,57 @@
 // Prints what a paper says: a book from standard input in words, or `refused` and the number, with its sentence on the next line.
+// No contract can speak of what is read or written: the program's run on its file `stdin`, held to its file `stdout`, guards that.
 mod words;
 
-// Where the input can't be read, that is said, and nothing is taken for a book.
-fn unreadable() {
-    io::write_all(2, b"inspect: the input can't be read\n");
+ghost use Rattle.io.specs.Counts.{Counts};
+
+// What was read: whether the input came to its end, or to the buffer's, without an error, and how many bytes there are.
+struct Got {
+    whole: bool,
+    count: usize,
+}
+
+// Reads until the input ends or the buffer is full. The end is asked for once, so that at a terminal one end-of-input is enough.
+fn input(bytes: &mut [u8]) -> Got
+    ensures { λ r. ⌜ Counts (r .count) (now (bytes .exit)) ⌝ }
+{
+    let mut n: usize = 0;
+    while n < bytes.len() {
+        let got = libc::read(0, &mut bytes[n..]);
+        let k = io::count(got, &bytes[n..]);
+        if k == 0 {
+            return Got {
+                whole: got == 0,
+                count: n,
+            };
+        }
+        n += k;
+    }
+    Got {
+        whole: true,
+        count: n,
+    }
 }
 
 // How an input is read is settled by its first 16,384 bytes (`read-take`, in the proofs of `definitions`): at most 13,440 bytes of commands
 // are accepted before one is refused or ends the book, and that one needs six at most. So what follows is not read.
-fn input(bytes: &mut [u8]) {
-    let n = io::read_full(0, bytes);
-    let mut more = [0u8; 1];
-    if libc::read(0, &mut more) < 0 {
-        unreadable();
-        return;
+// The longest words are 54,784 bytes: 64 lines of at most 36 for the goals, 256 of at most 205 for the clauses. So they are all in the buffer
+// when it is written, and none are written before: whether they could be written is known.
+fn answer(bytes: &[u8]) {
+    let mut out = io::large_buffer();
+    let used = words::say(&mut out, bytes);
+    if !pen::flush(&out, used) {
+        io::write_all(2, b"inspect: what the paper says can't be written\n");
     }
-    let mut out = io::buffer();
-    let used = words::say(&mut out, &bytes[..n]);
-    pen::flush(&out, used);
 }
 
 fn main() {
     let mut bytes = [0u8; 16384];
-    input(&mut bytes);
+    let got = input(&mut bytes);
+    // Where the input can't be read, that is said, and nothing is taken for a book.
+    if !got.whole {
+        io::write_all(2, b"inspect: the input can't be read\n");
+        return;
+    }
+    let n = got.count;
+    answer(&bytes[..n]);
 }

@@ -1,7 +1,12 @@
 // Writing to standard output through a buffer that the caller lends. What is put down stays in the buffer until it is full; then it is
 // written out, and the buffer is used again from its start, so that nothing is lost however much is put down. `at` is how much of the
-// buffer is in use: each function takes it and returns the new one. At the end, `flush` writes out what is left. Where standard output takes
-// no more, what is left in the buffer can't be kept.
+// buffer is in use: each function takes it and returns the new one. At the end, `flush` writes out what is left. Where standard output
+// takes no more, what is left in the buffer can't be kept, and `flush` alone says so: a program to which that matters lends a buffer
+// that holds all it says.
+//
+// No contract can speak of what is written: a `flush` that answers true and writes nothing, or a `byte` that never writes a full buffer
+// out, would meet those below. The programs' runs guard it, whose output is held to their files `stdout`: `reading_tests` says more than
+// its buffer holds, so that `byte` has to write it out, and the last words of every program come by `flush`.
 ghost use mathlib.Core.Path.{_≡_};
 ghost use mathlib.Core.Bool.{false};
 ghost use Prim.Native.Nat.{_<_};

@@ -34,6 +34,7 @@ fn run(out: &mut [u8]) {
 }
 
 fn main() {
-    let mut out = io::large_buffer();
+    // shorter than what is said of the vectors, so that the run shows that a full buffer is written out
+    let mut out = io::buffer();
     run(&mut out);
 }

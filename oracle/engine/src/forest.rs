@@ -1,3 +1,4 @@
+// Changed from rust-lang/chalk, chalk-engine/src/forest.rs: two lines added, each marked `// added`, and this notice. See NOTICE.
 use crate::context::{AnswerResult, AnswerStream};
 use crate::logic::RootSearchFail;
 use crate::slg::SlgContextOps;

@@ -1,3 +1,4 @@
+// Changed from rust-lang/chalk, chalk-engine/src/logic.rs: six lines added, each marked `// added`, and this notice. See NOTICE.
 use crate::forest::Forest;
 use crate::normalize_deep::DeepNormalizer;
 use crate::slg::{ResolventOps, SlgContext, SlgContextOps};

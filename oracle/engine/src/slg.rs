@@ -1,3 +1,4 @@
+// Changed from rust-lang/chalk, chalk-engine/src/slg.rs: cut after line 110, and this notice. See NOTICE.
 use crate::ExClause;
 
 use chalk_derive::HasInterner;
