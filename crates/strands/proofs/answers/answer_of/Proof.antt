@@ -24,8 +24,9 @@ other-than-requires c κs = search needs
 
 cast-t7 : tie.Need-cast-t7
 cast-t7 c =
-    let o = c .before .before .other-than in
-    let called = c .before .before .before .before in
+    let others = c .before .before in
+    let o = others .other-than in
+    let called = others .before .before in
     let a = called .before .args in
     let n = called .within in
     let kept = ap (λ (g : Goals). g .count) (o .ensures) in
@@ -35,8 +36,9 @@ cast-t7 c =
 
 returns : tie.Need-returns
 returns c =
-    let o = c .before .before .other-than in
-    let called = c .before .before .before .before in
+    let others = c .before .before in
+    let o = others .other-than in
+    let called = others .before .before in
     let a = called .before .args in
     let s = a .s in
     let n = called .within in

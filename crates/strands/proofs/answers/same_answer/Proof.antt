@@ -9,6 +9,9 @@ use Rattle.strands.proofs.Lists.{shown, shown-length}
 use Rattle.strands.proofs.answers.same_answer.Statement.{statement}
 use Rattle.strands.proofs.answers.same_answer.Tie as tie
 
+long : (c : tie.Start) → (length (c .args .a .delayed) ≡ 8) × (length (c .args .b .delayed) ≡ 8)
+long c = (search needs, search needs)
+
 returns : tie.Need-returns
 returns c = sym (other-variants (c .before .before .before .args .a) (c .before .before .before .args .b) (c .if1 .taken))
 
@@ -21,12 +24,14 @@ within-requires-2 c κs = search needs
 returns-2 : tie.Need-returns-2
 returns-2 c =
     let k = c .before in
-    let a = k .before .before .before .before .before .args in
-    let p : length (a .a .delayed) ≡ 8 = search needs in
-    let q : length (a .b .delayed) ≡ 8 = search needs in
+    let same-variant = k .before .before in
+    let start = same-variant .before .before .before in
+    let a = start .args in
+    let p = long start .0 in
+    let q = long start .1 in
     let n = shown-length 8 (a .a .«delayed_count») (k .before .within .result) (a .a .delayed) p (k .before .within .ensures) in
     let m = shown-length 8 (a .b .«delayed_count») (k .within2 .result) (a .b .delayed) q (k .within2 .ensures) in
-    sym (same-variants (a .a) (a .b) (k .before .before .if1 .left)
+    sym (same-variants (a .a) (a .b) (same-variant .if1 .left)
     ∙ unequal-lengths (answer (a .b) .delayed-subgoals) (answer (a .a) .delayed-subgoals) (λ e. c .if2 .taken (sym m ∙ e ∙ n)))
 
 same-first-requires : tie.Need-same-first-requires
@@ -34,17 +39,19 @@ same-first-requires c κs = search needs
 
 returns-3 : tie.Need-returns-3
 returns-3 c =
-    let k = c .before .before .before .before in
-    let a = k .before .before .before .before .before .args in
-    let g = k .before .before .before .before .before .good in
-    let p : length (a .a .delayed) ≡ 8 = search needs in
-    let q : length (a .b .delayed) ≡ 8 = search needs in
+    let same-count = c .before .before .before in
+    let k = same-count .before in
+    let same-variant = k .before .before in
+    let start = same-variant .before .before .before in
+    let a = start .args in
+    let p = long start .0 in
+    let q = long start .1 in
     let n = k .before .within .ensures in
-    let m = sym (c .before .before .before .if2 .left) ∙ k .within2 .ensures in
+    let m = sym (same-count .if2 .left) ∙ k .within2 .ensures in
     c .same-first .ensures
     ∙ ap₂ same (shown 8 (a .b .«delayed_count») (k .before .within .result) (a .b .delayed) q m)
     (shown 8 (a .a .«delayed_count») (k .before .within .result) (a .a .delayed) p n)
-    ∙ sym (same-variants (a .a) (a .b) (k .before .before .if1 .left))
+    ∙ sym (same-variants (a .a) (a .b) (same-variant .if1 .left))
 
 pub same-answer-spec : {M : Type 1} → statement M
 same-answer-spec =

@@ -12,6 +12,9 @@ use Rattle.strands.proofs.Lists.{shown, shown-length}
 use Rattle.strands.proofs.delaying.delay_answer.Statement.{statement}
 use Rattle.strands.proofs.delaying.delay_answer.Tie as tie
 
+answer-long : (c : tie.Start) → length (c .args .a .delayed) ≡ 8
+answer-long c = search needs
+
 within-requires : tie.Need-within-requires
 within-requires c κs = search needs
 
@@ -25,9 +28,10 @@ returns : tie.Need-returns
 returns c =
     let m = c .before .within2 in
     let n = c .before .before .within in
-    let arg = c .before .before .before .args in
+    let start = c .before .before .before in
+    let arg = start .args in
     let a = arg .a in
-    let long : length (a .delayed) ≡ 8 = search needs in
+    let long = answer-long start in
     let few = sym (shown-length 8 (a .«delayed_count») (m .result) (a .delayed) long (m .ensures)) in
     says-over (arg .s) (answer a .delayed-subgoals) (n .result) (m .result) (n .ensures) few (omega arith)
 
@@ -42,12 +46,14 @@ cast-t c = search needs
 
 returns-2 : tie.Need-returns-2
 returns-2 c =
-    let k = c .before .before .before .before in
+    let room = c .before .before .before in
+    let k = room .before in
     let m = k .within2 in
     let n = k .before .within in
-    let arg = k .before .before .args in
+    let start = k .before .before in
+    let arg = start .args in
     let a = arg .a in
-    let long : length (a .delayed) ≡ 8 = search needs in
+    let long = answer-long start in
     let few = sym (shown-length 8 (a .«delayed_count») (m .result) (a .delayed) long (m .ensures)) in
     says-room (arg .s) (answer a .delayed-subgoals) (n .result) (m .result) (n .ensures) few (c .appended .result) (omega arith)
     (c .appended .ensures

@@ -34,9 +34,10 @@ returns-3 c =
 
 returns-4 : tie.Need-returns-4
 returns-4 c =
-    let past = c .before .before .before .before in
+    let late = c .before in
+    let past = late .before .before .before in
     let a = past .before .before .args in
-    sym (reconsider-full (a .i) (a .t1) (omega arith) (omega arith) (c .before .if3 .left) (c .if4 .taken))
+    sym (reconsider-full (a .i) (a .t1) (omega arith) (omega arith) (late .if3 .left) (c .if4 .taken))
 
 sub-last : tie.Need-sub-last
 sub-last c = search needs
