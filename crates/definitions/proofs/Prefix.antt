@@ -50,8 +50,10 @@ last-none (c ∷ cs) e = absurd (omega arith)
 literals-so-far-goal : (book : Book) (g : Goal) → length (g .clauses) ≡ 0 → literals-so-far (book ++ (g ∷ [])) ≡ literals-so-far book
 literals-so-far-goal [] g e = last-none (g .clauses) e
 literals-so-far-goal (h ∷ book) g e =
-    ap (λ (n : ℕ). elim (eqb n 0) as (λ b. ℕ) [ true ↦ last-literals (h .clauses) | false ↦ literals-so-far (book ++ (g ∷ [])) ]) (clause-count-goal book g e)
-    ∙ ap (λ (n : ℕ). elim (eqb (clause-count book) 0) as (λ b. ℕ) [ true ↦ last-literals (h .clauses) | false ↦ n ]) (literals-so-far-goal book g e)
+    ap (λ (n : ℕ). elim (eqb n 0) as (λ b. ℕ) [ true ↦ last-literals (h .clauses) | false ↦ literals-so-far (book ++ (g ∷ [])) ])
+    (clause-count-goal book g e)
+    ∙ ap (λ (n : ℕ). elim (eqb (clause-count book) 0) as (λ b. ℕ) [ true ↦ last-literals (h .clauses) | false ↦ n ])
+    (literals-so-far-goal book g e)
 
 length-add-clause : (c : Clause) (book : Book) → length (add-clause c book) ≡ length book
 length-add-clause c [] = refl
@@ -121,7 +123,8 @@ added l (g ∷ gs) = added-by l g gs (eqb (clause-count gs) 0) refl (added l gs)
 -- What a command that is accepted takes of the room.
 
 module _ {A : Type 0} where
-  two-passed : (p q : Bool) (m n : ℕ) (a x : A) → unless (p refuses m ∷ q refuses n ∷ []) a ≡ accepted x → (p ≡ false) × (q ≡ false) × (a ≡ x)
+  two-passed : (p q : Bool) (m n : ℕ) (a x : A) → unless (p refuses m ∷ q refuses n ∷ []) a ≡ accepted x
+      → (p ≡ false) × (q ≡ false) × (a ≡ x)
   two-passed true q m n a x e = absurd (apart e)
   two-passed false true m n a x e = absurd (apart e)
   two-passed false false m n a x e = (refl, refl, cc)

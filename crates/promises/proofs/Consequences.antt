@@ -29,9 +29,21 @@ bytes = 0x47 ∷ 0x00 ∷ 0x43 ∷ 0x00 ∷ 0x00 ∷ 0x00 ∷ 0x50 ∷ 0x01 ∷ 
 
 abbrev book : Book
 book =
-    record { coinductive = false; floundered = false; clauses = record { variant = 0; cannot-prove = false; outsized = false; literals = Positive 1 0 false ∷ Negative 2 false ∷ [] } ∷ [] }
-    ∷ record { coinductive = false; floundered = false; clauses = record { variant = 0; cannot-prove = false; outsized = false; literals = [] } ∷ [] }
-    ∷ record { coinductive = false; floundered = false; clauses = record { variant = 0; cannot-prove = false; outsized = false; literals = Positive 2 0 false ∷ [] } ∷ [] }
+    record {
+      coinductive = false;
+      floundered = false;
+      clauses = record { variant = 0; cannot-prove = false; outsized = false; literals = Positive 1 0 false ∷ Negative 2 false ∷ [] } ∷ [];
+    }
+    ∷ record {
+      coinductive = false;
+      floundered = false;
+      clauses = record { variant = 0; cannot-prove = false; outsized = false; literals = [] } ∷ [];
+    }
+    ∷ record {
+      coinductive = false;
+      floundered = false;
+      clauses = record { variant = 0; cannot-prove = false; outsized = false; literals = Positive 2 0 false ∷ [] } ∷ [];
+    }
     ∷ []
 
 abbrev forest : Forest
@@ -45,23 +57,46 @@ level g = getD (1 ∷ 0 ∷ 0 ∷ []) g 0
 
 plain : Plain book
 plain = (
-  record { inductive = refl; unfloundered = refl; clauses-plain = (record { as-a-whole = refl; provable = refl; small = refl; literals-plain = ((refl, refl), (refl, tt)) }, tt) },
+  record {
+    inductive = refl;
+    unfloundered = refl;
+    clauses-plain = (record { as-a-whole = refl; provable = refl; small = refl; literals-plain = ((refl, refl), (refl, tt)) }, tt);
+  },
   (
-    record { inductive = refl; unfloundered = refl; clauses-plain = (record { as-a-whole = refl; provable = refl; small = refl; literals-plain = tt }, tt) },
+    record {
+      inductive = refl;
+      unfloundered = refl;
+      clauses-plain = (record { as-a-whole = refl; provable = refl; small = refl; literals-plain = tt }, tt);
+    },
     (
-      record { inductive = refl; unfloundered = refl; clauses-plain = (record { as-a-whole = refl; provable = refl; small = refl; literals-plain = ((refl, refl), tt) }, tt) },
+      record {
+        inductive = refl;
+        unfloundered = refl;
+        clauses-plain = (record { as-a-whole = refl; provable = refl; small = refl; literals-plain = ((refl, refl), tt) }, tt);
+      },
       tt,
     ),
   ),
 )
 
-one-clause : (n : ℕ) (b c : Clause) → Each (LevelLiteral level n) (b .literals) → List·Memᴰ c (b ∷ []) → Each (LevelLiteral level n) (c .literals)
+one-clause : (n : ℕ) (b c : Clause) → Each (LevelLiteral level n) (b .literals) → List·Memᴰ c (b ∷ [])
+    → Each (LevelLiteral level n) (c .literals)
 one-clause n b c l m = subst (λ (z : Clause). Each (LevelLiteral level n) (z .literals)) (sym (List·Memᴰ·eq-of-singleton m)) l
 
 levelled : Levelled book level
-levelled zero c m = one-clause 1 (record { variant = 0; cannot-prove = false; outsized = false; literals = Positive 1 0 false ∷ Negative 2 false ∷ [] }) c (omega arith, (omega arith, tt)) m
+levelled zero c m = one-clause 1 (record {
+  variant = 0;
+  cannot-prove = false;
+  outsized = false;
+  literals = Positive 1 0 false ∷ Negative 2 false ∷ [];
+}) c (omega arith, (omega arith, tt)) m
 levelled (suc zero) c m = one-clause 0 (record { variant = 0; cannot-prove = false; outsized = false; literals = [] }) c tt m
-levelled (suc (suc zero)) c m = one-clause 0 (record { variant = 0; cannot-prove = false; outsized = false; literals = Positive 2 0 false ∷ [] }) c (omega arith, tt) m
+levelled (suc (suc zero)) c m = one-clause 0 (record {
+  variant = 0;
+  cannot-prove = false;
+  outsized = false;
+  literals = Positive 2 0 false ∷ [];
+}) c (omega arith, tt) m
 levelled (suc (suc (suc g))) c m = absurd (List·Memᴰ·not-nil m)
 
 -- open goal 0, whose table is number 0; peek there; open goal 2, whose table is number 1; peek there
@@ -95,7 +130,11 @@ abbrev loop-bytes : List ℕ
 loop-bytes = 0x47 ∷ 0x00 ∷ 0x43 ∷ 0x00 ∷ 0x00 ∷ 0x00 ∷ 0x50 ∷ 0x00 ∷ 0x00 ∷ 0x00 ∷ 0x00 ∷ 0x00 ∷ 0x45 ∷ []
 
 abbrev loop-book : Book
-loop-book = record { coinductive = false; floundered = false; clauses = record { variant = 0; cannot-prove = false; outsized = false; literals = Positive 0 0 false ∷ [] } ∷ [] } ∷ []
+loop-book = record {
+  coinductive = false;
+  floundered = false;
+  clauses = record { variant = 0; cannot-prove = false; outsized = false; literals = Positive 0 0 false ∷ [] } ∷ [];
+} ∷ []
 
 abbrev loop-forest : Forest
 loop-forest = record { book = loop-book; clock-limit = 1000; mark = 0; tables = []; clock = 0 }

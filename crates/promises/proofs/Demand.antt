@@ -13,7 +13,8 @@ use Rattle.definitions.specs.Book.{Book, clause-count, read}
 use Rattle.definitions.specs.Refusal.{Refusable, refused, accepted, _refuses_, unless}
 use Rattle.definitions.specs.Tables.{Forest}
 use Rattle.definitions.specs.Turn.{root-answer}
-use Rattle.definitions.specs.Forest.{make, is-marked, opened, open-goal, not-made, index-above, search, peek, peek-rounds, SearchMade, any-future-answer}
+use Rattle.definitions.specs.Forest.{make, is-marked, opened, open-goal, not-made, index-above, search, peek, peek-rounds, SearchMade}
+use Rattle.definitions.specs.Forest.{any-future-answer}
 use Rattle.definitions.specs.Calls.{Call, opens, searches, peeks, asks-future, Reply, refusal, future, call, searches-made, calls}
 use Rattle.definitions.specs.Model.{Plain, Levelled, In}
 use Rattle.definitions.specs.Claim.{MarkedSays, reply-stopped, AllSay, exceeded-among, exceeded, Demand3}
@@ -38,30 +39,41 @@ module _ (f : Forest) (marked : is-marked f ≡ true) where
 
   search-turned : (t i n : ℕ) → search f t i n ≡ refused 20
   search-turned t i n =
-      unless-stop (is-marked f refuses 20) (not-made f t refuses 10 ∷ index-above f t i refuses 11 ∷ eqb n 0 refuses 12 ∷ []) (root-answer n t i f) marked
+      unless-stop (is-marked f refuses 20) (not-made f t refuses 10 ∷ index-above f t i refuses 11 ∷ eqb n 0 refuses 12 ∷ [])
+      (root-answer n t i f) marked
 
   peek-turned : (t i r n : ℕ) → peek f t i r n ≡ refused 20
   peek-turned t i r n =
       unless-stop (is-marked f refuses 20) (not-made f t refuses 10 ∷ index-above f t i refuses 11 ∷ (eqb r 0 || eqb n 0) refuses 12 ∷ [])
       (peek-rounds (r - 1) n 0 t i f) marked
 
-  marked-ask : (o : Refusable Bool) (r : Reply × Forest) → r ≡ elim o [ refused n ↦ (refusal n, f) | accepted b ↦ (future b, f) ] → is-marked (r .1) ≡ true
+  marked-ask : (o : Refusable Bool) (r : Reply × Forest) → r ≡ elim o [ refused n ↦ (refusal n, f) | accepted b ↦ (future b, f) ]
+      → is-marked (r .1) ≡ true
   marked-ask (refused n) r e = subst (λ (z : Reply × Forest). is-marked (z .1) ≡ true) (sym e) marked
   marked-ask (accepted b) r e = subst (λ (z : Reply × Forest). is-marked (z .1) ≡ true) (sym e) marked
 
   -- a call that is refused, and makes no search
-  refused-with : (r : Reply × Forest) (made : List SearchMade) → r ≡ (refusal 20, f) → made ≡ [] → (r .0 ≡ refusal 20) × (is-marked (r .1) ≡ true) × (exceeded-among made ≡ 0)
-  refused-with r made e m = (ap (λ (z : Reply × Forest). z .0) e, ap (λ (z : Reply × Forest). is-marked (z .1)) e ∙ marked, ap exceeded-among m)
+  refused-with : (r : Reply × Forest) (made : List SearchMade) → r ≡ (refusal 20, f) → made ≡ []
+      → (r .0 ≡ refusal 20) × (is-marked (r .1) ≡ true) × (exceeded-among made ≡ 0)
+  refused-with r made e m = (
+    ap (λ (z : Reply × Forest). z .0) e,
+    ap (λ (z : Reply × Forest). is-marked (z .1)) e
+        ∙ marked,
+    ap exceeded-among m,
+  )
 
   marked-call : (c : Call) → MarkedSays c (call f c .0) × (is-marked (call f c .1) ≡ true) × (exceeded-among (searches-made f c) ≡ 0)
   marked-call (opens g) = refused-with (call f (opens g)) (searches-made f (opens g)) (rw (open-turned g, call)) refl
   marked-call (searches t i n) =
-      refused-with (call f (searches t i n)) (searches-made f (searches t i n)) (rw (search-turned t i n, call)) (rw (search-turned t i n, searches-made))
+      refused-with (call f (searches t i n)) (searches-made f (searches t i n)) (rw (search-turned t i n, call))
+      (rw (search-turned t i n, searches-made))
   marked-call (peeks t i r n) =
-      refused-with (call f (peeks t i r n)) (searches-made f (peeks t i r n)) (rw (peek-turned t i r n, call)) (rw (peek-turned t i r n, searches-made))
+      refused-with (call f (peeks t i r n)) (searches-made f (peeks t i r n)) (rw (peek-turned t i r n, call))
+      (rw (peek-turned t i r n, searches-made))
   marked-call (asks-future t i v) = (tt, marked-ask (any-future-answer f t i v) (call f (asks-future t i v)) refl, refl)
 
-marked-calls : (I : ℕ → Type 0) (limit : ℕ) (cs : List Call) (f : Forest) → is-marked f ≡ true → AllSay I limit true (calls f cs) × (exceeded (calls f cs) ≡ 0)
+marked-calls : (I : ℕ → Type 0) (limit : ℕ) (cs : List Call) (f : Forest) → is-marked f ≡ true
+    → AllSay I limit true (calls f cs) × (exceeded (calls f cs) ≡ 0)
 marked-calls I limit [] f m = (tt, refl)
 marked-calls I limit (c ∷ cs) f m =
     let x = marked-call f m c in
@@ -78,10 +90,12 @@ module _ (G : Premises) where
   AllOK f p cs = AllSay (In (G .book) (G .level)) (G .limit) false (calls f cs) × (exceeded (calls f cs) ≤ measure p)
 
   call-at : (f : Forest) (p : M.Forest) → Between G f p → (c : Call) → CallOK G p (searches-made f c) c (call f c .0) (call f c .1)
-  call-at f p b c = subst (λ (z : Forest). CallOK G p (searches-made z c) c (call z c .0) (call z c .1)) (sym (b .is)) (call-ok G (b .agree) (b .ready) c)
+  call-at f p b c = subst (λ (z : Forest). CallOK G p (searches-made z c) c (call z c .0) (call z c .1)) (sym (b .is))
+      (call-ok G (b .agree) (b .ready) c)
 
   -- the calls after one
-  rest-ok : (cs : List Call) → ((f : Forest) (p : M.Forest) → Between G f p → AllOK f p cs) → (p : M.Forest) (k : ℕ) (r : Reply) (f : Forest) → Left G p k r f
+  rest-ok : (cs : List Call) → ((f : Forest) (p : M.Forest) → Between G f p → AllOK f p cs)
+      → (p : M.Forest) (k : ℕ) (r : Reply) (f : Forest) → Left G p k r f
       → AllSay (In (G .book) (G .level)) (G .limit) (false || reply-stopped r) (calls f cs) × (k + exceeded (calls f cs) ≤ measure p)
   rest-ok cs ih p k r f (goes-on p' e b fall) =
       let x = ih f p' b in
@@ -99,10 +113,17 @@ module _ (G : Premises) where
 
 -- a forest just made
 start : (book : Book) → Agree book [] [] (M.initial (book-of book))
-start book = record { tables = t-end; distinct = λ i j g e o. absurd (no-such e); within = λ i g e. absurd (no-such e); made = λ i g e. absurd (no-such e); unmade = λ g n. (refl, refl, refl) }
+start book = record {
+  tables = t-end;
+  distinct = λ i j g e o. absurd (no-such e);
+  within = λ i g e. absurd (no-such e);
+  made = λ i g e. absurd (no-such e);
+  unmade = λ g n. (refl, refl, refl);
+}
 
 from-start : (book : Book) (limit : ℕ) (level : ℕ → ℕ) → limit ≤ MAX → Good book → Plain book → Levelled book level → (cs : List Call)
-    → AllSay (In book level) limit false (calls (forest-of book limit 0 [] 0) cs) × (exceeded (calls (forest-of book limit 0 [] 0) cs) ≤ length book + clause-count book)
+    → AllSay (In book level) limit false (calls (forest-of book limit 0 [] 0) cs)
+    × (exceeded (calls (forest-of book limit 0 [] 0) cs) ≤ length book + clause-count book)
 from-start book limit level room good plain levelled cs =
     let sum = clauses-total book in
     let G : Premises = record {
@@ -132,16 +153,20 @@ pub record MadeFrom (bytes : List ℕ) (limit : ℕ) (f : Forest) : Type 0 where
 made-from : (bytes : List ℕ) (limit : ℕ) (f : Forest) → make bytes limit ≡ accepted f → MadeFrom bytes limit f
 made-from bytes limit f e = go (read bytes) refl e
   where
-    go : (o : Refusable Book) → read bytes ≡ o → elim o [ refused n ↦ refused n | accepted book ↦ unless ((eqb limit 0 || leb MAX limit) refuses 13 ∷ []) (forest-of book limit 0 [] 0) ] ≡ accepted f → MadeFrom bytes limit f
+    go : (o : Refusable Book) → read bytes ≡ o → elim o
+        [ refused n ↦ refused n | accepted book ↦ unless ((eqb limit 0 || leb MAX limit) refuses 13 ∷ []) (forest-of book limit 0 [] 0) ]
+        ≡ accepted f → MadeFrom bytes limit f
     go (refused n) k x = absurd (not-accepted x)
     go (accepted book) k x = record {
       book = book;
       good = read-good bytes 0 [] book (record { few-goals = omega arith; few-clauses = omega arith }) k;
       is = all-pass ((eqb limit 0 || leb MAX limit) refuses 13 ∷ []) (forest-of book limit 0 [] 0) f x .1;
-      room = let y = leb-false MAX limit (or-right (eqb limit 0) (leb MAX limit) (all-pass ((eqb limit 0 || leb MAX limit) refuses 13 ∷ []) (forest-of book limit 0 [] 0) f x .0 .0)) in omega arith;
+      room = let y = leb-false MAX limit (or-right (eqb limit 0) (leb MAX limit)
+          (all-pass ((eqb limit 0 || leb MAX limit) refuses 13 ∷ []) (forest-of book limit 0 [] 0) f x .0 .0)) in omega arith;
     }
 
 pub demand-3 : Demand3
 demand-3 bytes limit f e level = let m = made-from bytes limit f e in
-    subst (λ (z : Forest). Plain (z .book) → Levelled (z .book) level → (cs : List Call) → AllSay (In (z .book) level) limit false (calls z cs) × (exceeded (calls z cs) ≤ length (z .book) + clause-count (z .book)))
+    subst (λ (z : Forest). Plain (z .book) → Levelled (z .book) level → (cs : List Call)
+    → AllSay (In (z .book) level) limit false (calls z cs) × (exceeded (calls z cs) ≤ length (z .book) + clause-count (z .book)))
     (m .is) (from-start (m .book) limit level (m .room) (m .good))

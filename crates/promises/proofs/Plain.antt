@@ -8,5 +8,6 @@ pub mod Stack
 pub mod Cases
 pub mod Pops
 pub mod Clear
+pub mod Taking
 pub mod Turns
 pub mod Whole

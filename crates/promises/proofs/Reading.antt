@@ -24,7 +24,8 @@ module _ {A : Type 0} where
   pub passes : (t : Test) (ts : List Test) (a b : A) → unless (t ∷ ts) a ≡ accepted b → (t .fails ≡ false) × (unless ts a ≡ accepted b)
   passes t ts a b e = go (t .fails) refl e
     where
-      go : (f : Bool) → t .fails ≡ f → elim f [ true ↦ refused (t .number) | false ↦ unless ts a ] ≡ accepted b → (t .fails ≡ false) × (unless ts a ≡ accepted b)
+      go : (f : Bool) → t .fails ≡ f → elim f [ true ↦ refused (t .number) | false ↦ unless ts a ] ≡ accepted b
+          → (t .fails ≡ false) × (unless ts a ≡ accepted b)
       go true k x = absurd (not-accepted x)
       go false k x = (k, x)
 
@@ -49,7 +50,8 @@ add-clause-length c (g ∷ h ∷ gs) = ap suc (add-clause-length c (h ∷ gs))
 
 add-clause-count : (c : Clause) (book : Book) → clause-count (add-clause c book) ≤ suc (clause-count book)
 add-clause-count c [] = omega arith
-add-clause-count c (g ∷ []) = let x : length (g .clauses ++ (c ∷ [])) ≡ length (g .clauses) + 1 = length-append (g .clauses) (c ∷ []) in omega arith
+add-clause-count c (g ∷ []) = let x : length (g .clauses ++ (c ∷ [])) ≡ length (g .clauses) + 1 = length-append (g .clauses) (c ∷ []) in
+    omega arith
 add-clause-count c (g ∷ h ∷ gs) = let x = add-clause-count c (h ∷ gs) in omega arith
 
 add-last-length : (l : Literal) (cs : List Clause) → length (add-to-last l cs) ≡ length cs
@@ -57,22 +59,30 @@ add-last-length l [] = refl
 add-last-length l (c ∷ []) = refl
 add-last-length l (c ∷ d ∷ cs) = ap suc (add-last-length l (d ∷ cs))
 
-add-literal-same : (l : Literal) (book : Book) → (length (add-literal l book) ≡ length book) × (clause-count (add-literal l book) ≡ clause-count book)
+add-literal-same : (l : Literal) (book : Book) → (length (add-literal l book) ≡ length book)
+    × (clause-count (add-literal l book) ≡ clause-count book)
 add-literal-same l [] = (refl, refl)
 add-literal-same l (g ∷ gs) = at (eqb (clause-count gs) 0) refl (add-literal-same l gs)
   where
-    at : (t : Bool) → eqb (clause-count gs) 0 ≡ t → (length (add-literal l gs) ≡ length gs) × (clause-count (add-literal l gs) ≡ clause-count gs) → (length (add-literal l (g ∷ gs)) ≡ length (g ∷ gs)) × (clause-count (add-literal l (g ∷ gs)) ≡ clause-count (g ∷ gs))
+    at : (t : Bool) → eqb (clause-count gs) 0 ≡ t → (length (add-literal l gs) ≡ length gs)
+        × (clause-count (add-literal l gs) ≡ clause-count gs)
+        → (length (add-literal l (g ∷ gs)) ≡ length (g ∷ gs)) × (clause-count (add-literal l (g ∷ gs)) ≡ clause-count (g ∷ gs))
     at true e r = let x = add-last-length l (g .clauses) in (rw (e, add-literal), rw (e, add-literal) (omega arith))
     at false e r = (rw (e, add-literal) (ap suc (r .0)), rw (e, add-literal) (let x = r .1 in omega arith))
 
 literal-small : (l : Literal) (flags : ℕ) (book next : Book) → literal-command l flags book ≡ accepted next → Small book → Small next
 literal-small l flags book next e s =
-    let a = all-pass (eqb (clause-count book) 0 refuses 3 ∷ ltb 1 flags refuses 4 ∷ leb 8 (literals-so-far book) refuses 5 ∷ []) (add-literal l book) next e in
+    let a = all-pass (eqb (clause-count book) 0 refuses 3 ∷ ltb 1 flags refuses 4 ∷ leb 8 (literals-so-far book) refuses 5 ∷ [])
+    (add-literal l book) next e in
     let r = add-literal-same l book in
-    subst Small (a .1) (record { few-goals = let x = s .few-goals in let y = r .0 in omega arith; few-clauses = let x = s .few-clauses in let y = r .1 in omega arith })
+    subst Small (a .1) (record {
+      few-goals = let x = s .few-goals in let y = r .0 in omega arith;
+      few-clauses = let x = s .few-clauses in let y = r .1 in omega arith;
+    })
 
 -- each command but the end keeps the limits
-command-small : (c : Command) (operands : List ℕ) (book next : Book) → is-end c ≡ false → apply-command c operands book ≡ accepted next → Small book → Small next
+command-small : (c : Command) (operands : List ℕ) (book next : Book) → is-end c ≡ false → apply-command c operands book ≡ accepted next
+    → Small book → Small next
 command-small goal operands book next n e s =
     let flags = byte operands 0 in
     let g : Goal = record { coinductive = bit0 flags; floundered = bit1 flags; clauses = [] } in
@@ -85,14 +95,17 @@ command-small goal operands book next n e s =
 command-small clause operands book next n e s =
     let flags = byte operands 2 in
     let c : Clause = record { variant = u16 operands 0; cannot-prove = bit0 flags; outsized = bit1 flags; literals = [] } in
-    let a = all-pass (eqb (length book) 0 refuses 3 ∷ ltb 3 flags refuses 4 ∷ leb 256 (clause-count book) refuses 5 ∷ []) (add-clause c book) next e in
+    let a = all-pass (eqb (length book) 0 refuses 3 ∷ ltb 3 flags refuses 4 ∷ leb 256 (clause-count book) refuses 5 ∷ [])
+    (add-clause c book) next e in
     let o = leb-false 256 (clause-count book) (a .0 .1 .1 .0) in
     subst Small (a .1) (record {
       few-goals = let x = s .few-goals in let y = add-clause-length c book in omega arith;
       few-clauses = let y = add-clause-count c book in omega arith;
     })
-command-small positive operands book next n e s = literal-small (Positive (u16 operands 0) (u16 operands 2) (bit0 (byte operands 4))) (byte operands 4) book next e s
-command-small negative operands book next n e s = literal-small (Negative (u16 operands 0) (bit0 (byte operands 2))) (byte operands 2) book next e s
+command-small positive operands book next n e s =
+    literal-small (Positive (u16 operands 0) (u16 operands 2) (bit0 (byte operands 4))) (byte operands 4) book next e s
+command-small negative operands book next n e s =
+    literal-small (Negative (u16 operands 0) (bit0 (byte operands 2))) (byte operands 2) book next e s
 command-small end operands book next n e s = absurd (let z : _≡_ {A = ℕ} 0 1 = cc in omega arith)
 command-small unknown operands book next n e s = absurd (not-accepted e)
 
@@ -101,16 +114,19 @@ pub record Good (book : Book) : Type 0 where
   pub small : Small book
   pub named : goals-name (length book) book ≡ true
 
-whole-applied : (c : Command) (after : List ℕ) (book next : Book) → whole-command c after book ≡ accepted next → apply-command c after book ≡ accepted next
+whole-applied : (c : Command) (after : List ℕ) (book next : Book) → whole-command c after book ≡ accepted next
+    → apply-command c after book ≡ accepted next
 whole-applied c after book next e = go (ltb (length after) (width c)) e
   where
-    go : (t : Bool) → elim t [ true ↦ refused 1 | false ↦ apply-command c after book ] ≡ accepted next → apply-command c after book ≡ accepted next
+    go : (t : Bool) → elim t [ true ↦ refused 1 | false ↦ apply-command c after book ] ≡ accepted next
+        → apply-command c after book ≡ accepted next
     go true x = absurd (not-accepted x)
     go false x = x
 
 end-good : (after : List ℕ) (book next : Book) → end-command after book ≡ accepted next → Small book → Good next
 end-good after book next e s =
-    let a = all-pass (ltb 0 (length after) refuses 7 ∷ eqb (length book) 0 refuses 8 ∷ not (goals-name (length book) book) refuses 6 ∷ []) book next e in
+    let a = all-pass (ltb 0 (length after) refuses 7 ∷ eqb (length book) 0 refuses 8 ∷ not (goals-name (length book) book) refuses 6 ∷ [])
+    book next e in
     subst Good (a .1) (record { small = s; named = not-false (goals-name (length book) book) (a .0 .1 .1 .0) })
   where
     not-false : (b : Bool) → not b ≡ false → b ≡ true
@@ -124,16 +140,24 @@ onward c bs o = elim o [
   | accepted next ↦ elim (is-end c) [ true ↦ accepted next | false ↦ read-from bs (width c) next ]
 ]
 
-command-read : (c : Command) (bs : List ℕ) (book r : Book) → Small book → ((skip : ℕ) (next : Book) → Small next → read-from bs skip next ≡ accepted r → Good r) → (o : Refusable Book) → whole-command c bs book ≡ o → onward c bs o ≡ accepted r → Good r
+command-read : (c : Command) (bs : List ℕ) (book r : Book) → Small book
+    → ((skip : ℕ) (next : Book) → Small next → read-from bs skip next ≡ accepted r → Good r) → (o : Refusable Book)
+    → whole-command c bs book ≡ o → onward c bs o ≡ accepted r → Good r
 command-read c bs book r s ih (refused n) k e = absurd (not-accepted e)
-command-read goal bs book r s ih (accepted next) k e = ih 1 next (command-small goal bs book next refl (whole-applied goal bs book next k) s) e
-command-read clause bs book r s ih (accepted next) k e = ih 3 next (command-small clause bs book next refl (whole-applied clause bs book next k) s) e
-command-read positive bs book r s ih (accepted next) k e = ih 5 next (command-small positive bs book next refl (whole-applied positive bs book next k) s) e
-command-read negative bs book r s ih (accepted next) k e = ih 3 next (command-small negative bs book next refl (whole-applied negative bs book next k) s) e
-command-read end bs book r s ih (accepted next) k e = subst Good (same-accepted e) (end-good bs book next (whole-applied end bs book next k) s)
+command-read goal bs book r s ih (accepted next) k e =
+    ih 1 next (command-small goal bs book next refl (whole-applied goal bs book next k) s) e
+command-read clause bs book r s ih (accepted next) k e =
+    ih 3 next (command-small clause bs book next refl (whole-applied clause bs book next k) s) e
+command-read positive bs book r s ih (accepted next) k e =
+    ih 5 next (command-small positive bs book next refl (whole-applied positive bs book next k) s) e
+command-read negative bs book r s ih (accepted next) k e =
+    ih 3 next (command-small negative bs book next refl (whole-applied negative bs book next k) s) e
+command-read end bs book r s ih (accepted next) k e =
+    subst Good (same-accepted e) (end-good bs book next (whole-applied end bs book next k) s)
 command-read unknown bs book r s ih (accepted next) k e = absurd (not-accepted (whole-applied unknown bs book next k))
 
 pub read-good : (bs : List ℕ) (skip : ℕ) (book r : Book) → Small book → read-from bs skip book ≡ accepted r → Good r
 read-good [] skip book r s e = absurd (not-accepted e)
 read-good (b ∷ bs) (suc skip) book r s e = read-good bs skip book r s e
-read-good (b ∷ bs) zero book r s e = command-read (command b) bs book r s (λ skip next x y. read-good bs skip next r x y) (whole-command (command b) bs book) refl e
+read-good (b ∷ bs) zero book r s e = command-read (command b) bs book r s (λ skip next x y. read-good bs skip next r x y)
+    (whole-command (command b) bs book) refl e

@@ -22,7 +22,8 @@ use Rattle.laws.proofs.Options.{no-such, same-some}
 use Rattle.promises.proofs.Asserts.Safe.{true-false, Safe, goes, after, known, guard, asserted, by-bool, by-option, case-bool}
 use Rattle.promises.proofs.Asserts.Lists.{All, end, more, all-first, all-rest, set-other, all-push}
 use Rattle.promises.proofs.Asserts.Sound.{Goals, SoundAnswer, SoundClause, SoundTable, SoundStack, Off}
-use Rattle.promises.proofs.Asserts.Keeping.{SameGoal, Above, Grows, calls-grow, Steady, above-same, grows-set, Kept, set-sound, set-kept, table-is, change-is, table-sound}
+use Rattle.promises.proofs.Asserts.Keeping.{SameGoal, Above, Grows, calls-grow, Steady, above-same, grows-set, Kept, set-sound}
+use Rattle.promises.proofs.Asserts.Keeping.{set-kept, table-is, change-is, table-sound}
 use Rattle.promises.proofs.Asserts.Unwinding.{Waits, Ended, searching-ended, searching-waits}
 
 other-goals : {n : ℕ} (goal : ℕ) {ds : List ℕ} → Goals n ds → Goals n (other-than goal ds)
@@ -31,7 +32,8 @@ other-goals {n} goal (more {a = d} p x) = case-bool (Goals n) (eqb d goal) (λ e
 
 other-fewer : (goal : ℕ) (ds : List ℕ) → length (other-than goal ds) ≤ length ds
 other-fewer goal [] = omega arith
-other-fewer goal (d ∷ ds) = let x = other-fewer goal ds in case-bool (λ (l : List ℕ). length l ≤ suc (length ds)) (eqb d goal) (λ e. omega arith) (λ e. omega arith)
+other-fewer goal (d ∷ ds) = let x = other-fewer goal ds in
+    case-bool (λ (l : List ℕ). length l ≤ suc (length ds)) (eqb d goal) (λ e. omega arith) (λ e. omega arith)
 
 -- a table with one answer more
 record Longer (n : ℕ) (ts : Tables) (a : Answer) (t t' : Table) : Type 0 where
@@ -42,11 +44,17 @@ record Longer (n : ℕ) (ts : Tables) (a : Answer) (t t' : Table) : Type 0 where
   one-more : length (t' .answers) ≡ suc (length (t .answers))
   there : getElem? (t' .answers) (length (t .answers)) ≡ some a
 
-longer : {n : ℕ} {ts : Tables} {t : Table} → SoundTable n ts t → t .floundered ≡ false → (a : Answer) → SoundAnswer n a → Longer n ts a t (with-answers t (push (t .answers) a))
+longer : {n : ℕ} {ts : Tables} {t : Table} → SoundTable n ts t → t .floundered ≡ false → (a : Answer) → SoundAnswer n a
+    → Longer n ts a t (with-answers t (push (t .answers) a))
 longer {n} {ts} {t} s u a g =
     let e : length (t .answers ++ (a ∷ [])) ≡ length (t .answers) + 1 = length-append (t .answers) (a ∷ []) in
     record {
-      sound = record { goal-named = s .goal-named; sound-strands = s .sound-strands; sound-answers = all-push (s .sound-answers) g; floundered-empty = λ q. true-false (sym q ∙ u) };
+      sound = record {
+        goal-named = s .goal-named;
+        sound-strands = s .sound-strands;
+        sound-answers = all-push (s .sound-answers) g;
+        floundered-empty = λ q. true-false (sym q ∙ u);
+      };
       same-goal = (refl, refl);
       fewer = omega arith;
       steady = record { same-floundered = refl; more-answers = omega arith };
@@ -56,7 +64,12 @@ longer {n} {ts} {t} s u a g =
 
 emptied : {n : ℕ} {ts : Tables} {a : Answer} {t t' : Table} → Longer n ts a t t' → Longer n ts a t (take-strands t')
 emptied x = record {
-  sound = record { goal-named = x .sound .goal-named; sound-strands = end; sound-answers = x .sound .sound-answers; floundered-empty = λ q. (refl, x .sound .floundered-empty q .1) };
+  sound = record {
+    goal-named = x .sound .goal-named;
+    sound-strands = end;
+    sound-answers = x .sound .sound-answers;
+    floundered-empty = λ q. (refl, x .sound .floundered-empty q .1);
+  };
   same-goal = x .same-goal;
   fewer = omega arith;
   steady = record { same-floundered = x .steady .same-floundered; more-answers = x .steady .more-answers };
@@ -67,7 +80,8 @@ emptied x = record {
 record Pushed (n : ℕ) (ts : Tables) (held : ℕ) (a : Answer) (t : Table) (o : Option ℕ) (t' : Table) : Type 0 where
   when-new : (i : ℕ) → o ≡ some i → (i ≡ length (t .answers)) × (held < 256) × Longer n ts a t t'
 
-pushes : {n : ℕ} {ts : Tables} {t : Table} → SoundTable n ts t → t .floundered ≡ false → (h : ℕ) (a : Answer) → SoundAnswer n a → Safe (λ r. Pushed n ts h a t (r .0) (r .1)) (push-answer h a t)
+pushes : {n : ℕ} {ts : Tables} {t : Table} → SoundTable n ts t → t .floundered ≡ false → (h : ℕ) (a : Answer) → SoundAnswer n a
+    → Safe (λ r. Pushed n ts h a t (r .0) (r .1)) (push-answer h a t)
 pushes {t = t} s u h a g = asserted (t .floundered) 0 u (by-option (equal-answer a (t .answers))
     (λ e. guard (leb 256 h) 23 tt (λ b. goes (record { when-new = λ i q. (sym (same-some q), leb-false 256 h b, longer s u a g) })))
     (λ was e. guard (was .ambiguous && not (a .ambiguous)) 26 tt (λ b. goes (record { when-new = λ i q. absurd (no-such q) }))))
@@ -100,28 +114,48 @@ module _ (n root index first : ℕ) (f : Forest) (e : StackEntry) (es : Stack) (
       let k = x .0 .standing .is-made in
       let few = x .0 .forest .few-answers in
       let places = x .2 in
-      let less = total-set (λ u. length (u .strands)) (f .tables) (e .table) (x .0 .standing .own) (mark-floundered (x .0 .standing .own)) k in
+      let less = total-set (λ u. length (u .strands)) (f .tables) (e .table) (x .0 .standing .own) (mark-floundered (x .0 .standing .own))
+      k in
       let r : Above (x .0 .standing .own) (mark-floundered (x .0 .standing .own)) = λ j y. inl refl in
       let g = grows-set {R = Above} above-same (f .tables) (e .table) (x .0 .standing .own) (mark-floundered (x .0 .standing .own)) k r in
-      let s = set-sound (x .0 .forest) (e .table) k (mark-floundered (x .0 .standing .own)) (refl, refl) r (record { goal-named = table-sound (x .0 .forest) (e .table) k .goal-named; sound-strands = end; sound-answers = end; floundered-empty = λ q. (refl, refl) }) (omega arith) (omega arith) in
-      let t = g .grown root (x .0 .rooted .own) (x .0 .rooted .is-made) in
-      (record { sound = s; own = t .after; is-made = t .is-made; reached = t .related index (inr (x .0 .rooted .enough)) }, (omega arith), still (searching-waits (x .0)) (x .0 .off))
+      let s = set-sound (x .0 .forest) (e .table) k (mark-floundered (x .0 .standing .own)) (refl, refl) r (record {
+        goal-named = table-sound (x .0 .forest) (e .table) k .goal-named;
+        sound-strands = end;
+        sound-answers = end;
+        floundered-empty = λ q. (refl, refl);
+      }) (omega arith) (omega arith) in
+      let t = g .grown root (x .0 .rooted .own) (x .0 .rooted .is-made) in (
+        record {
+          sound = s;
+          own = t .after;
+          is-made = t .is-made;
+          reached = t .related index (inr (x .0 .rooted .enough));
+        },
+        (omega arith),
+        still (searching-waits (x .0)) (x .0 .off),
+      )
     where
       floundered-now : Grows Above (f .tables) (set (f .tables) (e .table) (mark-floundered (x .0 .standing .own)))
-      floundered-now = grows-set {R = Above} above-same (f .tables) (e .table) (x .0 .standing .own) (mark-floundered (x .0 .standing .own)) (x .0 .standing .is-made) (λ j y. inl refl)
+      floundered-now = grows-set {R = Above} above-same (f .tables) (e .table) (x .0 .standing .own) (mark-floundered (x .0 .standing .own))
+          (x .0 .standing .is-made) (λ j y. inl refl)
 
-      still : {cs : Stack} → All (Waits n (f .tables)) cs → Off (e .table) cs → All (Waits n (set (f .tables) (e .table) (mark-floundered (x .0 .standing .own)))) cs
+      still : {cs : Stack} → All (Waits n (f .tables)) cs → Off (e .table) cs
+          → All (Waits n (set (f .tables) (e .table) (mark-floundered (x .0 .standing .own)))) cs
       still end o = end
       still (more {a = c} w ws) o = more (record {
         own = w .own;
-        is-made = set-other (f .tables) (e .table) (c .table) (mark-floundered (x .0 .standing .own)) (λ q. all-first o (sym q)) ∙ w .is-made;
+        is-made = set-other (f .tables) (e .table) (c .table) (mark-floundered (x .0 .standing .own)) (λ q. all-first o (sym q))
+            ∙ w .is-made;
         unfloundered = w .unfloundered;
         awaited = w .awaited;
         calls = calls-grow floundered-now (w .calls);
       }) (still ws (all-rest o))
 
-  module _ (strand : Strand) (y : SoundClause n (strand .ex-clause)) (nothing-left : is-empty (strand .ex-clause .subgoals) ≡ true → (not (is-empty (strand .ex-clause .floundered-subgoals)) && not (strand .ex-clause .ambiguous)) ≡ false) where
-    stored : {a : Answer} (t' : Table) → held f < 256 → Longer n (f .tables) a (x .0 .standing .own) t' → Answered (length (x .0 .standing .own .answers)) (with-tables f (set (f .tables) (e .table) t'))
+  module _ (strand : Strand) (y : SoundClause n (strand .ex-clause))
+      (nothing-left : is-empty (strand .ex-clause .subgoals) ≡ true
+      → (not (is-empty (strand .ex-clause .floundered-subgoals)) && not (strand .ex-clause .ambiguous)) ≡ false) where
+    stored : {a : Answer} (t' : Table) → held f < 256 → Longer n (f .tables) a (x .0 .standing .own) t'
+        → Answered (length (x .0 .standing .own .answers)) (with-tables f (set (f .tables) (e .table) t'))
     stored {a} t' h l =
         let k = x .0 .standing .is-made in
         let one = l .one-more in
@@ -147,13 +181,26 @@ module _ (n root index first : ℕ) (f : Forest) (e : StackEntry) (es : Stack) (
         guard (not (is-empty (c .subgoals))) 25 tt (λ b.
         asserted (not (is-empty (c .floundered-subgoals)) && not (c .ambiguous)) 0 (nothing-left (not-false (is-empty (c .subgoals)) b))
         (by-bool (is-outsized (c .subst))
-        (λ q. known _ (change-is f (e .table) t mark-floundered k) (goes {a = (none, with-tables f (set (f .tables) (e .table) (mark-floundered t)))} marked))
+        (λ q. known _ (change-is f (e .table) t mark-floundered k)
+        (goes {a = (none, with-tables f (set (f .tables) (e .table) (mark-floundered t)))} marked))
         (λ q. known _ (table-is f (e .table) t k)
-        (after (pushes (table-sound (x .0 .forest) (e .table) k) (x .0 .standing .unfloundered) (held f) (record { variant = c .subst .variant; delayed-subgoals = other-than (t .table-goal) (c .delayed-subgoals); ambiguous = c .ambiguous }) (other-goals (t .table-goal) (y .delayed-named), (let o = y .few-delayed in let p = other-fewer (t .table-goal) (c .delayed-subgoals) in omega arith))) (λ r p. by-option (r .0)
+        (after (pushes (table-sound (x .0 .forest) (e .table) k) (x .0 .standing .unfloundered) (held f) (record {
+          variant = c .subst .variant;
+          delayed-subgoals = other-than (t .table-goal) (c .delayed-subgoals);
+          ambiguous = c .ambiguous;
+        }) (
+          other-goals (t .table-goal) (y .delayed-named),
+          (let o = y .few-delayed in let p = other-fewer (t .table-goal) (c .delayed-subgoals) in omega arith),
+        )) (λ r p. by-option (r .0)
         (λ w. goes {a = (none, f)} unchanged)
         (λ i w.
         let z = p .when-new i w in
         let t' : Table = elim (not (c .ambiguous) && is-trivial (c .subst .variant)) [ true ↦ take-strands (r .1) | false ↦ r .1 ] in
-        let l = case-bool (Longer n (f .tables) (record { variant = c .subst .variant; delayed-subgoals = other-than (t .table-goal) (c .delayed-subgoals); ambiguous = c .ambiguous }) t) (not (c .ambiguous) && is-trivial (c .subst .variant)) (λ v. emptied (z .2)) (λ v. z .2) in
+        let l = case-bool (Longer n (f .tables) (record {
+          variant = c .subst .variant;
+          delayed-subgoals = other-than (t .table-goal) (c .delayed-subgoals);
+          ambiguous = c .ambiguous;
+        }) t) (not (c .ambiguous) && is-trivial (c .subst .variant)) (λ v. emptied (z .2)) (λ v. z .2) in
         known _ (change-is f (e .table) t (λ _. t') k)
-        (goes {a = (some i, with-tables f (set (f .tables) (e .table) t'))} (subst (λ j. Answered j (with-tables f (set (f .tables) (e .table) t'))) (sym (z .0)) (stored t' (z .1) l)))))))))
+        (goes {a = (some i, with-tables f (set (f .tables) (e .table) t'))}
+        (subst (λ j. Answered j (with-tables f (set (f .tables) (e .table) t'))) (sym (z .0)) (stored t' (z .1) l)))))))))

@@ -14,7 +14,8 @@ use Rattle.laws.proofs.Options.{no-such, same-some}
 use Rattle.promises.proofs.Asserts.Lists.{all-at, place-under, total-one}
 use Rattle.promises.proofs.Asserts.Sound.{SoundForest, Below, Off, Searching}
 
-map-at : {A B : Type 0} (h : A → B) (l : List A) (i : ℕ) (b : B) → getElem? (map h l) i ≡ some b → (a : A) × (getElem? l i ≡ some a) × (h a ≡ b)
+map-at : {A B : Type 0} (h : A → B) (l : List A) (i : ℕ) (b : B) → getElem? (map h l) i ≡ some b
+    → (a : A) × (getElem? l i ≡ some a) × (h a ≡ b)
 map-at h [] i b e = absurd (no-such e)
 map-at h (a ∷ l) zero b e = (a, refl, same-some e)
 map-at h (a ∷ l) (suc i) b e = map-at h l i b e
@@ -22,7 +23,9 @@ map-at h (a ∷ l) (suc i) b e = map-at h l i b e
 -- a table for a goal
 pub few-tables : {n : ℕ} {f : Forest} → SoundForest n f → length (f .tables) ≤ n
 few-tables {n} {f} s =
-    let few = few-distinct n (map (λ t. t .table-goal) (f .tables)) distinct (λ i g e. let r = map-at (λ t. t .table-goal) (f .tables) i g e in subst (λ z. z < n) (r .2) (all-at i (s .sound-tables) (r .1) .goal-named)) in
+    let few = few-distinct n (map (λ t. t .table-goal) (f .tables)) distinct
+    (λ i g e. let r = map-at (λ t. t .table-goal) (f .tables) i g e in
+    subst (λ z. z < n) (r .2) (all-at i (s .sound-tables) (r .1) .goal-named)) in
     let size = length-map (f .tables) (λ t. t .table-goal) in
     omega arith
   where
@@ -46,24 +49,31 @@ distinct-more t es o d zero (suc j) g a b = let r = map-at (λ e. e .table) es j
 distinct-more t es o d (suc i) zero g a b = let r = map-at (λ e. e .table) es i g a in absurd (all-at i o (r .1) (r .2 ∙ sym (same-some b)))
 distinct-more t es o d (suc i) (suc j) g a b = ap suc (d i j g a b)
 
-below-distinct : (n : ℕ) (ts : Tables) (root first table clock : ℕ) (es : Stack) → Below n ts root first table clock es → Distinct (tables-of es)
+below-distinct : (n : ℕ) (ts : Tables) (root first table clock : ℕ) (es : Stack) → Below n ts root first table clock es
+    → Distinct (tables-of es)
 below-distinct n ts root first table clock [] x = λ i j g a. absurd (no-such a)
-below-distinct n ts root first table clock (e ∷ es) x = distinct-more (e .table) es (x .3) (below-distinct n ts root first (e .table) (e .clock) es (x .2))
+below-distinct n ts root first table clock (e ∷ es) x =
+    distinct-more (e .table) es (x .3) (below-distinct n ts root first (e .table) (e .clock) es (x .2))
 
-below-made : (n : ℕ) (ts : Tables) (root first table clock : ℕ) (es : Stack) → Below n ts root first table clock es → (i g : ℕ) → getElem? (tables-of es) i ≡ some g → g < length ts
+below-made : (n : ℕ) (ts : Tables) (root first table clock : ℕ) (es : Stack) → Below n ts root first table clock es → (i g : ℕ)
+    → getElem? (tables-of es) i ≡ some g → g < length ts
 below-made n ts root first table clock [] x i g a = absurd (no-such a)
-below-made n ts root first table clock (e ∷ es) x zero g a = subst (λ z. z < length ts) (same-some a) (place-under ts (e .table) (x .0 .own) (x .0 .is-made))
+below-made n ts root first table clock (e ∷ es) x zero g a =
+    subst (λ z. z < length ts) (same-some a) (place-under ts (e .table) (x .0 .own) (x .0 .is-made))
 below-made n ts root first table clock (e ∷ es) x (suc i) g a = below-made n ts root first (e .table) (e .clock) es (x .2) i g a
 
-pub entries-at-most : {n root index first : ℕ} {f : Forest} {table clock : ℕ} {m : Minimums} {es : Stack} → Searching n root index first f table clock m es → suc (length es) ≤ 64
+pub entries-at-most : {n root index first : ℕ} {f : Forest} {table clock : ℕ} {m : Minimums} {es : Stack}
+    → Searching n root index first f table clock m es → suc (length es) ≤ 64
 entries-at-most {n} {root} {index} {first} {f} {table} {clock} {m} {es} x =
-    let few = few-distinct (length (f .tables)) (table ∷ tables-of es) (distinct-more table es (x .off) (below-distinct n (f .tables) root first table clock es (x .below))) made in
+    let few = few-distinct (length (f .tables)) (table ∷ tables-of es)
+    (distinct-more table es (x .off) (below-distinct n (f .tables) root first table clock es (x .below))) made in
     let size = length-map es (λ e. e .table) in
     let tables = tables-at-most (x .forest) in
     omega arith
   where
     made : (i g : ℕ) → getElem? (table ∷ tables-of es) i ≡ some g → g < length (f .tables)
-    made zero g a = subst (λ z. z < length (f .tables)) (same-some a) (place-under (f .tables) table (x .standing .own) (x .standing .is-made))
+    made zero g a = subst (λ z. z < length (f .tables)) (same-some a)
+        (place-under (f .tables) table (x .standing .own) (x .standing .is-made))
     made (suc i) g a = below-made n (f .tables) root first table clock es (x .below) i g a
 
 -- one table's strands and answers

@@ -18,9 +18,12 @@ use Rattle.definitions.specs.Table.{Table}
 use Rattle.definitions.specs.Tables.{Tables, Forest, table-at, queued}
 use Rattle.definitions.specs.Stack.{active}
 use Rattle.definitions.specs.Slg.{next-subgoal-index}
-use Rattle.definitions.specs.Logic.{SubGoalSelection, Selected, NotSelected, SolveState, Selection, selecting, flounder-subgoal, reconsider-floundered-subgoals, propagate-floundered-subgoal, get-or-create-table-for-subgoal, select-from, select-subgoal}
+use Rattle.definitions.specs.Logic.{SubGoalSelection, Selected, NotSelected, SolveState, Selection, selecting, flounder-subgoal}
+use Rattle.definitions.specs.Logic.{reconsider-floundered-subgoals, propagate-floundered-subgoal, get-or-create-table-for-subgoal}
+use Rattle.definitions.specs.Logic.{select-from, select-subgoal}
 use Rattle.laws.proofs.Lists.{at-place}
-use Rattle.promises.proofs.Asserts.Safe.{true-false, false-true, Safe, goes, after, weaker, known, asserted, by-bool, by-option, unwraps}
+use Rattle.promises.proofs.Asserts.Safe.{true-false, false-true, Safe, goes, after, weaker, known, asserted, by-bool, by-option}
+use Rattle.promises.proofs.Asserts.Safe.{unwraps}
 use Rattle.promises.proofs.Asserts.Lists.{all-at, is-nil, not-nil, no-nil}
 use Rattle.promises.proofs.Asserts.Sound.{Awaits, Selects, SoundClause, SoundStrand, SoundForest}
 use Rattle.promises.proofs.Asserts.Keeping.{Kept, kept-same, kept-trans, table-is}
@@ -38,7 +41,8 @@ pub record Ready (f : Forest) (s : Strand) : Type 0 where
 -- what is known after the choice
 abbrev pub Choice : Forest → Strand → SubGoalSelection → Type 0
 Choice f s Selected = Ready f s
-Choice f s NotSelected = is-empty (s .ex-clause .subgoals) ≡ true → (not (is-empty (s .ex-clause .floundered-subgoals)) && not (s .ex-clause .ambiguous)) ≡ false
+Choice f s NotSelected = is-empty (s .ex-clause .subgoals) ≡ true
+    → (not (is-empty (s .ex-clause .floundered-subgoals)) && not (s .ex-clause .ambiguous)) ≡ false
 
 pub record Chosen (n others : ℕ) (f : Forest) (c : Selection) : Type 0 where
   pub kept : Kept n f (c .forest)
@@ -56,7 +60,9 @@ pub record Propagated (n : ℕ) (ts : Tables) (s : Strand) (stuck : Bool) (s' : 
   pub when-stuck : stuck ≡ true → 0 < length (s' .ex-clause .subgoals)
   pub when-gone : stuck ≡ false → Floundered n (s .ex-clause) (s' .ex-clause) × (s' .selected-subgoal ≡ none)
 
-propagates : {n : ℕ} {ts : Tables} (s : Strand) → SoundClause n (s .ex-clause) → (selected : SelectedSubgoal) → selected .subgoal-index < length (s .ex-clause .subgoals) → Safe (λ r. Propagated n ts s (r .0) (r .1)) (propagate-floundered-subgoal s selected)
+propagates : {n : ℕ} {ts : Tables} (s : Strand) → SoundClause n (s .ex-clause) → (selected : SelectedSubgoal)
+    → selected .subgoal-index < length (s .ex-clause .subgoals)
+    → Safe (λ r. Propagated n ts s (r .0) (r .1)) (propagate-floundered-subgoal s selected)
 propagates {n} {ts} s x selected lt =
     let l = at-place (s .ex-clause .subgoals) (selected .subgoal-index) lt in
     known _ (unwraps (getElem? (s .ex-clause .subgoals) (selected .subgoal-index)) (l .0) (l .1)) (by-literal (l .0))
@@ -65,10 +71,15 @@ propagates {n} {ts} s x selected lt =
     some-there = omega arith
 
     by-literal : (l : Literal) → Safe (λ (r : Bool × Strand). Propagated n ts s (r .0) (r .1)) (elim l [
-      | Positive goal want outsized ↦ flounder-subgoal (s .ex-clause) (selected .subgoal-index) >>= λ x. go (false, with-ex-clause (with-selected s none) x)
+      | Positive goal want outsized ↦ flounder-subgoal (s .ex-clause) (selected .subgoal-index) >>= λ x. go
+          (false, with-ex-clause (with-selected s none) x)
       | Negative goal outsized ↦ go (true, with-selected s none)
     ])
-    by-literal (Positive goal want outsized) = after (flounders x (selected .subgoal-index) lt) (λ x' y. goes (record { sound = (y .clause, tt); when-stuck = λ e. false-true e; when-gone = λ e. (y, refl) }))
+    by-literal (Positive goal want outsized) = after (flounders x (selected .subgoal-index) lt) (λ x' y. goes (record {
+      sound = (y .clause, tt);
+      when-stuck = λ e. false-true e;
+      when-gone = λ e. (y, refl);
+    }))
     by-literal (Negative goal outsized) = goes (record { sound = (x, tt); when-stuck = λ e. some-there; when-gone = λ e. true-false e })
 
 -- The passes.
@@ -82,9 +93,11 @@ abbrev Enough : (passes : ℕ) → ExClause → Option SelectedSubgoal → Type 
 Enough p x o = 2 * length (x .subgoals) + 2 * lates x + min 1 (lates x) < p + busy o
 
 abbrev Chooses : (n others passes : ℕ) → Type 0
-Chooses n others p = (f : Forest) (s : Strand) → SoundForest n f → SoundStrand n (f .tables) s → others + queued f ≤ 256 → Enough p (s .ex-clause) (s .selected-subgoal) → Safe (Chosen n others f) (select-from p others f s)
+Chooses n others p = (f : Forest) (s : Strand) → SoundForest n f → SoundStrand n (f .tables) s → others + queued f ≤ 256
+    → Enough p (s .ex-clause) (s .selected-subgoal) → Safe (Chosen n others f) (select-from p others f s)
 
-module _ (n others p : ℕ) (ih : Chooses n others p) (f : Forest) (s : Strand) (sf : SoundForest n f) (ss : SoundStrand n (f .tables) s) (free : others + queued f ≤ 256) (room : Enough (suc p) (s .ex-clause) (s .selected-subgoal)) where
+module _ (n others p : ℕ) (ih : Chooses n others p) (f : Forest) (s : Strand) (sf : SoundForest n f) (ss : SoundStrand n (f .tables) s)
+    (free : others + queued f ≤ 256) (room : Enough (suc p) (s .ex-clause) (s .selected-subgoal)) where
   is-busy : (o : Option SelectedSubgoal) (selected : SelectedSubgoal) → o ≡ some selected → busy o ≡ 1
   is-busy o selected e = ap busy e
 
@@ -92,7 +105,8 @@ module _ (n others p : ℕ) (ih : Chooses n others p) (f : Forest) (s : Strand) 
   is-idle o e = ap busy e
 
   -- nothing is selected, and only floundered literals are left
-  reconsider : s .selected-subgoal ≡ none → is-empty (s .ex-clause .subgoals) ≡ true → is-empty (s .ex-clause .floundered-subgoals) ≡ false → Safe (Chosen n others f) (
+  reconsider : s .selected-subgoal ≡ none → is-empty (s .ex-clause .subgoals) ≡ true → is-empty (s .ex-clause .floundered-subgoals) ≡ false
+      → Safe (Chosen n others f) (
       let x = reconsider-floundered-subgoals (s .ex-clause) in
       elim (is-empty (x .subgoals)) [
         | true ↦ stop-if (is-empty (x .floundered-subgoals)) 0 >> go (selecting NotSelected (with-ex-clause s (with-ambiguous x true)) f)
@@ -113,7 +127,16 @@ module _ (n others p : ℕ) (ih : Chooses n others p) (f : Forest) (s : Strand) 
       (goes (record {
         kept = kept-same sf;
         places = free;
-        sound = (record { subgoals-named = r .clause .subgoals-named; floundered-named = r .clause .floundered-named; delayed-named = r .clause .delayed-named; few-literals = r .clause .few-literals; few-delayed = r .clause .few-delayed }, selects (length (x .subgoals)));
+        sound = (
+          record {
+            subgoals-named = r .clause .subgoals-named;
+            floundered-named = r .clause .floundered-named;
+            delayed-named = r .clause .delayed-named;
+            few-literals = r .clause .few-literals;
+            few-delayed = r .clause .few-delayed;
+          },
+          selects (length (x .subgoals)),
+        );
         choice = λ w. rw (no-nil (x .floundered-subgoals) (omega arith));
       })))
       (λ q. let z = not-nil (x .subgoals) q in ih f (with-ex-clause s x) sf (r .clause, selects (length (x .subgoals))) free (omega arith))
@@ -121,8 +144,10 @@ module _ (n others p : ℕ) (ih : Chooses n others p) (f : Forest) (s : Strand) 
   -- nothing is selected, and there is a literal
   choose : s .selected-subgoal ≡ none → is-empty (s .ex-clause .subgoals) ≡ false → Safe (Chosen n others f) (
       let i = next-subgoal-index (s .ex-clause) in
-      unwrap (getElem? (s .ex-clause .subgoals) i) >>= λ literal. get-or-create-table-for-subgoal others f literal >>= λ found. elim (found .0) [
-        | some table ↦ select-from p others (found .1) (with-selected s (some (record { subgoal-index = i; subgoal-table = table; answer-index = 0 })))
+      unwrap (getElem? (s .ex-clause .subgoals) i) >>= λ literal. get-or-create-table-for-subgoal others f
+      literal >>= λ found. elim (found .0) [
+        | some table ↦ select-from p others (found .1)
+            (with-selected s (some (record { subgoal-index = i; subgoal-table = table; answer-index = 0 })))
         | none ↦ flounder-subgoal (s .ex-clause) i >>= λ x. select-from p others f (with-ex-clause s x)
       ])
   choose e some-literal =
@@ -138,24 +163,46 @@ module _ (n others p : ℕ) (ih : Chooses n others p) (f : Forest) (s : Strand) 
       ih f (with-ex-clause s x) sf (y .clause, subst (Selects (f .tables) (length (x .subgoals))) (sym e) tt) free (omega arith)))
       (λ t q.
       let w = m .made t q in
-      chosen-after (m .kept) (ih (found .1) (with-selected s (some (record { subgoal-index = i; subgoal-table = t; answer-index = 0 }))) (m .kept .sound)
-      (ss .0, record { at-literal = omega arith; is-last = omega arith; table = w .0; is-made = w .1; reached = inr (omega arith) }) (m .places) (omega arith)))))
+      chosen-after (m .kept) (ih (found .1) (with-selected s (some (record { subgoal-index = i; subgoal-table = t; answer-index = 0 })))
+      (m .kept .sound) (
+        ss .0,
+        record {
+          at-literal = omega arith;
+          is-last = omega arith;
+          table = w .0;
+          is-made = w .1;
+          reached = inr (omega arith);
+        },
+      ) (m .places) (omega arith)))))
 
   -- something is selected
   on-selected : (selected : SelectedSubgoal) → s .selected-subgoal ≡ some selected → Safe (Chosen n others f) (
       table-at f (selected .subgoal-table) >>= λ table. elim (table .floundered) [
         | false ↦ go (selecting Selected s f)
-        | true ↦ propagate-floundered-subgoal s selected >>= λ propagated. elim (propagated .0) [ true ↦ go (selecting NotSelected (propagated .1) f) | false ↦ select-from p others f (propagated .1) ]
+        | true ↦ propagate-floundered-subgoal s selected >>= λ propagated. elim (propagated .0)
+            [ true ↦ go (selecting NotSelected (propagated .1) f) | false ↦ select-from p others f (propagated .1) ]
       ])
   on-selected selected e =
-      let w : Awaits (f .tables) (length (s .ex-clause .subgoals)) selected = subst (Selects (f .tables) (length (s .ex-clause .subgoals))) e (ss .1) in
+      let w : Awaits (f .tables) (length (s .ex-clause .subgoals)) selected =
+      subst (Selects (f .tables) (length (s .ex-clause .subgoals))) e (ss .1) in
       let one = is-busy (s .selected-subgoal) selected e in
       known _ (table-is f (selected .subgoal-table) (w .table) (w .is-made))
       (by-bool (w .table .floundered)
       (λ q. after (propagates {ts = f .tables} s (ss .0) selected (w .at-literal)) (λ r y. by-bool (r .0)
-      (λ stuck. goes (record { kept = kept-same sf; places = free; sound = y .sound; choice = λ k. let z = y .when-stuck stuck in let z′ = is-nil (r .1 .ex-clause .subgoals) k in absurd (omega arith) }))
-      (λ gone. let z = y .when-gone gone in let a = z .0 .fewer in let b = z .0 .same-lates in let c = is-idle (r .1 .selected-subgoal) (z .1) in ih f (r .1) sf (y .sound) free (omega arith))))
-      (λ q. goes (record { kept = kept-same sf; places = free; sound = ss; choice = record { selected = selected; is-selected = e; own = w .table; is-made = w .is-made; unfloundered = q } })))
+      (λ stuck. goes (record {
+        kept = kept-same sf;
+        places = free;
+        sound = y .sound;
+        choice = λ k. let z = y .when-stuck stuck in let z′ = is-nil (r .1 .ex-clause .subgoals) k in absurd (omega arith);
+      }))
+      (λ gone. let z = y .when-gone gone in let a = z .0 .fewer in let b = z .0 .same-lates in
+      let c = is-idle (r .1 .selected-subgoal) (z .1) in ih f (r .1) sf (y .sound) free (omega arith))))
+      (λ q. goes (record {
+        kept = kept-same sf;
+        places = free;
+        sound = ss;
+        choice = record { selected = selected; is-selected = e; own = w .table; is-made = w .is-made; unfloundered = q };
+      })))
 
   a-pass : Safe (Chosen n others f) (select-from (suc p) others f s)
   a-pass = by-option (s .selected-subgoal)
@@ -185,7 +232,9 @@ lates-few x = go′ (x .floundered-subgoals)
     go′ [] = omega arith
     go′ (a ∷ l) = let y = go′ l in let z = one (ltb (a .floundered-time) (x .answer-time)) in omega arith
 
-pub selects-safely : {n : ℕ} (s : SolveState) (strand : Strand) → SoundForest n (s .forest) → SoundStrand n (s .forest .tables) strand → queued (s .forest) + active (s .stack) < 256 → Safe (Chosen n (active (s .stack) + 1) (s .forest)) (select-subgoal s strand)
+pub selects-safely : {n : ℕ} (s : SolveState) (strand : Strand) → SoundForest n (s .forest) → SoundStrand n (s .forest .tables) strand
+    → queued (s .forest) + active (s .stack) < 256 → Safe (Chosen n (active (s .stack) + 1) (s .forest)) (select-subgoal s strand)
 selects-safely {n} s strand sf ss free =
     let few = lates-few (strand .ex-clause) in
-    chooses n (active (s .stack) + 1) (2 * (length (strand .ex-clause .subgoals) + length (strand .ex-clause .floundered-subgoals)) + 4) (s .forest) strand sf ss (omega arith) (omega arith)
+    chooses n (active (s .stack) + 1) (2 * (length (strand .ex-clause .subgoals) + length (strand .ex-clause .floundered-subgoals)) + 4)
+    (s .forest) strand sf ss (omega arith) (omega arith)

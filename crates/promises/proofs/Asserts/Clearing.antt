@@ -13,21 +13,24 @@ use Rattle.laws.proofs.Lists.{total-set}
 use Rattle.promises.proofs.Asserts.Safe.{Safe, stops, goes, after, weaker, known, by-option}
 use Rattle.promises.proofs.Asserts.Lists.{All, end, all-first, all-rest, all-map}
 use Rattle.promises.proofs.Asserts.Sound.{Awaits, Selects, SoundStrand, SoundForest}
-use Rattle.promises.proofs.Asserts.Keeping.{grows-above, strand-grows, Kept, kept-same, kept-trans, strands-kept, table-is, change-is, table-sound}
+use Rattle.promises.proofs.Asserts.Keeping.{grows-above, strand-grows, Kept, kept-same, kept-trans, strands-kept, table-is}
+use Rattle.promises.proofs.Asserts.Keeping.{change-is, table-sound}
 
 pub record Cleared (n : ℕ) (f f' : Forest) : Type 0 where
   pub kept : Kept n f f'
   pub fewer : queued f' ≤ queued f
 
 abbrev Clears : (n d : ℕ) → (List Strand → Forest → Stops Forest) → Type 0
-Clears n d clear = (ss : List Strand) (f : Forest) → All (SoundStrand n (f .tables)) ss → SoundForest n f → min 1 (length ss) + queued f ≤ d → Safe (Cleared n f) (clear ss f)
+Clears n d clear = (ss : List Strand) (f : Forest) → All (SoundStrand n (f .tables)) ss → SoundForest n f → min 1 (length ss) + queued f ≤ d
+    → Safe (Cleared n f) (clear ss f)
 
 each-clears : (n d : ℕ) (clear : List Strand → Forest → Stops Forest) → Clears n d clear → Clears n (suc d) (clear-each clear)
 each-clears n d clear h [] f x s room = goes (record { kept = kept-same s; fewer = omega arith })
 each-clears n d clear h (z ∷ ss) f x s room = by-option (z .selected-subgoal)
     (λ e. stops tt)
     (λ sel e.
-    let w : Awaits (f .tables) (length (z .ex-clause .subgoals)) sel = subst (Selects (f .tables) (length (z .ex-clause .subgoals))) e (all-first x .1) in
+    let w : Awaits (f .tables) (length (z .ex-clause .subgoals)) sel =
+    subst (Selects (f .tables) (length (z .ex-clause .subgoals))) e (all-first x .1) in
     let t = w .table in
     let i = sel .subgoal-table in
     let f' = with-tables f (set (f .tables) i (take-strands t)) in
@@ -39,7 +42,8 @@ each-clears n d clear h (z ∷ ss) f x s room = by-option (z .selected-subgoal)
     (after (h (t .strands) f' (all-map grow (table-sound s i (w .is-made) .sound-strands)) (k .sound) (omega arith)) (λ f″ c.
     let lt = c .fewer in
     let both = kept-trans k (c .kept) in
-    weaker (each-clears n d clear h ss f″ (all-map (strand-grows {n = n} (grows-above (both .grows))) (all-rest x)) (c .kept .sound) (omega arith))
+    weaker (each-clears n d clear h ss f″ (all-map (strand-grows {n = n} (grows-above (both .grows))) (all-rest x)) (c .kept .sound)
+    (omega arith))
     (λ g y. record { kept = kept-trans both (y .kept); fewer = let lt′ = y .fewer in omega arith })))))
 
 pub clears : (n d : ℕ) → Clears n d (clear-strands-after-cycle d)

@@ -58,7 +58,8 @@ module _ {A : Type 0} {P : A → Type 0} where
   pub all-rotate : {l : List A} (i : ℕ) → All P l → All P (rotate-left l i)
   all-rotate i x = all-append (all-drop i x) (all-take i x)
 
-  all-swapped : {l : List A} (i : ℕ) (o : Option A) → getElem? l (length l - 1) ≡ o → All P l → All P (elim o [ none ↦ l | some z ↦ take (length l - 1) (set l i z) ])
+  all-swapped : {l : List A} (i : ℕ) (o : Option A) → getElem? l (length l - 1) ≡ o → All P l
+      → All P (elim o [ none ↦ l | some z ↦ take (length l - 1) (set l i z) ])
   all-swapped i none e x = x
   all-swapped {l} i (some z) e x = all-take (length l - 1) (all-set i x (all-at (length l - 1) x e))
 
@@ -141,13 +142,16 @@ module _ {A : Type 0} where
   take-front f [] z = refl
   take-front f (b ∷ m) z = let x = take-front f m z in omega arith
 
-  swapped-total : (f : A → ℕ) (m : List A) (z : A) (i : ℕ) (a : A) → getElem? (m ++ (z ∷ [])) i ≡ some a → total f (take (length m) (set (m ++ (z ∷ [])) i z)) + f a ≡ total f (m ++ (z ∷ []))
+  swapped-total : (f : A → ℕ) (m : List A) (z : A) (i : ℕ) (a : A) → getElem? (m ++ (z ∷ [])) i ≡ some a
+      → total f (take (length m) (set (m ++ (z ∷ [])) i z)) + f a ≡ total f (m ++ (z ∷ []))
   swapped-total f [] z zero a e = let k : f z ≡ f a = ap f (same-some e) in omega arith
   swapped-total f [] z (suc i) a e = absurd (no-such e)
-  swapped-total f (b ∷ m) z zero a e = let k : f b ≡ f a = ap f (same-some e) in let x = take-front f m z in let y = total-append f m (z ∷ []) in omega arith
+  swapped-total f (b ∷ m) z zero a e = let k : f b ≡ f a = ap f (same-some e) in let x = take-front f m z in
+      let y = total-append f m (z ∷ []) in omega arith
   swapped-total f (b ∷ m) z (suc i) a e = let x = swapped-total f m z i a e in omega arith
 
-  swapped-front : (f : A → ℕ) (m : List A) (z : A) (i : ℕ) (a : A) → getElem? (m ++ (z ∷ [])) i ≡ some a → total f (take i (take (length m) (set (m ++ (z ∷ [])) i z))) ≡ total f (take i (m ++ (z ∷ [])))
+  swapped-front : (f : A → ℕ) (m : List A) (z : A) (i : ℕ) (a : A) → getElem? (m ++ (z ∷ [])) i ≡ some a
+      → total f (take i (take (length m) (set (m ++ (z ∷ [])) i z))) ≡ total f (take i (m ++ (z ∷ [])))
   swapped-front f [] z zero a e = refl
   swapped-front f [] z (suc i) a e = absurd (no-such e)
   swapped-front f (b ∷ m) z zero a e = refl
@@ -172,7 +176,10 @@ module _ {A : Type 0} where
     pub front : total f (take i (swap-remove l i)) ≡ total f (take i l)
 
   swapped-snoc : (f : A → ℕ) (m : List A) (z : A) (i : ℕ) (a : A) → getElem? (m ++ (z ∷ [])) i ≡ some a → Swapped f (m ++ (z ∷ [])) i a
-  swapped-snoc f m z i a e = record { less = rw (swap-is m z i) (swapped-total f m z i a e); front = rw (swap-is m z i) (swapped-front f m z i a e) }
+  swapped-snoc f m z i a e = record {
+    less = rw (swap-is m z i) (swapped-total f m z i a e);
+    front = rw (swap-is m z i) (swapped-front f m z i a e);
+  }
 
   pub swapped : (f : A → ℕ) (l : List A) (i : ℕ) (a : A) → getElem? l i ≡ some a → Swapped f l i a
   swapped f [] i a e = absurd (no-such e)
@@ -188,13 +195,17 @@ module _ {A : Type 0} where
   position-at test [] i e = absurd (no-such e)
   position-at test (b ∷ l) i e = at (position-at test l) (test b) i e
     where
-      later : (o : Option ℕ) → position test l ≡ o → (i : ℕ) → elim o [ none ↦ none | some j ↦ some (suc j) ] ≡ some i → (j : ℕ) × (position test l ≡ some j) × (suc j ≡ i)
+      later : (o : Option ℕ) → position test l ≡ o → (i : ℕ) → elim o [ none ↦ none | some j ↦ some (suc j) ] ≡ some i
+          → (j : ℕ) × (position test l ≡ some j) × (suc j ≡ i)
       later none k i e = absurd (no-such e)
       later (some j) k i e = (j, k, same-some e)
 
-      at : ((i : ℕ) → position test l ≡ some i → (a : A) × (getElem? l i ≡ some a)) → (t : Bool) (i : ℕ) → elim t [ true ↦ some 0 | false ↦ elim (position test l) [ none ↦ none | some j ↦ some (suc j) ] ] ≡ some i → (a : A) × (getElem? (b ∷ l) i ≡ some a)
+      at : ((i : ℕ) → position test l ≡ some i → (a : A) × (getElem? l i ≡ some a)) → (t : Bool) (i : ℕ)
+          → elim t [ true ↦ some 0 | false ↦ elim (position test l) [ none ↦ none | some j ↦ some (suc j) ] ] ≡ some i
+          → (a : A) × (getElem? (b ∷ l) i ≡ some a)
       at h true i e = (b, subst (λ z. getElem? (b ∷ l) z ≡ some b) (same-some e) refl)
-      at h false i e = let r = later (position test l) refl i e in let q = h (r .0) (r .1) in (q .0, subst (λ z. getElem? (b ∷ l) z ≡ some (q .0)) (r .2) (q .1))
+      at h false i e = let r = later (position test l) refl i e in let q = h (r .0) (r .1) in
+          (q .0, subst (λ z. getElem? (b ∷ l) z ≡ some (q .0)) (r .2) (q .1))
 
   -- a search that finds nothing
   pub position-none : (test : A → Bool) (l : List A) → position test l ≡ none → (i : ℕ) (a : A) → getElem? l i ≡ some a → test a ≡ false
@@ -205,7 +216,10 @@ module _ {A : Type 0} where
       later none e = refl
       later (some j) e = absurd (no-such (sym e))
 
-      at : (t : Bool) → test b ≡ t → _≡_ {A = Option ℕ} (elim t [ true ↦ some 0 | false ↦ elim (position test l) [ none ↦ none | some j ↦ some (suc j) ] ]) none → (position test l ≡ none → (i : ℕ) (a : A) → getElem? l i ≡ some a → test a ≡ false) → (i : ℕ) → getElem? (b ∷ l) i ≡ some a → test a ≡ false
+      at : (t : Bool) → test b ≡ t → _≡_ {A = Option ℕ}
+          (elim t [ true ↦ some 0 | false ↦ elim (position test l) [ none ↦ none | some j ↦ some (suc j) ] ]) none
+          → (position test l ≡ none → (i : ℕ) (a : A) → getElem? l i ≡ some a → test a ≡ false) → (i : ℕ) → getElem? (b ∷ l) i ≡ some a
+          → test a ≡ false
       at true q e h i k = absurd (no-such (sym e))
       at false q e h zero k = ap test (sym (same-some k)) ∙ q
       at false q e h (suc i) k = h (later (position test l) e) i a k
@@ -218,7 +232,8 @@ module _ {A : Type 0} where
   set-other (c ∷ l) (suc i) (suc j) a n = set-other l i j a (λ k. n (ap suc k))
 
   -- a place of a list with one more
-  pub at-push : (l : List A) (z : A) (i : ℕ) (a : A) → getElem? (l ++ (z ∷ [])) i ≡ some a → (getElem? l i ≡ some a) ⊎ ((z ≡ a) × (i ≡ length l))
+  pub at-push : (l : List A) (z : A) (i : ℕ) (a : A) → getElem? (l ++ (z ∷ [])) i ≡ some a
+      → (getElem? l i ≡ some a) ⊎ ((z ≡ a) × (i ≡ length l))
   at-push [] z zero a e = inr (same-some e, refl)
   at-push [] z (suc i) a e = absurd (no-such e)
   at-push (b ∷ l) z zero a e = inl e

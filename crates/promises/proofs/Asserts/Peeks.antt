@@ -28,16 +28,24 @@ module _ (n root limit : ℕ) where
       let c = w .ended .sound .few-answers in
       omega arith
 
-  by-invalid : (b : Bool) (index k : ℕ) (r : Searched) → is-invalid (r .ending) ≡ b → 256 ≤ index → Well n root index r → PeekWell n root (peeked index k r)
+  by-invalid : (b : Bool) (index k : ℕ) (r : Searched) → is-invalid (r .ending) ≡ b → 256 ≤ index → Well n root index r
+      → PeekWell n root (peeked index k r)
   by-invalid true index k r e o w = let x = invalid-under index r w e in absurd (omega arith)
   by-invalid false index k r e o w = record { ended = w .ended; fine = w .fine; valid = e }
 
-  skips : (more k index : ℕ) (f : Forest) → 256 ≤ index + more → Ended n root index f → PeekWell n root (skip-invalid more limit k root index f)
-  skips zero k index f o x = let w = root-answers n root index limit f x in by-invalid (is-invalid (root-answer limit root index f .ending)) index k (root-answer limit root index f) refl (omega arith) w
+  skips : (more k index : ℕ) (f : Forest) → 256 ≤ index + more → Ended n root index f
+      → PeekWell n root (skip-invalid more limit k root index f)
+  skips zero k index f o x = let w = root-answers n root index limit f x in
+      by-invalid (is-invalid (root-answer limit root index f .ending)) index k (root-answer limit root index f) refl (omega arith) w
   skips (suc more) k index f o x =
       let w = root-answers n root index limit f x in
       case-bool (PeekWell n root) (is-invalid (root-answer limit root index f .ending))
-      (λ e. let y = w .when-invalid e in skips more k (suc index) (root-answer limit root index f .forest) (omega arith) (record { sound = w .ended .sound; own = y .own; is-made = y .is-made; reached = inr (y .enough) }))
+      (λ e. let y = w .when-invalid e in skips more k (suc index) (root-answer limit root index f .forest) (omega arith) (record {
+        sound = w .ended .sound;
+        own = y .own;
+        is-made = y .is-made;
+        reached = inr (y .enough);
+      }))
       (λ e. record { ended = w .ended; fine = w .fine; valid = e })
 
   pub peeks-well : (more k index : ℕ) (f : Forest) → Ended n root index f → PeekWell n root (peek-rounds more limit k root index f)
@@ -49,5 +57,6 @@ module _ (n root limit : ℕ) where
   peeks-well (suc more) k index f x =
       let p = skips 256 k index f (omega arith) x in
       case-bool (PeekWell n root) (is-exceeded (skip-invalid 256 limit k root index f .ending))
-      (λ e. peeks-well more (suc k) (skip-invalid 256 limit k root index f .index) (skip-invalid 256 limit k root index f .forest) (p .ended))
+      (λ e. peeks-well more (suc k) (skip-invalid 256 limit k root index f .index) (skip-invalid 256 limit k root index f .forest)
+      (p .ended))
       (λ e. p)

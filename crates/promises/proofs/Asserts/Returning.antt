@@ -16,7 +16,8 @@ use Rattle.definitions.specs.Logic.{flounder-subgoal, reconsider-from, reconsid
 use Rattle.promises.specs.NeverAsserts.{PassesFind}
 use Rattle.laws.proofs.Lists.{at-place}
 use Rattle.promises.proofs.Asserts.Safe.{Safe, goes, known, unwraps, case-option, case-bool}
-use Rattle.promises.proofs.Asserts.Lists.{all-at, all-push, all-remove, all-swap-remove, remove-length, total-append, total-length, take-whole, take-next, take-none, swapped}
+use Rattle.promises.proofs.Asserts.Lists.{all-at, all-push, all-remove, all-swap-remove, remove-length, total-append, total-length}
+use Rattle.promises.proofs.Asserts.Lists.{take-whole, take-next, take-none, swapped}
 use Rattle.promises.proofs.Asserts.Sound.{SoundClause}
 
 -- 1 for a literal that would return at this answer time
@@ -36,16 +37,26 @@ pub flounders : {n : ℕ} {x : ExClause} → SoundClause n x → (i : ℕ) → i
 flounders {n} {x} s i lt =
     let l = at-place (x .subgoals) i lt in
     let new : FlounderedSubgoal = record { floundered-literal = l .0; floundered-time = x .answer-time } in
-    let none-late : late (x .answer-time) new ≡ 0 = ap (λ b. elim b [ true ↦ 1 | false ↦ 0 ]) (le-ltb (x .answer-time) (x .answer-time) (omega arith)) in
+    let none-late : late (x .answer-time) new ≡ 0 =
+    ap (λ b. elim b [ true ↦ 1 | false ↦ 0 ]) (le-ltb (x .answer-time) (x .answer-time) (omega arith)) in
     let count = total-append (late (x .answer-time)) (x .floundered-subgoals) (new ∷ []) in
     known _ (unwraps (getElem? (x .subgoals) i) (l .0) (l .1)) (goes (record {
-      clause = record { subgoals-named = all-remove i (s .subgoals-named); floundered-named = all-push (s .floundered-named) (all-at i (s .subgoals-named) (l .1)); delayed-named = s .delayed-named; few-literals = let o = s .few-literals in let p = remove-length (x .subgoals) i lt in let q : length (x .floundered-subgoals ++ (new ∷ [])) ≡ length (x .floundered-subgoals) + 1 = length-append (x .floundered-subgoals) (new ∷ []) in omega arith; few-delayed = s .few-delayed };
+      clause = record {
+        subgoals-named = all-remove i (s .subgoals-named);
+        floundered-named = all-push (s .floundered-named) (all-at i (s .subgoals-named) (l .1));
+        delayed-named = s .delayed-named;
+        few-literals = let o = s .few-literals in let p = remove-length (x .subgoals) i lt in
+            let q : length (x .floundered-subgoals ++ (new ∷ [])) ≡ length (x .floundered-subgoals) + 1 = length-append
+            (x .floundered-subgoals) (new ∷ []) in omega arith;
+        few-delayed = s .few-delayed;
+      };
       fewer = remove-length (x .subgoals) i lt;
       same-lates = omega arith;
     }))
 
 -- A pass at a place takes away that one literal at most, so that the places below it are still there.
-module _ (i : ℕ) (ih : (x : ExClause) → i ≤ length (x .floundered-subgoals) → PassesFind i x) (x : ExClause) (enough : suc i ≤ length (x .floundered-subgoals)) where
+module _ (i : ℕ) (ih : (x : ExClause) → i ≤ length (x .floundered-subgoals) → PassesFind i x) (x : ExClause)
+    (enough : suc i ≤ length (x .floundered-subgoals)) where
   one-less : (l : FlounderedSubgoal) → getElem? (x .floundered-subgoals) i ≡ some l → i ≤ length (swap-remove (x .floundered-subgoals) i)
   one-less l e =
       let less = swapped (λ a. 1) (x .floundered-subgoals) i l e .less in
@@ -80,7 +91,8 @@ abbrev Reconsiders : (n i : ℕ) → Type 0
 Reconsiders n i = (x : ExClause) → SoundClause n x → Reconsidered n x i (reconsider-from i x)
 
 module _ (n i : ℕ) (ih : Reconsiders n i) (x : ExClause) (s : SoundClause n x) where
-  passed-by : total (late (x .answer-time)) (take (suc i) (x .floundered-subgoals)) ≡ total (late (x .answer-time)) (take i (x .floundered-subgoals)) → Reconsidered n x (suc i) (reconsider-from i x)
+  passed-by : total (late (x .answer-time)) (take (suc i) (x .floundered-subgoals)) ≡ total (late (x .answer-time))
+      (take i (x .floundered-subgoals)) → Reconsidered n x (suc i) (reconsider-from i x)
   passed-by e = let r = ih x s in record {
     clause = r .clause;
     returned = let y = r .returned in omega arith;
@@ -88,7 +100,9 @@ module _ (n i : ℕ) (ih : Reconsiders n i) (x : ExClause) (s : SoundClause n x)
     together = r .together;
   }
 
-  comes-back : (l : FlounderedSubgoal) → getElem? (x .floundered-subgoals) i ≡ some l → late (x .answer-time) l ≡ 1 → Reconsidered n x (suc i) (reconsider-from i (with-floundered x (push (x .subgoals) (l .floundered-literal)) (swap-remove (x .floundered-subgoals) i)))
+  comes-back : (l : FlounderedSubgoal) → getElem? (x .floundered-subgoals) i ≡ some l → late (x .answer-time) l ≡ 1
+      → Reconsidered n x (suc i) (reconsider-from i (with-floundered x (push (x .subgoals) (l .floundered-literal))
+      (swap-remove (x .floundered-subgoals) i)))
   comes-back l e one =
       let fs = x .floundered-subgoals in
       let next = take-next (late (x .answer-time)) fs i l e in
@@ -96,11 +110,18 @@ module _ (n i : ℕ) (ih : Reconsiders n i) (x : ExClause) (s : SoundClause n x)
       let size = swapped (λ a. 1) fs i l e in
       let size-before = total-length fs in
       let size-after = total-length (swap-remove fs i) in
-      let longer : length (x .subgoals ++ (l .floundered-literal ∷ [])) ≡ length (x .subgoals) + 1 = length-append (x .subgoals) (l .floundered-literal ∷ []) in
+      let longer : length (x .subgoals ++ (l .floundered-literal ∷ [])) ≡ length (x .subgoals) + 1 =
+      length-append (x .subgoals) (l .floundered-literal ∷ []) in
       let shorter = size .less in
       let few = s .few-literals in
       let r = ih (with-floundered x (push (x .subgoals) (l .floundered-literal)) (swap-remove fs i))
-      (record { subgoals-named = all-push (s .subgoals-named) (all-at i (s .floundered-named) e); floundered-named = all-swap-remove i (s .floundered-named); delayed-named = s .delayed-named; few-literals = omega arith; few-delayed = s .few-delayed }) in
+      (record {
+        subgoals-named = all-push (s .subgoals-named) (all-at i (s .floundered-named) e);
+        floundered-named = all-swap-remove i (s .floundered-named);
+        delayed-named = s .delayed-named;
+        few-literals = omega arith;
+        few-delayed = s .few-delayed;
+      }) in
       let front = out .front in
       let less = out .less in
       record {
@@ -115,10 +136,16 @@ module _ (n i : ℕ) (ih : Reconsiders n i) (x : ExClause) (s : SoundClause n x)
       (λ e. passed-by (take-none (late (x .answer-time)) (x .floundered-subgoals) i e))
       (λ l e. case-bool (Reconsidered n x (suc i)) (ltb (l .floundered-time) (x .answer-time))
       (λ b. comes-back l e (ap (λ b. elim b [ true ↦ 1 | false ↦ 0 ]) b))
-      (λ b. let z : late (x .answer-time) l ≡ 0 = ap (λ b. elim b [ true ↦ 1 | false ↦ 0 ]) b in let y = take-next (late (x .answer-time)) (x .floundered-subgoals) i l e in passed-by (omega arith)))
+      (λ b. let z : late (x .answer-time) l ≡ 0 = ap (λ b. elim b [ true ↦ 1 | false ↦ 0 ]) b in
+      let y = take-next (late (x .answer-time)) (x .floundered-subgoals) i l e in passed-by (omega arith)))
 
 reconsiders : (n i : ℕ) → Reconsiders n i
-reconsiders n zero x s = record { clause = s; returned = nothing (x .floundered-subgoals) (length (x .subgoals)); stayed = nothing′ (x .floundered-subgoals); together = refl }
+reconsiders n zero x s = record {
+  clause = s;
+  returned = nothing (x .floundered-subgoals) (length (x .subgoals));
+  stayed = nothing′ (x .floundered-subgoals);
+  together = refl;
+}
   where
     nothing : (l : List FlounderedSubgoal) (k : ℕ) → k ≡ k + total (late (x .answer-time)) (take 0 l)
     nothing [] k = omega arith
@@ -140,4 +167,9 @@ pub returns : {n : ℕ} (x : ExClause) → SoundClause n x → Returned n x (rec
 returns {n} x s =
     let r = reconsiders n (length (x .floundered-subgoals)) x s in
     let whole = take-whole (late (x .answer-time)) (x .floundered-subgoals) in
-    record { clause = r .clause; returned = let y = r .returned in omega arith; none-late = let y = r .stayed in omega arith; together = r .together }
+    record {
+      clause = r .clause;
+      returned = let y = r .returned in omega arith;
+      none-late = let y = r .stayed in omega arith;
+      together = r .together;
+    }

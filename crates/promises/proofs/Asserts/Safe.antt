@@ -51,7 +51,8 @@ module _ {B : Type 0} {Q : B → Type 0} where
   by-bool false h k = k refl
 
 module _ {A B : Type 0} {Q : B → Type 0} where
-  pub by-option : (o : Option A) {x : Stops B} {y : A → Stops B} → (o ≡ none → Safe Q x) → ((a : A) → o ≡ some a → Safe Q (y a)) → Safe Q (elim o [ none ↦ x | some a ↦ y a ])
+  pub by-option : (o : Option A) {x : Stops B} {y : A → Stops B} → (o ≡ none → Safe Q x) → ((a : A) → o ≡ some a → Safe Q (y a))
+      → Safe Q (elim o [ none ↦ x | some a ↦ y a ])
   by-option none h k = h refl
   by-option (some a) h k = k a refl
 
@@ -60,7 +61,8 @@ unwraps o a e = rw e
 
 -- the same for a statement of any kind
 module _ {A B : Type 0} (P : B → Type 0) where
-  pub case-option : (o : Option A) {x : B} {y : A → B} → (o ≡ none → P x) → ((a : A) → o ≡ some a → P (y a)) → P (elim o [ none ↦ x | some a ↦ y a ])
+  pub case-option : (o : Option A) {x : B} {y : A → B} → (o ≡ none → P x) → ((a : A) → o ≡ some a → P (y a))
+      → P (elim o [ none ↦ x | some a ↦ y a ])
   case-option none h k = h refl
   case-option (some a) h k = k a refl
 
@@ -71,7 +73,8 @@ module _ {B : Type 0} (P : B → Type 0) where
 
 -- a stop that is passed on
 module _ {A B : Type 0} {P : A → Type 0} {Q : B → Type 0} where
-  pub passing : {r : Stops A} {k : A → Stops B} → Safe P r → ((a : A) → P a → Safe Q (k a)) → Safe Q (elim r [ stop n ↦ stop n | go a ↦ k a ])
+  pub passing : {r : Stops A} {k : A → Stops B} → Safe P r → ((a : A) → P a → Safe Q (k a))
+      → Safe Q (elim r [ stop n ↦ stop n | go a ↦ k a ])
   passing (stops n) h = stops n
   passing (goes {a = a} p) h = h a p
 
@@ -84,11 +87,13 @@ unwrapped none a e = stop-go e
 unwrapped (some b) a e = cc
 
 module _ {A B : Type 0} (P : B → Type 0) where
-  pub case-stops : (r : Stops A) {x : ℕ → B} {y : A → B} → ((n : ℕ) → r ≡ stop n → P (x n)) → ((a : A) → r ≡ go a → P (y a)) → P (elim r [ stop n ↦ x n | go a ↦ y a ])
+  pub case-stops : (r : Stops A) {x : ℕ → B} {y : A → B} → ((n : ℕ) → r ≡ stop n → P (x n)) → ((a : A) → r ≡ go a → P (y a))
+      → P (elim r [ stop n ↦ x n | go a ↦ y a ])
   case-stops (stop n) h k = h n refl
   case-stops (go a) h k = k a refl
 
 module _ {A B : Type 0} {Q : A → Type 0} (P : B → Type 0) where
-  pub case-safe : {r : Stops A} {x : ℕ → B} {y : A → B} → Safe Q r → ((n : ℕ) → NotZero n → P (x n)) → ((a : A) → Q a → P (y a)) → P (elim r [ stop n ↦ x n | go a ↦ y a ])
+  pub case-safe : {r : Stops A} {x : ℕ → B} {y : A → B} → Safe Q r → ((n : ℕ) → NotZero n → P (x n)) → ((a : A) → Q a → P (y a))
+      → P (elim r [ stop n ↦ x n | go a ↦ y a ])
   case-safe (stops {n = n} z) h k = h n z
   case-safe (goes {a = a} q) h k = k a q

@@ -15,11 +15,13 @@ use Rattle.definitions.specs.Table.{Table, answer, next-answer-index}
 use Rattle.definitions.specs.Tables.{Forest, with-mark, table-at}
 use Rattle.definitions.specs.Stack.{Stack, push-entry}
 use Rattle.definitions.specs.Logic.{InvalidAnswer, SolveState, with-forest, Flow, continue, return-ok, return-err}
-use Rattle.definitions.specs.Turn.{Ending, found, fail, cut, stopped, Searched, put-back, stored-answer, ok-ending, search-turns, begin, root-answer}
+use Rattle.definitions.specs.Turn.{Ending, found, fail, cut, stopped, Searched, put-back, stored-answer, ok-ending, search-turns, begin}
+use Rattle.definitions.specs.Turn.{root-answer}
 use Rattle.definitions.specs.Forest.{is-invalid}
 use Rattle.laws.proofs.Lists.{at-place}
 use Rattle.laws.proofs.Options.{same-some}
-use Rattle.promises.proofs.Asserts.Safe.{true-false, false-true, NotZero, case-option, case-bool, case-stops, case-safe, stop-go, unwrapped, unwraps}
+use Rattle.promises.proofs.Asserts.Safe.{true-false, false-true, NotZero, case-option, case-bool, case-stops, case-safe, stop-go}
+use Rattle.promises.proofs.Asserts.Safe.{unwrapped, unwraps}
 use Rattle.promises.proofs.Asserts.Lists.{end, place-under, no-place}
 use Rattle.promises.proofs.Asserts.Sound.{Reached, SoundForest, Rooted, SoundState}
 use Rattle.promises.proofs.Asserts.Keeping.{grows-same, steady-same, Kept, ticks, table-is}
@@ -41,7 +43,18 @@ pub record Well (n root index : ℕ) (r : Searched) : Type 0 where
 -- a mark changes nothing else
 pub mark-kept : {n : ℕ} {f : Forest} (m : ℕ) → SoundForest n f → Kept n f (with-mark f m)
 mark-kept {n} {f} m s = record {
-  sound = record { goals = s .goals; few-goals = s .few-goals; tables-apart = s .tables-apart; as-goals = s .as-goals; sound-book = s .sound-book; sound-tables = s .sound-tables; few-answers = s .few-answers; few-strands = s .few-strands; clock-within = s .clock-within; limit-within = s .limit-within };
+  sound = record {
+    goals = s .goals;
+    few-goals = s .few-goals;
+    tables-apart = s .tables-apart;
+    as-goals = s .as-goals;
+    sound-book = s .sound-book;
+    sound-tables = s .sound-tables;
+    few-answers = s .few-answers;
+    few-strands = s .few-strands;
+    clock-within = s .clock-within;
+    limit-within = s .limit-within;
+  };
   clock-kept = omega arith;
   grows = grows-same steady-same (f .tables);
 }
@@ -50,29 +63,35 @@ stored-fine : {root index : ℕ} (f : Forest) → Rooted (f .tables) root (suc i
 stored-fine {root} {index} f x =
     let o = x .enough in
     let a = at-place (x .own .answers) index (omega arith) in
-    on (table-at f root >>= λ t. unwrap (answer t index)) (a .0) (ap (λ r. r >>= λ t. unwrap (answer t index)) (table-is f root (x .own) (x .is-made)) ∙ unwraps (answer (x .own) index) (a .0) (a .1))
+    on (table-at f root >>= λ t. unwrap (answer t index)) (a .0)
+    (ap (λ r. r >>= λ t. unwrap (answer t index)) (table-is f root (x .own) (x .is-made))
+    ∙ unwraps (answer (x .own) index) (a .0) (a .1))
   where
     on : (r : Stops Answer) (a : Answer) → r ≡ go a → Fine (elim r [
       | stop n ↦ stopped n
-      | go a ↦ elim (is-empty (a .delayed-subgoals)) [ true ↦ found (record { variant = a .variant; ambiguous = a .ambiguous }) | false ↦ fail InvalidAnswer ]
+      | go a ↦ elim (is-empty (a .delayed-subgoals))
+          [ true ↦ found (record { variant = a .variant; ambiguous = a .ambiguous }) | false ↦ fail InvalidAnswer ]
     ])
     on (stop n) a e = stop-go e
     on (go b) a e = case-bool Fine (is-empty (b .delayed-subgoals)) (λ q. tt) (λ q. tt)
 
 module _ (n root index : ℕ) where
   -- the search is put back
-  puts-back : (ending : Ending) (turns : ℕ) (s : SolveState) → Left n root index s → Fine ending → is-invalid ending ≡ false → Well n root index (put-back ending turns s)
+  puts-back : (ending : Ending) (turns : ℕ) (s : SolveState) → Left n root index s → Fine ending → is-invalid ending ≡ false
+      → Well n root index (put-back ending turns s)
   puts-back ending turns s x fine valid = case-safe (Well n root index) (x .1)
       (λ m z. record { ended = x .0; fine = z; when-invalid = λ e. false-true e })
       (λ f y. record { ended = y; fine = fine; when-invalid = λ e. true-false (sym e ∙ valid) })
 
   -- with the answer in the root's table
-  puts-answer : (turns : ℕ) (f : Forest) (es : Stack) → es ≡ [] → SoundForest n f → Rooted (f .tables) root (suc index) → Well n root index (put-back (ok-ending (record { forest = f; stack = es }) root index) turns (record { forest = f; stack = es }))
-  puts-answer turns f es e s x = subst (λ q. Well n root index (put-back (ok-ending (record { forest = f; stack = q }) root index) turns (record { forest = f; stack = q }))) (sym e) (record {
-    ended = record { sound = s; own = x .own; is-made = x .is-made; reached = let o = x .enough in inr (omega arith) };
-    fine = stored-fine f x;
-    when-invalid = λ q. x;
-  })
+  puts-answer : (turns : ℕ) (f : Forest) (es : Stack) → es ≡ [] → SoundForest n f → Rooted (f .tables) root (suc index)
+      → Well n root index (put-back (ok-ending (record { forest = f; stack = es }) root index) turns (record { forest = f; stack = es }))
+  puts-answer turns f es e s x = subst (λ q. Well n root index
+      (put-back (ok-ending (record { forest = f; stack = q }) root index) turns (record { forest = f; stack = q }))) (sym e) (record {
+        ended = record { sound = s; own = x .own; is-made = x .is-made; reached = let o = x .enough in inr (omega arith) };
+        fine = stored-fine f x;
+        when-invalid = λ q. x;
+      })
 
   module _ (first : ℕ) where
     abbrev Onward : (limit done : ℕ) → Type 0
@@ -90,10 +109,13 @@ module _ (n root index : ℕ) where
     searches : (limit done : ℕ) → Onward limit done
     searches zero done s x = puts-back cut done s (state-left n root index first s x) tt refl
     searches (suc limit) done s x = case-safe (Well n root index) (turn-keeps n root index first s x)
-        (λ m z. let f′ = with-mark (s .forest) m in puts-back (stopped m) done (with-forest s f′) (state-left n root index first (with-forest s f′) (state-kept n root index first s f′ x (mark-kept m (state-forest n root index first s x)) refl)) z refl)
+        (λ m z. let f′ = with-mark (s .forest) m in puts-back (stopped m) done (with-forest s f′)
+        (state-left n root index first (with-forest s f′)
+        (state-kept n root index first s f′ x (mark-kept m (state-forest n root index first s x)) refl)) z refl)
         (λ flow y. on-flow limit done (searches limit (suc done)) flow y)
 
-  begins : (limit : ℕ) (f : Forest) (x : Ended n root index f) → x .own .floundered ≡ false → index ≤ length (x .own .answers) → Well n root index (begin limit root index f)
+  begins : (limit : ℕ) (f : Forest) (x : Ended n root index f) → x .own .floundered ≡ false → index ≤ length (x .own .answers)
+      → Well n root index (begin limit root index f)
   begins limit f x u o = case-safe (Well n root index) (ticks (x .sound))
       (λ m z. record { ended = ended-kept x (mark-kept m (x .sound)); fine = z; when-invalid = λ e. false-true e })
       (λ f′ d.
@@ -108,7 +130,14 @@ module _ (n root index : ℕ) where
           forest = k .sound;
           begun = omega arith;
           rooted = record { own = t .after; is-made = t .is-made; enough = omega arith };
-          standing = record { own = t .after; is-made = t .is-made; unfloundered = t .related .same-floundered ∙ u; clock-late = omega arith; positive-late = omega arith; negative-late = omega arith };
+          standing = record {
+            own = t .after;
+            is-made = t .is-made;
+            unfloundered = t .related .same-floundered ∙ u;
+            clock-late = omega arith;
+            positive-late = omega arith;
+            negative-late = omega arith;
+          };
           below = (refl, refl);
           off = end;
         },

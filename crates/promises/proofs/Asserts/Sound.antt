@@ -41,7 +41,8 @@ pub record SoundClause (n : ℕ) (x : ExClause) : Type 0 where
 abbrev pub Reached : Table → ℕ → Type 0
 Reached t k = (t .floundered ≡ true) ⊎ (k ≤ length (t .answers))
 
--- the subgoal that a strand of so many literals waits on: one of the literals, a table that is made, and an answer that it has or that comes next
+-- the subgoal that a strand of so many literals waits on: one of the literals, a table that is made, and an answer that it has or that
+-- comes next
 pub record Awaits (ts : Tables) (literals : ℕ) (selected : SelectedSubgoal) : Type 0 where
   pub at-literal : selected .subgoal-index < literals
   pub is-last : suc (selected .subgoal-index) ≡ literals
@@ -118,7 +119,8 @@ Off table es = All (λ e. e .table ≡ table → ⊥) es
 -- what stands below an entry with this table and clock: callers, down to the root
 abbrev pub Below : (n : ℕ) → Tables → (root first : ℕ) → (table clock : ℕ) → Stack → Type 0
 Below n ts root first table clock [] = (table ≡ root) × (clock ≡ first)
-Below n ts root first table clock (e ∷ es) = Standing ts first (e .table) (e .clock) (e .cyclic-minimums) × Calls n ts table (e .active-strand) × Below n ts root first (e .table) (e .clock) es × Off (e .table) es
+Below n ts root first table clock (e ∷ es) = Standing ts first (e .table) (e .clock) (e .cyclic-minimums) × Calls n ts table
+    (e .active-strand) × Below n ts root first (e .table) (e .clock) es × Off (e .table) es
 
 -- the root's table has the answers below the index that is searched for
 pub record Rooted (ts : Tables) (root index : ℕ) : Type 0 where
@@ -143,7 +145,8 @@ Active n ts (some s) = SoundStrand n ts s
 -- a state between two turns; all its strands, queued and active, have a place
 abbrev pub SoundStack : (n root index first : ℕ) → Forest → Stack → Type 0
 SoundStack n root index first f [] = ⊥
-SoundStack n root index first f (e ∷ es) = Searching n root index first f (e .table) (e .clock) (e .cyclic-minimums) es × Active n (f .tables) (e .active-strand) × (queued f + active (e ∷ es) ≤ 256)
+SoundStack n root index first f (e ∷ es) = Searching n root index first f (e .table) (e .clock) (e .cyclic-minimums) es × Active n
+    (f .tables) (e .active-strand) × (queued f + active (e ∷ es) ≤ 256)
 
 abbrev pub SoundState : (n root index first : ℕ) → SolveState → Type 0
 SoundState n root index first s = SoundStack n root index first (s .forest) (s .stack)

@@ -14,7 +14,8 @@ use Rattle.definitions.specs.Stop.{Stops, stop, go}
 use Rattle.definitions.specs.Table.{Table}
 use Rattle.definitions.specs.Tables.{Forest}
 use Rattle.definitions.specs.Turn.{Searched, root-answer}
-use Rattle.definitions.specs.Forest.{is-marked, Opened, opened, open-goal, not-made, index-above, search, is-invalid, Peeked, peek, peek-rounds, any-future-answer}
+use Rattle.definitions.specs.Forest.{is-marked, Opened, opened, open-goal, not-made, index-above, search, is-invalid, Peeked, peek}
+use Rattle.definitions.specs.Forest.{peek-rounds, any-future-answer}
 use Rattle.definitions.specs.Calls.{Call, opens, searches, peeks, asks-future, Reply, refusal, table, searched, peeked, future, call, calls}
 use Rattle.definitions.specs.Model.{Each}
 use Rattle.laws.proofs.Lists.{at-place}
@@ -58,11 +59,13 @@ Answered n r = Quiet (r .0) × SoundForest n (r .1)
 
 module _ {n : ℕ} (f : Forest) (s : SoundForest n f) where
   opened-well : (goal : ℕ) → goal < n → QuietStop (opened 0 f goal .table) × SoundForest n (opened 0 f goal .forest)
-  opened-well goal lt = case-safe (λ (o : Opened). QuietStop (o .table) × SoundForest n (o .forest)) (makes s 0 goal (let o = s .few-strands in omega arith) lt)
+  opened-well goal lt = case-safe (λ (o : Opened). QuietStop (o .table) × SoundForest n (o .forest))
+      (makes s 0 goal (let o = s .few-strands in omega arith) lt)
       (λ m z. (z, mark-kept m s .sound))
       (λ r x. (tt, x .kept .sound))
 
-  opens-well : (goal : ℕ) (o : Refusable Opened) → open-goal f goal ≡ o → Answered n (elim o [ refused m ↦ (refusal m, f) | accepted r ↦ (table (r .table), r .forest) ])
+  opens-well : (goal : ℕ) (o : Refusable Opened) → open-goal f goal ≡ o
+      → Answered n (elim o [ refused m ↦ (refusal m, f) | accepted r ↦ (table (r .table), r .forest) ])
   opens-well goal (refused m) e = (tt, s)
   opens-well goal (accepted r) e =
       let a = all-pass (is-marked f refuses 20 ∷ leb (length (f .book)) goal refuses 9 ∷ []) (opened 0 f goal) r e in
@@ -88,17 +91,24 @@ module _ {n : ℕ} (f : Forest) (s : SoundForest n f) where
       at-most : (u : Table) → (ltb (length (u .answers)) i && not (u .floundered)) ≡ false → Reached u i
       at-most u e = by-tests u (ltb (length (u .answers)) i) (u .floundered) refl refl e
 
-  searches-well : (t i limit : ℕ) (o : Refusable Searched) → search f t i limit ≡ o → Answered n (elim o [ refused m ↦ (refusal m, f) | accepted r ↦ (searched (r .ending) (r .turns), r .forest) ])
+  searches-well : (t i limit : ℕ) (o : Refusable Searched) → search f t i limit ≡ o
+      → Answered n (elim o [ refused m ↦ (refusal m, f) | accepted r ↦ (searched (r .ending) (r .turns), r .forest) ])
   searches-well t i limit (refused m) e = (tt, s)
   searches-well t i limit (accepted r) e =
-      let a = all-pass (is-marked f refuses 20 ∷ not-made f t refuses 10 ∷ index-above f t i refuses 11 ∷ eqb limit 0 refuses 12 ∷ []) (root-answer limit t i f) r e in
+      let a = all-pass (is-marked f refuses 20 ∷ not-made f t refuses 10 ∷ index-above f t i refuses 11 ∷ eqb limit 0 refuses 12 ∷ [])
+      (root-answer limit t i f) r e in
       let w = subst (Well n t i) (a .1) (root-answers n t i limit f (asked t i (a .0 .1 .0) (a .0 .1 .1 .0))) in
       (w .fine, w .ended .sound)
 
-  peeks-quietly : (t i rounds limit : ℕ) (o : Refusable Peeked) → peek f t i rounds limit ≡ o → Answered n (elim o [ refused m ↦ (refusal m, f) | accepted r ↦ (peeked (r .ending) (r .index) (r .turns) (r .exceeded), r .forest) ])
+  peeks-quietly : (t i rounds limit : ℕ) (o : Refusable Peeked) → peek f t i rounds limit ≡ o
+      → Answered n (elim o [
+        | refused m ↦ (refusal m, f)
+        | accepted r ↦ (peeked (r .ending) (r .index) (r .turns) (r .exceeded), r .forest)
+      ])
   peeks-quietly t i rounds limit (refused m) e = (tt, s)
   peeks-quietly t i rounds limit (accepted r) e =
-      let a = all-pass (is-marked f refuses 20 ∷ not-made f t refuses 10 ∷ index-above f t i refuses 11 ∷ (eqb rounds 0 || eqb limit 0) refuses 12 ∷ []) (peek-rounds (rounds - 1) limit 0 t i f) r e in
+      let a = all-pass (is-marked f refuses 20 ∷ not-made f t refuses 10 ∷ index-above f t
+      i refuses 11 ∷ (eqb rounds 0 || eqb limit 0) refuses 12 ∷ []) (peek-rounds (rounds - 1) limit 0 t i f) r e in
       let w = subst (PeekWell n t) (a .1) (peeks-well n t limit (rounds - 1) 0 i f (asked t i (a .0 .1 .0) (a .0 .1 .1 .0))) in
       ((w .fine, w .valid), w .ended .sound)
 

@@ -14,7 +14,8 @@ use Rattle.definitions.specs.Logic.{unwind-callers, drop-state}
 use Rattle.laws.proofs.Options.{no-such}
 use Rattle.promises.proofs.Plain.Machine as M
 use Rattle.promises.proofs.Plain.Steps.{put-here, put-there}
-use Rattle.promises.proofs.Link.View.{StrandIs, QueueIs, q-end, q-more, table-of, TableIs, table-is, TableAt, no-active, an-active, StackIs, s-end, s-more}
+use Rattle.promises.proofs.Link.View.{StrandIs, QueueIs, q-end, q-more, table-of, TableIs, table-is, TableAt, no-active, an-active}
+use Rattle.promises.proofs.Link.View.{StackIs, s-end, s-more}
 use Rattle.promises.proofs.Link.Tables.{queue-append, table-found, forest-of, Agree, SameBut, agree-set}
 
 -- the table at a place, as it stands beside the machine's
@@ -23,7 +24,8 @@ pub record TableHere (book : Book) (gs : List ℕ) (ts : Tables) (p : M.Forest) 
   pub queue : QueueIs (length book) gs waiting (p .queue g)
   pub is : getElem? ts i ≡ some (table-of g (p .answered g) (p .first g) waiting)
 
-pub table-here : {book : Book} {gs : List ℕ} {ts : Tables} {p : M.Forest} → Agree book gs ts p → (i g : ℕ) → getElem? gs i ≡ some g → TableHere book gs ts p i g
+pub table-here : {book : Book} {gs : List ℕ} {ts : Tables} {p : M.Forest} → Agree book gs ts p → (i g : ℕ) → getElem? gs i ≡ some g
+    → TableHere book gs ts p i g
 table-here {book} {gs} {ts} {p} a i g e = let r = table-found (a .tables) i g e in go (r .0) (r .1) (r .2)
   where
     go : (t : Table) → getElem? ts i ≡ some t → TableAt (length book) gs p g t → TableHere book gs ts p i g
@@ -33,10 +35,13 @@ table-here {book} {gs} {ts} {p} a i g e = let r = table-found (a .tables) i g e 
 pub same-queue : (p : M.Forest) (g : ℕ) (q : List M.Strand) → SameBut g p (M.with-queue p (M.put (p .queue) g q))
 same-queue p g q = record { made = λ h. refl; answered = λ h o. refl; first = λ h o. refl; queue = λ h o. put-there (p .queue) g h q o }
 
-pub queue-set : {book : Book} {gs : List ℕ} {ts : Tables} {p : M.Forest} → Agree book gs ts p → (i g : ℕ) → getElem? gs i ≡ some g → (ss : List Strand) (q : List M.Strand) → QueueIs (length book) gs ss q
+pub queue-set : {book : Book} {gs : List ℕ} {ts : Tables} {p : M.Forest} → Agree book gs ts p → (i g : ℕ) → getElem? gs i ≡ some g
+    → (ss : List Strand) (q : List M.Strand) → QueueIs (length book) gs ss q
     → Agree book gs (set ts i (table-of g (p .answered g) (p .first g) ss)) (M.with-queue p (M.put (p .queue) g q))
 queue-set {book} {gs} {p = p} a i g e ss q x =
-    agree-set a i g e (table-of g (p .answered g) (p .first g) ss) (subst (λ z. TableIs (length book) gs g (p .answered g) (p .first g) z (table-of g (p .answered g) (p .first g) ss)) (sym (put-here (p .queue) g g q refl)) (table-is ss x)) (same-queue p g q)
+    agree-set a i g e (table-of g (p .answered g) (p .first g) ss)
+    (subst (λ z. TableIs (length book) gs g (p .answered g) (p .first g) z (table-of g (p .answered g) (p .first g) ss))
+    (sym (put-here (p .queue) g g q refl)) (table-is ss x)) (same-queue p g q)
 
 -- what a change of the forest gives
 pub record Became (book : Book) (limit mark c : ℕ) (gs : List ℕ) (result : Stops Forest) (p : M.Forest) : Type 0 where
@@ -45,8 +50,10 @@ pub record Became (book : Book) (limit mark c : ℕ) (gs : List ℕ) (result : S
   pub agree : Agree book gs after p
 
 module _ (book : Book) (limit mark c : ℕ) {gs : List ℕ} where
-  pub enqueued : {ts : Tables} {p : M.Forest} → Agree book gs ts p → (i g : ℕ) → getElem? gs i ≡ some g → (s : Strand) (m : M.Strand) → StrandIs (length book) gs s m
-      → Became book limit mark c gs (change-table (forest-of book limit mark ts c) i (enqueue-strand s)) (M.with-queue p (M.append (p .queue) g m))
+  pub enqueued : {ts : Tables} {p : M.Forest} → Agree book gs ts p → (i g : ℕ) → getElem? gs i ≡ some g → (s : Strand) (m : M.Strand)
+      → StrandIs (length book) gs s m
+      → Became book limit mark c gs (change-table (forest-of book limit mark ts c) i (enqueue-strand s))
+      (M.with-queue p (M.append (p .queue) g m))
   enqueued {ts} {p} a i g e s m x =
       let t = table-here a i g e in
       record {
@@ -61,7 +68,8 @@ Busy [] = Unit {0}
 Busy (e ∷ es) = ((s : M.Strand) × (e .active ≡ some s)) × Busy es
 
 module _ (book : Book) (limit mark c : ℕ) {gs : List ℕ} where
-  pub unwound-is : {ds : Stack} {es : List M.Entry} → StackIs (length book) gs ds es → Busy es → {ts : Tables} {p : M.Forest} → Agree book gs ts p
+  pub unwound-is : {ds : Stack} {es : List M.Entry} → StackIs (length book) gs ds es → Busy es → {ts : Tables} {p : M.Forest}
+      → Agree book gs ts p
       → Became book limit mark c gs (unwind-callers (forest-of book limit mark ts c) ds) (M.with-queue p (M.all-back (p .queue) es))
   unwound-is s-end w {ts} a = record { after = ts; is = refl; agree = a }
   unwound-is (s-more i g k m r e no-active xs) w a = absurd (no-such (w .0 .1))
@@ -70,8 +78,10 @@ module _ (book : Book) (limit mark c : ℕ) {gs : List ℕ} where
       let d = unwound-is xs (w .1) (b .agree) in
       record { after = d .after; is = rw (b .is) (d .is); agree = d .agree }
 
-  pub dropped-is : {d : StackEntry} {ds : Stack} {e : M.Entry} {es : List M.Entry} → StackIs (length book) gs (d ∷ ds) (e ∷ es) → Busy es → {ts : Tables} {p : M.Forest} → Agree book gs ts p
-      → Became book limit mark c gs (drop-state (record { forest = forest-of book limit mark ts c; stack = d ∷ ds })) (M.with-queue p (M.all-back (p .queue) (e ∷ es)))
+  pub dropped-is : {d : StackEntry} {ds : Stack} {e : M.Entry} {es : List M.Entry} → StackIs (length book) gs (d ∷ ds) (e ∷ es) → Busy es
+      → {ts : Tables} {p : M.Forest} → Agree book gs ts p
+      → Became book limit mark c gs (drop-state (record { forest = forest-of book limit mark ts c; stack = d ∷ ds }))
+      (M.with-queue p (M.all-back (p .queue) (e ∷ es)))
   dropped-is (s-more i g k m r e no-active xs) w a = unwound-is xs w a
   dropped-is (s-more i g k m r e (an-active {s = s} {m = o} x) xs) w a =
       let b = enqueued book limit mark c a i g e s o x in

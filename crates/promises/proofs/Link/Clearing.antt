@@ -23,7 +23,8 @@ abbrev pub strands-in : Tables → ℕ
 strands-in ts = total (λ t. length (t .strands)) ts
 
 -- the forest with some queues taken; the machine goes on with the rest of its list
-pub record Cleared (book : Book) (limit mark c : ℕ) (gs : List ℕ) (p : M.Forest) (ts : Tables) (result : Stops Forest) (rest : List M.Strand) (q' : M.Queues) : Type 0 where
+pub record Cleared (book : Book) (limit mark c : ℕ) (gs : List ℕ) (p : M.Forest) (ts : Tables) (result : Stops Forest)
+    (rest : List M.Strand) (q' : M.Queues) : Type 0 where
   pub after : Tables
   pub is : result ≡ go (forest-of book limit mark after c)
   pub queues : M.Queues
@@ -34,11 +35,21 @@ pub record Cleared (book : Book) (limit mark c : ℕ) (gs : List ℕ) (p : M.For
 
 module _ (book : Book) (limit mark c : ℕ) (gs : List ℕ) (p : M.Forest) where
   abbrev Clears : (room : ℕ) → (List Strand → Forest → Stops Forest) → Type 0
-  Clears room clear = (ss : List Strand) (qs : List M.Strand) → QueueIs (length book) gs ss qs → (ts : Tables) (q : M.Queues) → Agree book gs ts (M.with-queue p q) → min 1 (length ss) + strands-in ts ≤ room
-      → (n : ℕ) (rest : List M.Strand) (q' : M.Queues) → M.clear n (qs ++ rest) q ≡ some q' → Cleared book limit mark c gs p ts (clear ss (forest-of book limit mark ts c)) rest q'
+  Clears room clear = (ss : List Strand) (qs : List M.Strand) → QueueIs (length book) gs ss qs → (ts : Tables) (q : M.Queues)
+      → Agree book gs ts (M.with-queue p q) → min 1 (length ss) + strands-in ts ≤ room
+      → (n : ℕ) (rest : List M.Strand) (q' : M.Queues) → M.clear n (qs ++ rest) q ≡ some q'
+      → Cleared book limit mark c gs p ts (clear ss (forest-of book limit mark ts c)) rest q'
 
   each-clears : (d : ℕ) (clear : List Strand → Forest → Stops Forest) → Clears d clear → Clears (suc d) (clear-each clear)
-  each-clears d clear h ss qs q-end ts q a o n rest q' e = record { after = ts; is = refl; queues = q; agree = a; fewer = omega arith; fuel = n; onward = e }
+  each-clears d clear h ss qs q-end ts q a o n rest q' e = record {
+    after = ts;
+    is = refl;
+    queues = q;
+    agree = a;
+    fewer = omega arith;
+    fuel = n;
+    onward = e;
+  }
   each-clears d clear h ss qs (q-more (free t b k w) xs) ts q a o zero rest q' e = absurd (no-such e)
   each-clears d clear h ss qs (q-more (free t b k w) xs) ts q a o (suc n) rest q' e = absurd (no-such e)
   each-clears d clear h ss qs (q-more (bound t l b k j w at) xs) ts q a o zero rest q' e = absurd (no-such e)
@@ -48,13 +59,31 @@ module _ (book : Book) (limit mark c : ℕ) (gs : List ℕ) (p : M.Forest) where
       let emptied = table-of u (p .answered u) (p .first u) [] in
       let ts' = set ts j emptied in
       let fall = total-set (λ t. length (t .strands)) ts j (table-of u (p .answered u) (p .first u) (here .waiting)) emptied (here .is) in
-      let first = h (here .waiting) (q u) (here .queue) ts' (M.put q u []) (queue-set a j u at [] [] q-end) (omega arith) n (ms ++ rest) q' e in
+      let first = h (here .waiting) (q u) (here .queue) ts' (M.put q u []) (queue-set a j u at [] [] q-end) (omega arith) n (ms ++ rest) q'
+      e in
       let less = first .fewer in
-      let next = each-clears d clear h ss' ms xs (first .after) (first .queues) (first .agree) (omega arith) (first .fuel) rest q' (first .onward) in
+      let next = each-clears d clear h ss' ms xs (first .after) (first .queues) (first .agree) (omega arith) (first .fuel) rest q'
+      (first .onward) in
       let less' = next .fewer in
-      record { after = next .after; is = rw (here .is) (rw (first .is) (next .is)); queues = next .queues; agree = next .agree; fewer = omega arith; fuel = next .fuel; onward = next .onward }
+      record {
+        after = next .after;
+        is = rw (here .is) (rw (first .is) (next .is));
+        queues = next .queues;
+        agree = next .agree;
+        fewer = omega arith;
+        fuel = next .fuel;
+        onward = next .onward;
+      }
 
   pub clears : (d : ℕ) → Clears d (clear-strands-after-cycle d)
-  clears zero ss qs q-end ts q a o n rest q' e = record { after = ts; is = refl; queues = q; agree = a; fewer = omega arith; fuel = n; onward = e }
+  clears zero ss qs q-end ts q a o n rest q' e = record {
+    after = ts;
+    is = refl;
+    queues = q;
+    agree = a;
+    fewer = omega arith;
+    fuel = n;
+    onward = e;
+  }
   clears zero ss qs (q-more x xs) ts q a o n rest q' e = absurd (omega arith)
   clears (suc d) ss qs x ts q a o n rest q' e = each-clears d (clear-strands-after-cycle d) (clears d) ss qs x ts q a o n rest q' e

@@ -19,8 +19,10 @@ use Rattle.laws.proofs.Lists.{at-append, last-one}
 use Rattle.laws.proofs.Options.{no-such, same-some}
 use Rattle.promises.proofs.Plain.Model.{Lit, Body}
 use Rattle.promises.proofs.Plain.Machine as M
-use Rattle.promises.proofs.Link.View.{literal, literals, Names, strand-of, StrandIs, free, QueueIs, q-end, q-more, table-of, table-is, TableAt, TablesAre, t-end, t-more}
-use Rattle.promises.proofs.Link.Tables.{lit, body-of, bodies, book-of, Extends, Absent, table-more, tables-map, FoundIs, found-at, found-none, goal-found, forest-of, Agree}
+use Rattle.promises.proofs.Link.View.{literal, literals, Names, strand-of, StrandIs, free, QueueIs, q-end, q-more, table-of}
+use Rattle.promises.proofs.Link.View.{table-is, TableAt, TablesAre, t-end, t-more}
+use Rattle.promises.proofs.Link.Tables.{lit, body-of, bodies, book-of, Extends, Absent, table-more, tables-map, FoundIs, found-at}
+use Rattle.promises.proofs.Link.Tables.{found-none, goal-found, forest-of, Agree}
 use Rattle.promises.proofs.Link.Sums.{queued-under}
 
 -- a book that can be used: plain, its literals name goals, and it keeps within the limits
@@ -45,16 +47,26 @@ literals-back (l ∷ ls) p = literals-last (body-of ls) (lit l) ∙ (λ i. liter
 
 initial-is : (c : Clause) → PlainClause c → strand-of 0 (body-of (c .literals)) none 0 ≡ initial-strand c
 initial-is c p = λ i. record {
-  ex-clause = record { subst = record { variant = sym (p .as-a-whole) i; outsized = sym (p .small) i }; ambiguous = sym (p .provable) i; subgoals = literals-back (c .literals) (p .literals-plain) i; delayed-subgoals = []; answer-time = 0; floundered-subgoals = [] };
+  ex-clause = record {
+    subst = record { variant = sym (p .as-a-whole) i; outsized = sym (p .small) i };
+    ambiguous = sym (p .provable) i;
+    subgoals = literals-back (c .literals) (p .literals-plain) i;
+    delayed-subgoals = [];
+    answer-time = 0;
+    floundered-subgoals = [];
+  };
   selected-subgoal = none;
   last-pursued-time = 0;
 }
 
-new-queue : (n : ℕ) (gs : List ℕ) (cs : List Clause) → Each PlainClause cs → Each (λ c. Names n (body-of (c .literals))) cs → QueueIs n gs (map initial-strand cs) (map M.fresh (bodies cs))
+new-queue : (n : ℕ) (gs : List ℕ) (cs : List Clause) → Each PlainClause cs → Each (λ c. Names n (body-of (c .literals))) cs
+    → QueueIs n gs (map initial-strand cs) (map M.fresh (bodies cs))
 new-queue n gs [] p w = q-end
-new-queue n gs (c ∷ cs) p w = q-more (subst (λ s. StrandIs n gs s (M.fresh (body-of (c .literals)))) (initial-is c (p .0)) (free 0 (body-of (c .literals)) 0 (w .0))) (new-queue n gs cs (p .1) (w .1))
+new-queue n gs (c ∷ cs) p w = q-more (subst (λ s. StrandIs n gs s (M.fresh (body-of (c .literals)))) (initial-is c (p .0))
+    (free 0 (body-of (c .literals)) 0 (w .0))) (new-queue n gs cs (p .1) (w .1))
 
-build-is : (book : Book) (h : ℕ) (G : Goal) → getElem? book h ≡ some G → PlainGoal G → build-table book h ≡ go (table-of h false true (map initial-strand (G .clauses)))
+build-is : (book : Book) (h : ℕ) (G : Goal) → getElem? book h ≡ some G → PlainGoal G
+    → build-table book h ≡ go (table-of h false true (map initial-strand (G .clauses)))
 build-is book h G e p = rw e (rw (p .unfloundered) (rw (p .inductive)))
 
 -- What making gives.
@@ -112,7 +124,8 @@ place-of (x ∷ gs) h (suc i) g e = next (place-of gs h i g e)
     next (before o) = before o
     next (last o k) = last o (ap suc k)
 
-tables-last : {n : ℕ} {gs : List ℕ} {p : M.Forest} {hs : List ℕ} {ts : Tables} → TablesAre n gs p hs ts → (h : ℕ) (t : Table) → TableAt n gs p h t → TablesAre n gs p (hs ++ (h ∷ [])) (ts ++ (t ∷ []))
+tables-last : {n : ℕ} {gs : List ℕ} {p : M.Forest} {hs : List ℕ} {ts : Tables} → TablesAre n gs p hs ts → (h : ℕ) (t : Table)
+    → TableAt n gs p h t → TablesAre n gs p (hs ++ (h ∷ [])) (ts ++ (t ∷ []))
 tables-last t-end h t x = t-more x t-end
 tables-last (t-more y ys) h t x = t-more y (tables-last ys h t x)
 
@@ -120,7 +133,8 @@ pub tables-length : {n : ℕ} {gs : List ℕ} {p : M.Forest} {hs : List ℕ} {ts
 tables-length t-end = refl
 tables-length (t-more y ys) = ap suc (tables-length ys)
 
-new-agree : {book : Book} {gs : List ℕ} {ts : Tables} {p : M.Forest} → Agree book gs ts p → (h : ℕ) → h < length book → Absent h gs → (t : Table) → TableAt (length book) (gs ++ (h ∷ [])) (M.make p h) h t → Agree book (gs ++ (h ∷ [])) (ts ++ (t ∷ [])) (M.make p h)
+new-agree : {book : Book} {gs : List ℕ} {ts : Tables} {p : M.Forest} → Agree book gs ts p → (h : ℕ) → h < length book → Absent h gs
+    → (t : Table) → TableAt (length book) (gs ++ (h ∷ [])) (M.make p h) h t → Agree book (gs ++ (h ∷ [])) (ts ++ (t ∷ [])) (M.make p h)
 new-agree {book} {gs} {ts} {p} a h lt none-yet t x = record {
   tables = tables-last (tables-map (a .tables) (λ i g e u y. table-more (λ j k o. at-append gs (h ∷ []) j k o) y)) h t x;
   distinct = λ i j g e o. same i j g (place-of gs h i g e) (place-of gs h j g o);
@@ -143,12 +157,15 @@ new-agree {book} {gs} {ts} {p} a h lt none-yet t x = record {
     made i g (before e) = made-put (p .made) h g (a .made i g e)
     made i g (last e k) = made-new (p .made) h g e
 
-module _ {book : Book} (sound : Sound book) (limit mark : ℕ) {gs : List ℕ} {ts : Tables} {p : M.Forest} (a : Agree book gs ts p) (c others h : ℕ) (lt : h < length book) (room : others + M.total (length book) (λ g. length (p .queue g)) ≤ 256) where
-  new-table : Absent h gs → (G : Goal) → getElem? book h ≡ some G → TableAt (length book) (gs ++ (h ∷ [])) (M.make p h) h (table-of h false true (map initial-strand (G .clauses)))
+module _ {book : Book} (sound : Sound book) (limit mark : ℕ) {gs : List ℕ} {ts : Tables} {p : M.Forest} (a : Agree book gs ts p)
+    (c others h : ℕ) (lt : h < length book) (room : others + M.total (length book) (λ g. length (p .queue g)) ≤ 256) where
+  new-table : Absent h gs → (G : Goal) → getElem? book h ≡ some G
+      → TableAt (length book) (gs ++ (h ∷ [])) (M.make p h) h (table-of h false true (map initial-strand (G .clauses)))
   new-table none-yet G e =
       let r = a .unmade h none-yet in
       let q : book-of book h ≡ bodies (G .clauses) = ap (λ o. bodies (elim o [ none ↦ [] | some g ↦ g .clauses ])) e in
-      rw (r .0, r .1, r .2) (rw q (table-is (map initial-strand (G .clauses)) (new-queue (length book) (gs ++ (h ∷ [])) (G .clauses) (sound .plain h G e .clauses-plain) (sound .names h G e))))
+      rw (r .0, r .1, r .2) (rw q (table-is (map initial-strand (G .clauses))
+      (new-queue (length book) (gs ++ (h ∷ [])) (G .clauses) (sound .plain h G e .clauses-plain) (sound .names h G e))))
 
   make-new : index-of h ts ≡ none → Absent h gs → (G : Goal) → getElem? book h ≡ some G → Made book limit mark gs ts p c others h
   make-new e none-yet G k =
@@ -159,7 +176,9 @@ module _ {book : Book} (sound : Sound book) (limit mark : ℕ) {gs : List ℕ} {
         place = length ts;
         goals = gs ++ (h ∷ []);
         after = ts ++ (t ∷ []);
-        is = rw (e, get-or-create-table-for-ucanonical-goal) (rw (build-is book h G k (sound .plain h G k)) (rw (le-ltb 256 (others + total (λ t. length (t .strands)) (ts ++ (t ∷ []))) (omega arith))));
+        is = rw (e, get-or-create-table-for-ucanonical-goal)
+            (rw (build-is book h G k (sound .plain h G k))
+            (rw (le-ltb 256 (others + total (λ t. length (t .strands)) (ts ++ (t ∷ []))) (omega arith))));
         more = λ i g o. at-append gs (h ∷ []) i g o;
         at = ap (λ z. getElem? (gs ++ (h ∷ [])) z) (tables-length (a .tables)) ∙ last-one gs h;
         agree = agree;
@@ -169,5 +188,13 @@ module _ {book : Book} (sound : Sound book) (limit mark : ℕ) {gs : List ℕ} {
   make-table = go (index-of h ts) refl (goal-found (a .tables) h)
     where
       go : (o : Option ℕ) → index-of h ts ≡ o → FoundIs h gs o → Made book limit mark gs ts p c others h
-      go (some i) e (found-at j k) = record { place = j; goals = gs; after = ts; is = rw (e, get-or-create-table-for-ucanonical-goal); more = λ i g o. o; at = k; agree = found-made a h }
+      go (some i) e (found-at j k) = record {
+        place = j;
+        goals = gs;
+        after = ts;
+        is = rw (e, get-or-create-table-for-ucanonical-goal);
+        more = λ i g o. o;
+        at = k;
+        agree = found-made a h;
+      }
       go none e (found-none n) = let G = goal-at book h lt in make-new e n (G .0) (G .1)

@@ -12,7 +12,8 @@ use Rattle.definitions.specs.Book.{Book, Goal, Clause, Literal, Positive, Negat
 use Rattle.definitions.specs.Model as D
 use Rattle.definitions.specs.Model.{Each, PlainClause, clauses-of, LevelLiteral, Holds, holds-end, holds-below, holds-here, holds-not}
 use Rattle.promises.proofs.Plain.Model as P
-use Rattle.promises.proofs.Plain.Model.{Lit, pos, neg, Body, LevelLit, LevelBody, levels, levels-end, Derived, done, lower, here, absent, either}
+use Rattle.promises.proofs.Plain.Model.{Lit, pos, neg, Body, LevelLit, LevelBody, levels, levels-end, Derived, done, lower, here}
+use Rattle.promises.proofs.Plain.Model.{absent, either}
 use Rattle.promises.proofs.Plain.Claim.{Inside}
 use Rattle.promises.proofs.Plain.Machine as M
 use Rattle.promises.proofs.Link.View.{literals}
@@ -27,7 +28,8 @@ mem-bodies cs c (List·Memᴰ·tail {xs = xs} m) = List·Memᴰ·tail (mem-bodie
 
 bodies-mem : (cs : List Clause) (b : Body) → List·Memᴰ b (bodies cs) → (c : Clause) × List·Memᴰ c cs × (b ≡ body-of (c .literals))
 bodies-mem [] b m = absurd (List·Memᴰ·not-nil m)
-bodies-mem (c ∷ cs) b m = either (λ e. (c, List·Memᴰ·head refl, e)) (λ x. let r = bodies-mem cs b x in (r .0, List·Memᴰ·tail (r .1), r .2)) (List·Memᴰ·cases-cons m)
+bodies-mem (c ∷ cs) b m = either (λ e. (c, List·Memᴰ·head refl, e)) (λ x. let r = bodies-mem cs b x in (r .0, List·Memᴰ·tail (r .1), r .2))
+    (List·Memᴰ·cases-cons m)
 
 each-mem : {A : Type 0} (Q : A → Type 0) (l : List A) → Each Q l → (a : A) → List·Memᴰ a l → Q a
 each-mem Q [] e a m = absurd (List·Memᴰ·not-nil m)
@@ -84,12 +86,14 @@ total-shift (suc n) f = let x = total-shift n f in omega arith
 
 pub clauses-total : (book : Book) → M.total (length book) (λ g. length (book-of book g)) ≡ clause-count book
 clauses-total [] = refl
-clauses-total (G ∷ book) = total-shift (length book) (λ g. length (book-of (G ∷ book) g)) ∙ (let x = clauses-total book in let y = bodies-length (G .clauses) in omega arith)
+clauses-total (G ∷ book) = total-shift (length book) (λ g. length (book-of (G ∷ book) g))
+    ∙ (let x = clauses-total book in let y = bodies-length (G .clauses) in omega arith)
 
 -- The models.
 
 module _ (book : Book) (level : ℕ → ℕ) (n : ℕ) where
-  derived-append : (Q : ℕ → Type 0) (b d : Body) → Derived (book-of book) level n Q b → Derived (book-of book) level n Q d → Derived (book-of book) level n Q (b ++ d)
+  derived-append : (Q : ℕ → Type 0) (b d : Body) → Derived (book-of book) level n Q b → Derived (book-of book) level n Q d
+      → Derived (book-of book) level n Q (b ++ d)
   derived-append Q b d done y = y
   derived-append Q b d (lower {b = b'} x r) y = lower x (derived-append Q b' d r y)
   derived-append Q b d (here {b = b'} c e m x r) y = here c e m x (derived-append Q b' d r y)
@@ -104,45 +108,65 @@ module _ (book : Book) (level : ℕ → ℕ) (n : ℕ) where
   module _ (sound : Sound book) (Q R : ℕ → Type 0) (to : (h : ℕ) → Q h → R h) (from : (h : ℕ) → R h → Q h) where
     holds-derived : {ls : List Literal} → Holds book level n Q ls → Derived (book-of book) level n R (body-of ls)
     holds-derived holds-end = done
-    holds-derived (holds-below {goal = g} {ls = ls} x r) = derived-append R (body-of ls) (pos g ∷ []) (holds-derived r) (lower (to g x) done)
-    holds-derived (holds-here {goal = g} {ls = ls} c e m x r) = derived-append R (body-of ls) (pos g ∷ []) (holds-derived r) (here (body-of (c .literals)) e (mem-bodies (clauses-of book g) c m) (holds-derived x) done)
-    holds-derived (holds-not {goal = g} {ls = ls} x r) = derived-append R (body-of ls) (neg g ∷ []) (holds-derived r) (absent (λ y. x (from g y)) done)
+    holds-derived (holds-below {goal = g} {ls = ls} x r) =
+        derived-append R (body-of ls) (pos g ∷ []) (holds-derived r) (lower (to g x) done)
+    holds-derived (holds-here {goal = g} {ls = ls} c e m x r) =
+        derived-append R (body-of ls) (pos g ∷ []) (holds-derived r)
+        (here (body-of (c .literals)) e (mem-bodies (clauses-of book g) c m) (holds-derived x) done)
+    holds-derived (holds-not {goal = g} {ls = ls} x r) =
+        derived-append R (body-of ls) (neg g ∷ []) (holds-derived r) (absent (λ y. x (from g y)) done)
 
-    clause-holds : (g : ℕ) (b : Body) → List·Memᴰ b (book-of book g) → Holds book level n Q (literals b) → (c : Clause) × List·Memᴰ c (clauses-of book g) × Holds book level n Q (c .literals)
+    clause-holds : (g : ℕ) (b : Body) → List·Memᴰ b (book-of book g) → Holds book level n Q (literals b)
+        → (c : Clause) × List·Memᴰ c (clauses-of book g) × Holds book level n Q (c .literals)
     clause-holds g b m x =
         let r = bodies-mem (clauses-of book g) b m in
-        let e : literals b ≡ r .0 .literals = ap literals (r .2) ∙ literals-back (r .0 .literals) (plain-clause book sound g (r .0) (r .1) .literals-plain) in
+        let e : literals b ≡ r .0 .literals = ap literals (r .2)
+        ∙ literals-back (r .0 .literals) (plain-clause book sound g (r .0) (r .1) .literals-plain) in
         (r .0, r .1, subst (Holds book level n Q) e x)
 
     derived-holds : {b : Body} → Derived (book-of book) level n R b → Holds book level n Q (literals b)
     derived-holds done = holds-end
-    derived-holds (lower {h = g} {b = b} x r) = holds-append Q (literals b) (Positive g 0 false ∷ []) (derived-holds r) (holds-below (from g x) holds-end)
+    derived-holds (lower {h = g} {b = b} x r) = holds-append Q (literals b) (Positive g 0 false ∷ []) (derived-holds r)
+        (holds-below (from g x) holds-end)
     derived-holds (here {h = g} {b = b} c e m x r) =
         let k = clause-holds g c m (derived-holds x) in
         holds-append Q (literals b) (Positive g 0 false ∷ []) (derived-holds r) (holds-here (k .0) e (k .1) (k .2) holds-end)
-    derived-holds (absent {h = g} {b = b} x r) = holds-append Q (literals b) (Negative g false ∷ []) (derived-holds r) (holds-not (λ y. x (to g y)) holds-end)
+    derived-holds (absent {h = g} {b = b} x r) = holds-append Q (literals b) (Negative g false ∷ []) (derived-holds r)
+        (holds-not (λ y. x (to g y)) holds-end)
 
 module _ (book : Book) (level : ℕ → ℕ) (sound : Sound book) where
   abbrev Both : ℕ → Type 0
-  Both n = (h : ℕ) → (D.Below book level n h → P.Below (book-of book) level n h) × (P.Below (book-of book) level n h → D.Below book level n h)
+  Both n = (h : ℕ) → (D.Below book level n h → P.Below (book-of book) level n h)
+      × (P.Below (book-of book) level n h → D.Below book level n h)
 
   below-next : (n : ℕ) → Both n → Both (suc n)
   below-next n both h = (to, from)
     where
       to : D.Below book level (suc n) h → P.Below (book-of book) level (suc n) h
       to (inl x) = inl (both h .0 x)
-      to (inr (e, x)) = inr (e, holds-derived book level n sound (D.Below book level n) (P.Below (book-of book) level n) (λ g. both g .0) (λ g. both g .1) x)
+      to (inr (e, x)) = inr (
+        e,
+        holds-derived book level n sound (D.Below book level n) (P.Below (book-of book) level n) (λ g. both g .0)
+            (λ g. both g .1) x,
+      )
 
       from : P.Below (book-of book) level (suc n) h → D.Below book level (suc n) h
       from (inl x) = inl (both h .1 x)
-      from (inr (e, x)) = inr (e, derived-holds book level n sound (D.Below book level n) (P.Below (book-of book) level n) (λ g. both g .0) (λ g. both g .1) x)
+      from (inr (e, x)) = inr (
+        e,
+        derived-holds book level n sound (D.Below book level n) (P.Below (book-of book) level n) (λ g. both g .0)
+            (λ g. both g .1) x,
+      )
 
   below-both : (n : ℕ) → Both n
   below-both zero = λ h. ((λ x. x), (λ x. x))
   below-both (suc n) = below-next n (below-both n)
 
   pub in-to : (h : ℕ) → D.In book level h → P.In (book-of book) level h
-  in-to h x = let both = below-both (level h) in holds-derived book level (level h) sound (D.Below book level (level h)) (P.Below (book-of book) level (level h)) (λ g. both g .0) (λ g. both g .1) x
+  in-to h x = let both = below-both (level h) in holds-derived book level (level h) sound (D.Below book level (level h))
+      (P.Below (book-of book) level (level h)) (λ g. both g .0) (λ g. both g .1) x
 
   pub in-from : (h : ℕ) → P.In (book-of book) level h → D.In book level h
-  in-from h x = let both = below-both (level h) in derived-holds book level (level h) sound (D.Below book level (level h)) (P.Below (book-of book) level (level h)) (λ g. both g .0) (λ g. both g .1) x
+  in-from h x = let both = below-both (level h) in
+      derived-holds book level (level h) sound (D.Below book level (level h)) (P.Below (book-of book) level (level h)) (λ g. both g .0)
+      (λ g. both g .1) x

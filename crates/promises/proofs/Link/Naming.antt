@@ -61,15 +61,22 @@ module _ (G : Premises) where
     pub agree : Agree (G .book) goals tables p
     pub ready : Ready (setting-of G) p
 
-  pub open-made : {gs : List ℕ} {ts : Tables} {p : M.Forest} → Agree (G .book) gs ts p → Ready (setting-of G) p → (h : ℕ) → h < length (G .book) → Made (G .book) (G .limit) 0 gs ts p (p .clock) 0 h
-  open-made {p = p} a ready h lt = make-table (G .sound) (G .limit) 0 a (p .clock) 0 h lt (let x = ready-strands (setting-of G) p ready in omega arith)
+  pub open-made : {gs : List ℕ} {ts : Tables} {p : M.Forest} → Agree (G .book) gs ts p → Ready (setting-of G) p → (h : ℕ)
+      → h < length (G .book) → Made (G .book) (G .limit) 0 gs ts p (p .clock) 0 h
+  open-made {p = p} a ready h lt = make-table (G .sound) (G .limit) 0 a (p .clock) 0 h lt
+      (let x = ready-strands (setting-of G) p ready in omega arith)
 
-  pub opened-is : {gs : List ℕ} {ts : Tables} {p : M.Forest} (a : Agree (G .book) gs ts p) (ready : Ready (setting-of G) p) (h : ℕ) (lt : h < length (G .book))
-      → opened 0 (forest-in G 0 ts (p .clock)) h ≡ record { table = go (open-made a ready h lt .place); forest = forest-in G 0 (open-made a ready h lt .after) (p .clock) }
+  pub opened-is : {gs : List ℕ} {ts : Tables} {p : M.Forest} (a : Agree (G .book) gs ts p) (ready : Ready (setting-of G) p) (h : ℕ)
+      (lt : h < length (G .book))
+      → opened 0 (forest-in G 0 ts (p .clock)) h ≡ record {
+        table = go (open-made a ready h lt .place);
+        forest = forest-in G 0 (open-made a ready h lt .after) (p .clock);
+      }
   opened-is a ready h lt = rw (open-made a ready h lt .is, opened)
 
   -- a table names its goal
-  pub named : {gs : List ℕ} {ts : Tables} {p : M.Forest} → Agree (G .book) gs ts p → Ready (setting-of G) p → (t g : ℕ) → getElem? gs t ≡ some g → (Is : ℕ → Type 0) → Is g → Named (forest-in G 0 ts (p .clock)) t Is
+  pub named : {gs : List ℕ} {ts : Tables} {p : M.Forest} → Agree (G .book) gs ts p → Ready (setting-of G) p → (t g : ℕ)
+      → getElem? gs t ≡ some g → (Is : ℕ → Type 0) → Is g → Named (forest-in G 0 ts (p .clock)) t Is
   named {gs} {ts} {p} a ready t g at Is yes-g = ((g, first), other)
     where
       F : Forest
@@ -79,15 +86,20 @@ module _ (G : Premises) where
       first =
           let lt = a .within t g at in
           let m = open-made a ready g lt in
-          let same : m .place ≡ t = m .agree .distinct (m .place) t g (m .at) (m .more t g at) in
-          (opened 0 (forest-in G 0 ts (p .clock)) g, rw (lt-leb (length (G .book)) g lt), ap (λ (z : Opened). z .table) (opened-is a ready g lt) ∙ ap go same)
+          let same : m .place ≡ t = m .agree .distinct (m .place) t g (m .at) (m .more t g at) in (
+            opened 0 (forest-in G 0 ts (p .clock)) g,
+            rw (lt-leb (length (G .book)) g lt),
+            ap (λ (z : Opened). z .table)
+                (opened-is a ready g lt) ∙ ap go same,
+          )
 
       other : (h : ℕ) → Names (forest-in G 0 ts (p .clock)) t h → Is h
       other h (r, e, k) =
           let x = all-pass (false refuses 20 ∷ leb (length (G .book)) h refuses 9 ∷ []) (opened 0 (forest-in G 0 ts (p .clock)) h) r e in
           let lt = leb-false (length (G .book)) h (x .0 .1 .0) in
           let m = open-made a ready h lt in
-          let q : go (m .place) ≡ go t = sym (ap (λ (z : Opened). z .table) (opened-is a ready h lt)) ∙ ap (λ (z : Opened). z .table) (x .1) ∙ k in
+          let q : go (m .place) ≡ go t = sym (ap (λ (z : Opened). z .table) (opened-is a ready h lt)) ∙ ap (λ (z : Opened). z .table) (x .1)
+          ∙ k in
           let same : m .place ≡ t = same-go q in
           let g-h : g ≡ h = same-some (sym (m .more t g at) ∙ sym (ap (getElem? (m .goals)) same) ∙ m .at) in
           subst Is g-h yes-g

@@ -36,11 +36,14 @@ body-names n (l ∷ ls) e =
 
 clauses-names : (n : ℕ) (cs : List Clause) → clauses-name n cs ≡ true → Each (λ c. Names n (body-of (c .literals))) cs
 clauses-names n [] e = tt
-clauses-names n (c ∷ cs) e = let x = both-true (literals-name n (c .literals)) (clauses-name n cs) e in (body-names n (c .literals) (x .0), clauses-names n cs (x .1))
+clauses-names n (c ∷ cs) e = let x = both-true (literals-name n (c .literals)) (clauses-name n cs) e in
+    (body-names n (c .literals) (x .0), clauses-names n cs (x .1))
 
-goals-names : (n : ℕ) (gs : List Goal) → goals-name n gs ≡ true → (g : ℕ) (G : Goal) → getElem? gs g ≡ some G → Each (λ c. Names n (body-of (c .literals))) (G .clauses)
+goals-names : (n : ℕ) (gs : List Goal) → goals-name n gs ≡ true → (g : ℕ) (G : Goal) → getElem? gs g ≡ some G
+    → Each (λ c. Names n (body-of (c .literals))) (G .clauses)
 goals-names n [] e g G k = absurd (no-such k)
-goals-names n (H ∷ gs) e zero G k = subst (λ (z : Goal). Each (λ c. Names n (body-of (c .literals))) (z .clauses)) (same-some k) (clauses-names n (H .clauses) (both-true (clauses-name n (H .clauses)) (goals-name n gs) e .0))
+goals-names n (H ∷ gs) e zero G k = subst (λ (z : Goal). Each (λ c. Names n (body-of (c .literals))) (z .clauses)) (same-some k)
+    (clauses-names n (H .clauses) (both-true (clauses-name n (H .clauses)) (goals-name n gs) e .0))
 goals-names n (H ∷ gs) e (suc g) G k = goals-names n gs (both-true (clauses-name n (H .clauses)) (goals-name n gs) e .1) g G k
 
 plain-at : (book : Book) → Plain book → (g : ℕ) (G : Goal) → getElem? book g ≡ some G → PlainGoal G

@@ -18,7 +18,8 @@ use Rattle.definitions.specs.Model.{clauses-of}
 use Rattle.laws.proofs.Options.{no-such, same-some}
 use Rattle.promises.proofs.Plain.Model.{Lit, pos, neg, Body, literal-goal}
 use Rattle.promises.proofs.Plain.Machine as M
-use Rattle.promises.proofs.Link.View.{StrandIs, free, bound, QueueIs, q-end, q-more, TableIs, table-is, TableAt, TablesAre, t-end, t-more, ActiveIs, no-active, an-active, StackIs, s-end, s-more}
+use Rattle.promises.proofs.Link.View.{StrandIs, free, bound, QueueIs, q-end, q-more, TableIs, table-is, TableAt, TablesAre, t-end}
+use Rattle.promises.proofs.Link.View.{t-more, ActiveIs, no-active, an-active, StackIs, s-end, s-more}
 
 abbrev pub lit : Literal → Lit
 lit (Positive g w o) = pos g
@@ -64,13 +65,15 @@ module _ {n : ℕ} {gs gs' : List ℕ} (more : Extends gs gs') where
   stack-more s-end = s-end
   stack-more (s-more i g c p r e a x) = s-more i g c p r (more i g e) (active-more a) (stack-more x)
 
-pub queue-append : {n : ℕ} {gs : List ℕ} {ss ts : List Strand} {ms os : List M.Strand} → QueueIs n gs ss ms → QueueIs n gs ts os → QueueIs n gs (ss ++ ts) (ms ++ os)
+pub queue-append : {n : ℕ} {gs : List ℕ} {ss ts : List Strand} {ms os : List M.Strand} → QueueIs n gs ss ms → QueueIs n gs ts os
+    → QueueIs n gs (ss ++ ts) (ms ++ os)
 queue-append q-end y = y
 queue-append (q-more x xs) y = q-more x (queue-append xs y)
 
 -- Places.
 
-pub table-found : {n : ℕ} {gs : List ℕ} {p : M.Forest} {hs : List ℕ} {ts : Tables} → TablesAre n gs p hs ts → (i g : ℕ) → getElem? hs i ≡ some g → (t : Table) × (getElem? ts i ≡ some t) × TableAt n gs p g t
+pub table-found : {n : ℕ} {gs : List ℕ} {p : M.Forest} {hs : List ℕ} {ts : Tables} → TablesAre n gs p hs ts → (i g : ℕ)
+    → getElem? hs i ≡ some g → (t : Table) × (getElem? ts i ≡ some t) × TableAt n gs p g t
 table-found t-end i g e = absurd (no-such e)
 table-found {n} {gs} {p} (t-more {g = h} {t = t} x xs) zero g e = (t, refl, subst (λ z. TableAt n gs p z t) (same-some e) x)
 table-found (t-more x xs) (suc i) g e = table-found xs i g e
@@ -80,11 +83,15 @@ pub tables-map : {n : ℕ} {gs gs' : List ℕ} {p p' : M.Forest} {hs : List ℕ}
 tables-map t-end f = t-end
 tables-map (t-more {g = g} {t = t} x xs) f = t-more (f 0 g refl t x) (tables-map xs (λ i. f (suc i)))
 
-pub tables-set : {n : ℕ} {gs : List ℕ} {p p' : M.Forest} {hs : List ℕ} {ts : Tables} → TablesAre n gs p hs ts → (i g : ℕ) → getElem? hs i ≡ some g → (t : Table) → TableAt n gs p' g t
-    → ((j h : ℕ) → getElem? hs j ≡ some h → (i ≡ j → ⊥) → (t : Table) → TableAt n gs p h t → TableAt n gs p' h t) → TablesAre n gs p' hs (set ts i t)
+pub tables-set : {n : ℕ} {gs : List ℕ} {p p' : M.Forest} {hs : List ℕ} {ts : Tables} → TablesAre n gs p hs ts → (i g : ℕ)
+    → getElem? hs i ≡ some g → (t : Table) → TableAt n gs p' g t
+    → ((j h : ℕ) → getElem? hs j ≡ some h → (i ≡ j → ⊥) → (t : Table) → TableAt n gs p h t → TableAt n gs p' h t)
+    → TablesAre n gs p' hs (set ts i t)
 tables-set t-end i g e t x f = absurd (no-such e)
-tables-set {n} {gs} {p} {p'} (t-more y ys) zero g e t x f = t-more (subst (λ z. TableAt n gs p' z t) (sym (same-some e)) x) (tables-map ys (λ j h o. f (suc j) h o (λ w. omega arith)))
-tables-set (t-more {g = h} {t = u} y ys) (suc i) g e t x f = t-more (f 0 h refl (λ w. omega arith) u y) (tables-set ys i g e t x (λ j h' o w. f (suc j) h' o (λ v. w (omega arith))))
+tables-set {n} {gs} {p} {p'} (t-more y ys) zero g e t x f =
+    t-more (subst (λ z. TableAt n gs p' z t) (sym (same-some e)) x) (tables-map ys (λ j h o. f (suc j) h o (λ w. omega arith)))
+tables-set (t-more {g = h} {t = u} y ys) (suc i) g e t x f =
+    t-more (f 0 h refl (λ w. omega arith) u y) (tables-set ys i g e t x (λ j h' o w. f (suc j) h' o (λ v. w (omega arith))))
 
 -- By goal.
 
@@ -95,7 +102,8 @@ pub data FoundIs (g : ℕ) (hs : List ℕ) : Option ℕ → Type 0 where
 pub table-names : {n : ℕ} {gs : List ℕ} {g : ℕ} {a m : Bool} {q : List M.Strand} {t : Table} → TableIs n gs g a m q t → t .table-goal ≡ g
 table-names (table-is ss x) = refl
 
-found-next : (g h : ℕ) (hs : List ℕ) (o : Option ℕ) → (h ≡ g → ⊥) → FoundIs g hs o → FoundIs g (h ∷ hs) (elim o [ none ↦ none | some i ↦ some (suc i) ])
+found-next : (g h : ℕ) (hs : List ℕ) (o : Option ℕ) → (h ≡ g → ⊥) → FoundIs g hs o
+    → FoundIs g (h ∷ hs) (elim o [ none ↦ none | some i ↦ some (suc i) ])
 found-next g h hs none no-h (found-none a) = found-none go
   where
     go : (i : ℕ) → getElem? (h ∷ hs) i ≡ some g → ⊥
@@ -103,11 +111,13 @@ found-next g h hs none no-h (found-none a) = found-none go
     go (suc i) e = a i e
 found-next g h hs (some i) no-h (found-at j e) = found-at (suc j) e
 
-found-step : (g h : ℕ) (hs : List ℕ) (t : Table) (ts : Tables) → t .table-goal ≡ h → Dec (h ≡ g) → FoundIs g hs (index-of g ts) → FoundIs g (h ∷ hs) (index-of g (t ∷ ts))
+found-step : (g h : ℕ) (hs : List ℕ) (t : Table) (ts : Tables) → t .table-goal ≡ h → Dec (h ≡ g) → FoundIs g hs (index-of g ts)
+    → FoundIs g (h ∷ hs) (index-of g (t ∷ ts))
 found-step g h hs t ts k (yes e) r = rw (eq-eqb (t .table-goal) g (k ∙ e), position) (found-at 0 (ap some e))
 found-step g h hs t ts k (no o) r = rw (ne-eqb (t .table-goal) g (λ x. o (sym k ∙ x)), position) (found-next g h hs (index-of g ts) o r)
 
-pub goal-found : {n : ℕ} {gs : List ℕ} {p : M.Forest} {hs : List ℕ} {ts : Tables} → TablesAre n gs p hs ts → (g : ℕ) → FoundIs g hs (index-of g ts)
+pub goal-found : {n : ℕ} {gs : List ℕ} {p : M.Forest} {hs : List ℕ} {ts : Tables} → TablesAre n gs p hs ts → (g : ℕ)
+    → FoundIs g hs (index-of g ts)
 goal-found t-end g = found-none (λ i e. no-such e)
 goal-found (t-more {g = h} {hs = hs} {t = t} {ts = ts} x xs) g = found-step g h hs t ts (table-names x) (ℕ-discrete h g) (goal-found xs g)
 
@@ -130,14 +140,17 @@ pub record SameBut (g : ℕ) (p p' : M.Forest) : Type 0 where
   pub first : (h : ℕ) → (g ≡ h → ⊥) → p' .first h ≡ p .first h
   pub queue : (h : ℕ) → (g ≡ h → ⊥) → p' .queue h ≡ p .queue h
 
-table-same : {n : ℕ} {gs : List ℕ} {g h : ℕ} {p p' : M.Forest} → SameBut g p p' → (g ≡ h → ⊥) → (t : Table) → TableAt n gs p h t → TableAt n gs p' h t
+table-same : {n : ℕ} {gs : List ℕ} {g h : ℕ} {p p' : M.Forest} → SameBut g p p' → (g ≡ h → ⊥) → (t : Table) → TableAt n gs p h t
+    → TableAt n gs p' h t
 table-same {h = h} s o t x = rw (s .answered h o, s .first h o, s .queue h o) x
 
-pub agree-set : {book : Book} {gs : List ℕ} {ts : Tables} {p p' : M.Forest} → Agree book gs ts p → (i g : ℕ) → getElem? gs i ≡ some g → (t : Table) → TableAt (length book) gs p' g t → SameBut g p p' → Agree book gs (set ts i t) p'
+pub agree-set : {book : Book} {gs : List ℕ} {ts : Tables} {p p' : M.Forest} → Agree book gs ts p → (i g : ℕ) → getElem? gs i ≡ some g
+    → (t : Table) → TableAt (length book) gs p' g t → SameBut g p p' → Agree book gs (set ts i t) p'
 agree-set {p = p} {p' = p'} a i g e t x s = record {
   tables = tables-set (a .tables) i g e t x (λ j h o w u y. table-same s (λ k. w (a .distinct i j h (e ∙ ap some k) o)) u y);
   distinct = a .distinct;
   within = a .within;
   made = λ j h o. s .made h ∙ a .made j h o;
-  unmade = λ h o. let w : g ≡ h → ⊥ = λ k. o i (e ∙ ap some k) in let r = a .unmade h o in (s .answered h w ∙ r .0, s .first h w ∙ r .1, s .queue h w ∙ r .2);
+  unmade = λ h o. let w : g ≡ h → ⊥ = λ k. o i (e ∙ ap some k) in let r = a .unmade h o in
+      (s .answered h w ∙ r .0, s .first h w ∙ r .1, s .queue h w ∙ r .2);
 }

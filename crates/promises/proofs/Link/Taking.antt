@@ -30,20 +30,29 @@ module _ {n : ℕ} {gs : List ℕ} (c : ℕ) (mode : AnswerMode) where
 -- what taking gives: `pre` has been passed over
 pub data TakeIs (n : ℕ) (gs : List ℕ) (pre xs : List Strand) : Option ℕ → Option (M.Strand × List M.Strand) → Type 0 where
   take-none : TakeIs n gs pre xs none none
-  take-some : {k : ℕ} {s : Strand} {zs : List Strand} {q : M.Strand} {r : List M.Strand} → drop k xs ≡ s ∷ zs → StrandIs n gs s q → QueueIs n gs (zs ++ (pre ++ take k xs)) r → TakeIs n gs pre xs (some k) (some (q, r))
+  take-some : {k : ℕ} {s : Strand} {zs : List Strand} {q : M.Strand} {r : List M.Strand} → drop k xs ≡ s ∷ zs → StrandIs n gs s q
+      → QueueIs n gs (zs ++ (pre ++ take k xs)) r → TakeIs n gs pre xs (some k) (some (q, r))
 
 module _ {n : ℕ} {gs : List ℕ} where
-  later : (pre xs : List Strand) (x : Strand) (o : Option ℕ) (r : Option (M.Strand × List M.Strand)) → TakeIs n gs (pre ++ (x ∷ [])) xs o r → TakeIs n gs pre (x ∷ xs) (elim o [ none ↦ none | some i ↦ some (suc i) ]) r
+  later : (pre xs : List Strand) (x : Strand) (o : Option ℕ) (r : Option (M.Strand × List M.Strand)) → TakeIs n gs (pre ++ (x ∷ [])) xs o r
+      → TakeIs n gs pre (x ∷ xs) (elim o [ none ↦ none | some i ↦ some (suc i) ]) r
   later pre xs x none none take-none = take-none
-  later pre xs x (some k) (some (q, r)) (take-some {s = s} {zs = zs} e y z) = take-some e y (subst (λ w. QueueIs n gs (zs ++ w) r) (append-assoc pre (x ∷ []) (take k xs)) z)
+  later pre xs x (some k) (some (q, r)) (take-some {s = s} {zs = zs} e y z) =
+      take-some e y (subst (λ w. QueueIs n gs (zs ++ w) r) (append-assoc pre (x ∷ []) (take k xs)) z)
 
-pub take-is : {n : ℕ} {gs : List ℕ} (c : ℕ) (mode : AnswerMode) {pre xs : List Strand} {qs ms : List M.Strand} → QueueIs n gs pre qs → QueueIs n gs xs ms → TakeIs n gs pre xs (position (eligible c mode) xs) (M.take-from c qs ms)
+pub take-is : {n : ℕ} {gs : List ℕ} (c : ℕ) (mode : AnswerMode) {pre xs : List Strand} {qs ms : List M.Strand} → QueueIs n gs pre qs
+    → QueueIs n gs xs ms → TakeIs n gs pre xs (position (eligible c mode) xs) (M.take-from c qs ms)
 take-is c mode p q-end = take-none
-take-is {n} {gs} c mode {pre = pre} {qs = qs} p (q-more {s = s} {ss = ss} {m = m} {ms = ms} x xs) = at (decLt (m .time) c) (take-is c mode (queue-append p (q-more x q-end)) xs)
+take-is {n} {gs} c mode {pre = pre} {qs = qs} p (q-more {s = s} {ss = ss} {m = m} {ms = ms} x xs) =
+    at (decLt (m .time) c) (take-is c mode (queue-append p (q-more x q-end)) xs)
   where
-    at : (d : Dec (m .time < c)) → TakeIs n gs (pre ++ (s ∷ [])) ss (position (eligible c mode) ss) (M.take-from c (qs ++ (m ∷ [])) ms) → TakeIs n gs pre (s ∷ ss) (position (eligible c mode) (s ∷ ss)) (M.take-at d m (ms ++ qs) (M.take-from c (qs ++ (m ∷ [])) ms))
-    at (yes o) r = rw (may c mode x o, position) (take-some refl x (queue-append xs (subst (λ w. QueueIs n gs w qs) (sym (append-nil pre)) p)))
-    at (no o) r = rw (may-not c mode x (omega arith), position) (later pre ss s (position (eligible c mode) ss) (M.take-from c (qs ++ (m ∷ [])) ms) r)
+    at : (d : Dec (m .time < c)) → TakeIs n gs (pre ++ (s ∷ [])) ss (position (eligible c mode) ss) (M.take-from c (qs ++ (m ∷ [])) ms)
+        → TakeIs n gs pre (s ∷ ss) (position (eligible c mode) (s ∷ ss)) (M.take-at d m (ms ++ qs) (M.take-from c (qs ++ (m ∷ [])) ms))
+    at (yes o) r = rw (may c mode x o, position) (take-some refl x
+        (queue-append xs (subst (λ w. QueueIs n gs w qs) (sym (append-nil pre)) p)))
+    at (no o) r = rw (may-not c mode x (omega arith), position)
+        (later pre ss s (position (eligible c mode) ss) (M.take-from c (qs ++ (m ∷ [])) ms) r)
 
-pub take-front : (test : Strand → Bool) (t : Table) (k : ℕ) (s : Strand) (zs : List Strand) → position test (t .strands) ≡ some k → drop k (t .strands) ≡ s ∷ zs → dequeue-next-strand-that test t ≡ some (s, with-strands t (zs ++ take k (t .strands)))
+pub take-front : (test : Strand → Bool) (t : Table) (k : ℕ) (s : Strand) (zs : List Strand) → position test (t .strands) ≡ some k
+    → drop k (t .strands) ≡ s ∷ zs → dequeue-next-strand-that test t ≡ some (s, with-strands t (zs ++ take k (t .strands)))
 take-front test t k s zs e d = rw (e, dequeue-next-strand-that) (rw (d, pop-front))

@@ -40,17 +40,25 @@ Lost M.unselected = Unit {0}
 Lost M.repeated = Unit {0}
 Lost M.broken = Unit {0}
 
--- a turn beside a turn; gs are the goals of the tables before it, `before` is the machine's forest with the search put back before the turn, r the goal that is searched for
+-- a turn beside a turn; gs are the goals of the tables before it, `before` is the machine's forest with the search put back before the
+-- turn, r the goal that is searched for
 pub data TurnIs (book : Book) (limit : ℕ) (gs : List ℕ) (before : M.Forest) (r : ℕ) : Stops Flow → M.Turn → Type 0 where
-  going : {hs : List ℕ} {ts : Tables} {p : M.Forest} {d : StackEntry} {ds : Stack} {e : M.Entry} {es : List M.Entry} → Extends gs hs → Agree book hs ts p → StackIs (length book) hs (d ∷ ds) (e ∷ es)
+  going : {hs : List ℕ} {ts : Tables} {p : M.Forest} {d : StackEntry} {ds : Stack} {e : M.Entry} {es : List M.Entry} → Extends gs hs
+      → Agree book hs ts p → StackIs (length book) hs (d ∷ ds) (e ∷ es)
       → TurnIs book limit gs before r (go (continue (state-of book limit ts (p .clock) (d ∷ ds)))) (M.turn-goes-on p e es)
-  gave-up : {hs : List ℕ} {ts : Tables} {p : M.Forest} {s : SolveState} → Extends gs hs → drop-state s ≡ go (forest-of book limit 0 ts (p .clock)) → Agree book hs ts p → TurnIs book limit gs before r (go (return-err QuantumExceeded s)) (M.stop M.again p)
-  no-more : {hs : List ℕ} {ts : Tables} {p : M.Forest} {s : SolveState} → Extends gs hs → drop-state s ≡ go (forest-of book limit 0 ts (p .clock)) → Agree book hs ts p → TurnIs book limit gs before r (go (return-err NoMoreSolutions s)) (M.stop M.no-more-left p)
-  answered : {hs : List ℕ} {ts : Tables} {p : M.Forest} → Extends gs hs → Agree book hs ts p → p .answered r ≡ true → TurnIs book limit gs before r (go (return-ok (state-of book limit ts (p .clock) []))) (M.stop M.found p)
+  gave-up : {hs : List ℕ} {ts : Tables} {p : M.Forest} {s : SolveState} → Extends gs hs
+      → drop-state s ≡ go (forest-of book limit 0 ts (p .clock)) → Agree book hs ts p
+      → TurnIs book limit gs before r (go (return-err QuantumExceeded s)) (M.stop M.again p)
+  no-more : {hs : List ℕ} {ts : Tables} {p : M.Forest} {s : SolveState} → Extends gs hs
+      → drop-state s ≡ go (forest-of book limit 0 ts (p .clock)) → Agree book hs ts p
+      → TurnIs book limit gs before r (go (return-err NoMoreSolutions s)) (M.stop M.no-more-left p)
+  answered : {hs : List ℕ} {ts : Tables} {p : M.Forest} → Extends gs hs → Agree book hs ts p → p .answered r ≡ true
+      → TurnIs book limit gs before r (go (return-ok (state-of book limit ts (p .clock) []))) (M.stop M.found p)
   clock-out : limit ≤ before .clock → TurnIs book limit gs before r (stop 21) (M.stop M.clock-ended before)
   lost : {d : Stops Flow} {o : M.Outcome} {p : M.Forest} → Lost o → TurnIs book limit gs before r d (M.stop o p)
 
-pub from-more : {book : Book} {limit : ℕ} {gs hs : List ℕ} {before : M.Forest} {r : ℕ} {d : Stops Flow} {t : M.Turn} → Extends gs hs → TurnIs book limit hs before r d t → TurnIs book limit gs before r d t
+pub from-more : {book : Book} {limit : ℕ} {gs hs : List ℕ} {before : M.Forest} {r : ℕ} {d : Stops Flow} {t : M.Turn} → Extends gs hs
+    → TurnIs book limit hs before r d t → TurnIs book limit gs before r d t
 from-more x (going y a s) = going (λ i g o. y i g (x i g o)) a s
 from-more x (gave-up y e a) = gave-up (λ i g o. y i g (x i g o)) e a
 from-more x (no-more y e a) = no-more (λ i g o. y i g (x i g o)) e a
@@ -80,7 +88,8 @@ pub lined-apart : (N : M.Limits) (e : M.Entry) (es : List M.Entry) → Lined N e
 lined-apart N e [] l = ((λ o. o), tt)
 lined-apart N e (c ∷ es) l = (l .1, lined-apart N c es (l .3))
 
-pub piled-lined : (S : Setting) (ans : ℕ → Bool) (H : ℕ → M.Strand → Type 0) (q : M.Queues) (e : M.Entry) (es : List M.Entry) → Piled S ans H q e es → Lined (S .limits) e es
+pub piled-lined : (S : Setting) (ans : ℕ → Bool) (H : ℕ → M.Strand → Type 0) (q : M.Queues) (e : M.Entry) (es : List M.Entry)
+    → Piled S ans H q e es → Lined (S .limits) e es
 piled-lined S ans H q e [] x = x .1 .plain
 piled-lined S ans H q e (c ∷ es) x = (x .1 .plain, x .1 .new, x .2, piled-lined S ans H q c es (x .3))
 
@@ -93,9 +102,11 @@ pub data CycleIs (ds : Stack) : Option ℕ → Option ℕ → Type 0 where
 module _ (n : ℕ) (gs : List ℕ) (distinct : Distinct gs) (j u : ℕ) (named : getElem? gs j ≡ some u) where
   inactive : {ds : Stack} {es : List M.Entry} → StackIs n gs ds es → (On u es → ⊥) → is-active j ds ≡ none
   inactive s-end o = refl
-  inactive (s-more i g c p r e a xs) o = rw (inactive xs (λ x. o (inr x)), is-active) (rw (ne-eqb i j (λ k. o (inl (same-some (sym e ∙ ap (getElem? gs) k ∙ named))))))
+  inactive (s-more i g c p r e a xs) o = rw (inactive xs (λ x. o (inr x)), is-active)
+      (rw (ne-eqb i j (λ k. o (inl (same-some (sym e ∙ ap (getElem? gs) k ∙ named))))))
 
-  cycle-next : (d : StackEntry) (ds : Stack) (o : Option ℕ) (k : Option ℕ) → eqb (d .table) j ≡ false → is-active j ds ≡ o → CycleIs ds o k → CycleIs (d ∷ ds) (is-active j (d ∷ ds)) k
+  cycle-next : (d : StackEntry) (ds : Stack) (o : Option ℕ) (k : Option ℕ) → eqb (d .table) j ≡ false → is-active j ds ≡ o → CycleIs ds o k
+      → CycleIs (d ∷ ds) (is-active j (d ∷ ds)) k
   cycle-next d ds none none q e no-cycle = rw (e, is-active) (rw q no-cycle)
   cycle-next d ds (some depth) (some c) q e (a-cycle x y) = rw (e, is-active) (a-cycle x y)
 
@@ -103,9 +114,12 @@ module _ (n : ℕ) (gs : List ℕ) (distinct : Distinct gs) (j u : ℕ) (named :
   cycle-is s-end w = no-cycle
   cycle-is (s-more {ds = ds} {es = es} {a = a} i g c p r e act xs) w = at (ℕ-discrete g u) (cycle-is xs (w .1))
     where
-      at : (d : Dec (g ≡ u)) → CycleIs ds (is-active j ds) (M.find-clock u es) → CycleIs (entry-of i c p r a ∷ ds) (is-active j (entry-of i c p r a ∷ ds)) (M.pick d (some c) (M.find-clock u es))
-      at (yes k) x = rw (inactive xs (λ o. w .0 (subst (λ v. On v es) (sym k) o)), is-active) (rw (eq-eqb i j (distinct i j u (e ∙ ap some k) named)) (a-cycle refl refl))
-      at (no k) x = cycle-next (entry-of i c p r a) ds (is-active j ds) (M.find-clock u es) (ne-eqb i j (λ y. k (same-some (sym e ∙ ap (getElem? gs) y ∙ named)))) refl x
+      at : (d : Dec (g ≡ u)) → CycleIs ds (is-active j ds) (M.find-clock u es)
+          → CycleIs (entry-of i c p r a ∷ ds) (is-active j (entry-of i c p r a ∷ ds)) (M.pick d (some c) (M.find-clock u es))
+      at (yes k) x = rw (inactive xs (λ o. w .0 (subst (λ v. On v es) (sym k) o)), is-active)
+          (rw (eq-eqb i j (distinct i j u (e ∙ ap some k) named)) (a-cycle refl refl))
+      at (no k) x = cycle-next (entry-of i c p r a) ds (is-active j ds) (M.find-clock u es)
+          (ne-eqb i j (λ y. k (same-some (sym e ∙ ap (getElem? gs) y ∙ named)))) refl x
 
 pub and-false : (b : Bool) → (b && false) ≡ false
 and-false true = refl

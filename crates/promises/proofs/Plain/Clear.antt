@@ -66,7 +66,8 @@ module _ (S : Setting) (U : ℕ → Type 0) (out : (u : ℕ) → U u → S .I u 
       size v (yes p) = omega arith
       size v (no n) = omega arith
 
-  emptied-total : (q : Queues) (u : ℕ) → ((s : Strand) → List·Memᴰ s (q u) → Stuck U s) → ((s : Strand) → List·Memᴰ s (q u) → u < S .limits .goals)
+  emptied-total : (q : Queues) (u : ℕ) → ((s : Strand) → List·Memᴰ s (q u) → Stuck U s)
+      → ((s : Strand) → List·Memᴰ s (q u) → u < S .limits .goals)
       → total (S .limits .goals) (λ g. length (put q u [] g)) + length (q u) ≤ total (S .limits .goals) (λ g. length (q g))
   emptied-total q u stuck inside = go (q u) refl
     where
@@ -76,14 +77,18 @@ module _ (S : Setting) (U : ℕ → Type 0) (out : (u : ℕ) → U u → S .I u 
       none-here : length (put q u [] u) ≡ 0
       none-here = ap length (put-here q u u [] refl)
 
-      go : (x : List Strand) → q u ≡ x → total (S .limits .goals) (λ g. length (put q u [] g)) + length (q u) ≤ total (S .limits .goals) (λ g. length (q g))
-      go [] p = let a = total-mono (S .limits .goals) (λ g. length (q g)) (λ g. length (put q u [] g)) (l .size) in let b : length (q u) ≡ 0 = ap length p in omega arith
-      go (x ∷ xs) p = total-drop (S .limits .goals) (λ g. length (q g)) (λ g. length (put q u [] g)) u (length (q u)) (l .size) (inside x (subst (List·Memᴰ x) (sym p) (List·Memᴰ·head refl))) (omega (arith, none-here))
+      go : (x : List Strand) → q u ≡ x → total (S .limits .goals) (λ g. length (put q u [] g)) + length (q u) ≤ total (S .limits .goals)
+          (λ g. length (q g))
+      go [] p = let a = total-mono (S .limits .goals) (λ g. length (q g)) (λ g. length (put q u [] g)) (l .size) in
+          let b : length (q u) ≡ 0 = ap length p in omega arith
+      go (x ∷ xs) p = total-drop (S .limits .goals) (λ g. length (q g)) (λ g. length (put q u [] g)) u (length (q u)) (l .size)
+          (inside x (subst (List·Memᴰ x) (sym p) (List·Memᴰ·head refl))) (omega (arith, none-here))
 
   waits-some : (s : Strand) (k : Stuck U s) → awaited-goal (s .chosen) (s .lits) ≡ some (k .table)
   waits-some s k = rw (k .chosen, k .lits)
 
-  pub clear-ok : (n : ℕ) (w : List Strand) (q : Queues) → ((s : Strand) → List·Memᴰ s w → Stuck U s) → ((u : ℕ) → U u → (s : Strand) → List·Memᴰ s (q u) → Stuck U s) → ((u : ℕ) (s : Strand) → List·Memᴰ s (q u) → u < S .limits .goals)
+  pub clear-ok : (n : ℕ) (w : List Strand) (q : Queues) → ((s : Strand) → List·Memᴰ s w → Stuck U s)
+      → ((u : ℕ) → U u → (s : Strand) → List·Memᴰ s (q u) → Stuck U s) → ((u : ℕ) (s : Strand) → List·Memᴰ s (q u) → u < S .limits .goals)
       → length w + total (S .limits .goals) (λ g. length (q g)) ≤ n → (q' : Queues) × (clear n w q ≡ some q') × Less S q q'
   clear-ok zero [] q work queues inside o = (q, refl, record { less = λ u t m. m; most = λ u t m. inr m; size = λ u. omega arith })
   clear-ok zero (s ∷ w) q work queues inside o = absurd (omega arith)
@@ -94,17 +99,21 @@ module _ (S : Setting) (U : ℕ → Type 0) (out : (u : ℕ) → U u → S .I u 
       let l = less-put q u (queues u (k .place)) in
       let fewer = emptied-total q u (queues u (k .place)) (inside u) in
       let longer : length (q u ++ w) ≡ length (q u) + length w = length-append (q u) w in
-      let r = clear-ok n (q u ++ w) (put q u []) (λ t m. either (queues u (k .place) t) (λ x. work t (List·Memᴰ·tail x)) (List·Memᴰ·append-cases (q u) m))
+      let r = clear-ok n (q u ++ w) (put q u []) (λ t m. either (queues u (k .place) t) (λ x. work t (List·Memᴰ·tail x))
+      (List·Memᴰ·append-cases (q u) m))
       (λ v x t m. queues v x t (l .less v t m)) (λ v t m. inside v t (l .less v t m)) (omega arith) in
       (r .0, ap (λ z. clear-next z (λ v. clear n (q v ++ w) (put q v []))) (waits-some s k) ∙ r .1, less-trans S l (r .2))
 
 -- the clocks rise along the stack
-pub clocks-rise : (S : Setting) (ans : ℕ → Bool) (H : ℕ → Strand → Type 0) (q : Queues) (e : Entry) (es : List Entry) (m u : ℕ) → Piled S ans H q e es → OnFrom m u es → m < e .clock
+pub clocks-rise : (S : Setting) (ans : ℕ → Bool) (H : ℕ → Strand → Type 0) (q : Queues) (e : Entry) (es : List Entry) (m u : ℕ)
+    → Piled S ans H q e es → OnFrom m u es → m < e .clock
 clocks-rise S ans H q e [] m u i o = absurd o
 clocks-rise S ans H q e (c ∷ es) m u (P, i, a, r) (inl (p, o)) = let x = a .earlier in omega arith
 clocks-rise S ans H q e (c ∷ es) m u (P, i, a, r) (inr o) = let x = a .earlier in let y = clocks-rise S ans H q c es m u r o in omega arith
 
-module _ (S : Setting) (ans : ℕ → Bool) (q : Queues) (k : ℕ) (e : Entry) (es : List Entry) (inv : Inv S ans q k e es) (idle : e .active ≡ none) (late : (t : Strand) → List·Memᴰ t (q (e .goal)) → t .time < e .clock → ⊥) (high : e .clock ≤ e .positive-min) where
+module _ (S : Setting) (ans : ℕ → Bool) (q : Queues) (k : ℕ) (e : Entry) (es : List Entry) (inv : Inv S ans q k e es)
+    (idle : e .active ≡ none) (late : (t : Strand) → List·Memᴰ t (q (e .goal)) → t .time < e .clock → ⊥)
+    (high : e .clock ≤ e .positive-min) where
   P : List ℕ
   P = top-new S ans (Holds q (e ∷ es)) q e es (inv .piled) .0
 
@@ -138,18 +147,26 @@ module _ (S : Setting) (ans : ℕ → Bool) (q : Queues) (k : ℕ) (e : Entry) (
 
   -- the tables of the cycle are unfounded
   no-goal : (u : ℕ) → Unfounded u → S .I u → ⊥
-  no-goal = S .unfounded Unfounded λ g x c m. either inl (λ p. let z = stuck g x (p .0) (p .1) in inr (z .table, p .2 (pos (z .table)) (subst (List·Memᴰ (pos (z .table))) (sym (z .lits)) (List·Memᴰ·head refl)), z .place)) (inv .fine .kept g (pending-all g x) c m)
+  no-goal = S .unfounded Unfounded λ g x c m. either inl
+      (λ p. let z = stuck g x (p .0) (p .1) in inr (
+        z .table,
+        p .2 (pos (z .table))
+            (subst (List·Memᴰ (pos (z .table))) (sym (z .lits)) (List·Memᴰ·head refl)),
+        z .place,
+      )) (inv .fine .kept g (pending-all g x) c m)
 
   own : Unfounded (e .goal)
   unfolding Unfounded
   own = inl refl
 
-  pub case-clear : (q' : Queues) × (clear (total (S .limits .goals) (λ g. length (q g))) (q (e .goal)) (put q (e .goal) []) ≡ some q') × Less S (put q (e .goal) []) q' × Less S q (put q (e .goal) [])
+  pub case-clear : (q' : Queues) × (clear (total (S .limits .goals) (λ g. length (q g))) (q (e .goal)) (put q (e .goal) []) ≡ some q')
+      × Less S (put q (e .goal) []) q' × Less S q (put q (e .goal) [])
   case-clear =
       let g = e .goal in
       let here : (s : Strand) → List·Memᴰ s (q g) → Stuck Unfounded s = λ s m. stuck g own s (inl m) in
       let inside : (u : ℕ) (s : Strand) → List·Memᴰ s (q u) → u < S .limits .goals = λ u s m. inv .fine .good u s (inl m) .inside in
       let l = less-put S Unfounded no-goal q g here in
       let o = emptied-total S Unfounded no-goal q g here (inside g) in
-      let r = clear-ok S Unfounded no-goal (total (S .limits .goals) (λ g. length (q g))) (q g) (put q g []) here (λ u x s m. stuck u x s (inl (l .less u s m))) (λ u s m. inside u s (l .less u s m)) (omega arith) in
+      let r = clear-ok S Unfounded no-goal (total (S .limits .goals) (λ g. length (q g))) (q g) (put q g []) here
+      (λ u x s m. stuck u x s (inl (l .less u s m))) (λ u s m. inside u s (l .less u s m)) (omega arith) in
       (r .0, r .1, r .2, l)

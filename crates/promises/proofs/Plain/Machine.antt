@@ -139,13 +139,27 @@ module _ (N : Limits) where
   -- the strand has no literal left
   abbrev pub answering : Bool → Forest → Entry → List Entry → Turn
   answering true f e es = ended repeated f es
-  answering false f e [] = stop found (record { made = f .made; answered = put (f .answered) (e .goal) true; first = f .first; queue = put (f .queue) (e .goal) []; clock = f .clock })
-  answering false f e (c ∷ es) = turn-goes-on (record { made = f .made; answered = put (f .answered) (e .goal) true; first = f .first; queue = put (f .queue) (e .goal) []; clock = f .clock }) c es
+  answering false f e [] = stop found (record {
+    made = f .made;
+    answered = put (f .answered) (e .goal) true;
+    first = f .first;
+    queue = put (f .queue) (e .goal) [];
+    clock = f .clock;
+  })
+  answering false f e (c ∷ es) = turn-goes-on (record {
+    made = f .made;
+    answered = put (f .answered) (e .goal) true;
+    first = f .first;
+    queue = put (f .queue) (e .goal) [];
+    clock = f .clock;
+  }) c es
 
   -- the selected literal's table is on the stack, with this clock
   abbrev pub parking : Lit → ℕ → Forest → Entry → List Entry → Strand → Turn
-  parking (pos h) c f e es s = turn-goes-on (with-queue f (append (f .queue) (e .goal) s)) (with-mins e (min (e .positive-min) c) (e .negative-min)) es
-  parking (neg h) c f e es s = turn-goes-on (with-queue f (append (f .queue) (e .goal) s)) (with-mins e (min (e .positive-min) (e .clock)) (min (e .negative-min) c)) es
+  parking (pos h) c f e es s = turn-goes-on (with-queue f (append (f .queue) (e .goal) s))
+      (with-mins e (min (e .positive-min) c) (e .negative-min)) es
+  parking (neg h) c f e es s = turn-goes-on (with-queue f (append (f .queue) (e .goal) s))
+      (with-mins e (min (e .positive-min) (e .clock)) (min (e .negative-min) c)) es
 
   abbrev pub pushing : {P : Type 0} → Dec P → Forest → Forest → ℕ → Entry → List Entry → Strand → Turn
   pushing (yes p) before f u e es s = turn-goes-on (tick f) (entry-pushed u (suc (f .clock))) (entry-with e (some s) ∷ es)
@@ -190,8 +204,10 @@ module _ (N : Limits) where
 
   abbrev pub cycle-at : Body → Strand → Forest → Entry → Entry → List Entry → Turn
   cycle-at [] s f e c es = ended broken f es
-  cycle-at (pos h ∷ b) s f e c es = turn-goes-on (with-queue f (append (f .queue) (c .goal) s)) (with-mins c (min (c .positive-min) (e .positive-min)) (min (c .negative-min) (e .negative-min))) es
-  cycle-at (neg h ∷ b) s f e c es = turn-goes-on (with-queue f (append (f .queue) (c .goal) s)) (with-mins c (min (c .positive-min) (c .clock)) (min (c .negative-min) (min (e .positive-min) (e .negative-min)))) es
+  cycle-at (pos h ∷ b) s f e c es = turn-goes-on (with-queue f (append (f .queue) (c .goal) s))
+      (with-mins c (min (c .positive-min) (e .positive-min)) (min (c .negative-min) (e .negative-min))) es
+  cycle-at (neg h ∷ b) s f e c es = turn-goes-on (with-queue f (append (f .queue) (c .goal) s))
+      (with-mins c (min (c .positive-min) (c .clock)) (min (c .negative-min) (min (e .positive-min) (e .negative-min)))) es
 
   abbrev pub cycle : Option Strand → Forest → Entry → Entry → List Entry → Turn
   cycle none f e c es = ended broken f es
@@ -202,7 +218,13 @@ module _ (N : Limits) where
   part-of f e (c ∷ es) = cycle (c .active) f e c es
 
   abbrev pub waiting : {P Q : Type 0} → Bool → Dec P → Dec Q → Forest → Entry → List Entry → Turn
-  waiting true d d' f e es = ended again (record { made = f .made; answered = f .answered; first = put (f .first) (e .goal) false; queue = f .queue; clock = f .clock }) es
+  waiting true d d' f e es = ended again (record {
+    made = f .made;
+    answered = f .answered;
+    first = put (f .first) (e .goal) false;
+    queue = f .queue;
+    clock = f .clock;
+  }) es
   waiting false (yes p) (yes q) f e es = clearing (ℕ-discrete (e .negative-min) (N .max)) f e es
   waiting false (yes p) (no q) f e es = part-of f e es
   waiting false (no p) d' f e es = part-of f e es

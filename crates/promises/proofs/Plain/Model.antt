@@ -35,7 +35,8 @@ pub data LevelBody (level : ℕ → ℕ) (n : ℕ) : Body → Type 0 where
 pub data Derived (book : Book) (level : ℕ → ℕ) (n : ℕ) (Below : ℕ → Type 0) : Body → Type 0 where
   done : Derived book level n Below []
   lower : {h : ℕ} {b : Body} → Below h → Derived book level n Below b → Derived book level n Below (pos h ∷ b)
-  here : {h : ℕ} {b : Body} (c : Body) → level h ≡ n → List·Memᴰ c (book h) → Derived book level n Below c → Derived book level n Below b → Derived book level n Below (pos h ∷ b)
+  here : {h : ℕ} {b : Body} (c : Body) → level h ≡ n → List·Memᴰ c (book h) → Derived book level n Below c → Derived book level n Below b
+      → Derived book level n Below (pos h ∷ b)
   absent : {h : ℕ} {b : Body} → (Below h → ⊥) → Derived book level n Below b → Derived book level n Below (neg h ∷ b)
 
 module _ (book : Book) (level : ℕ → ℕ) where
@@ -94,11 +95,13 @@ module _ (book : Book) (level : ℕ → ℕ) where
   derived-in n h (lower x d) = below-in n h x
   derived-in n h (here c e m d r) = subst (λ k. Derived book level k (Below book level k) (pos h ∷ [])) (sym e) (here c e m d done)
 
-  prepend : (n h : ℕ) {b : Body} → Derived book level n (Below book level n) (pos h ∷ []) → Derived book level n (Below book level n) b → Derived book level n (Below book level n) (pos h ∷ b)
+  prepend : (n h : ℕ) {b : Body} → Derived book level n (Below book level n) (pos h ∷ []) → Derived book level n (Below book level n) b
+      → Derived book level n (Below book level n) (pos h ∷ b)
   prepend n h (lower x d) r = lower x r
   prepend n h (here c e m d s) r = here c e m d r
 
-  derive-pos : (n h : ℕ) {b : Body} → Dec (level h < n) → level h ≤ n → In book level h → Derived book level n (Below book level n) b → Derived book level n (Below book level n) (pos h ∷ b)
+  derive-pos : (n h : ℕ) {b : Body} → Dec (level h < n) → level h ≤ n → In book level h → Derived book level n (Below book level n) b
+      → Derived book level n (Below book level n) (pos h ∷ b)
   derive-pos n h (yes l) o i r = lower (in-below n h i l) r
   derive-pos n h (no l) o i r =
       let e : level h ≡ n = omega arith in
@@ -151,24 +154,28 @@ module _ (book : Book) (level : ℕ → ℕ) (levelled : Levelled book level) wh
   derived-true n ls done = all-end
   derived-true n ls (lower {h = h} x d) = all (below-in book level n h x) (derived-true n (level-tail ls) d)
   derived-true n ls (here {h = h} c e m d r) = all (derived-in book level n h (here c e m d r)) (derived-true n (level-tail ls) r)
-  derived-true n ls (absent {h = h} x d) = all {l = neg h} (λ i. x (in-below book level n h i (level-head ls))) (derived-true n (level-tail ls) d)
+  derived-true n ls (absent {h = h} x d) = all {l = neg h} (λ i. x (in-below book level n h i (level-head ls)))
+      (derived-true n (level-tail ls) d)
 
   pub supported : (g : ℕ) → In book level g → (c : Body) × List·Memᴰ c (book g) × TrueBody (In book level) c
   supported g (lower x d) = absurd (let o = below-lt book level (level g) g x in omega arith)
   supported g (here c e m d r) = (c, m, derived-true (level g) (levelled g c m) d)
 
   module _ (U : ℕ → Type 0) (blocked : (g : ℕ) → U g → (c : Body) → List·Memᴰ c (book g) → Blocked (In book level) U c) where
-    no-body : (n : ℕ) → ((h : ℕ) → U h → Below book level n h → ⊥) → {b : Body} → LevelBody level n b → Derived book level n (Below book level n) b → Blocked (In book level) U b → ⊥
+    no-body : (n : ℕ) → ((h : ℕ) → U h → Below book level n h → ⊥) → {b : Body} → LevelBody level n b
+        → Derived book level n (Below book level n) b → Blocked (In book level) U b → ⊥
     no-body n low ls done k = blocked-nil k
     no-body n low ls (lower {h = h} x d) k =
         either (either (λ f. f (below-in book level n h x)) (λ u. low h u x)) (no-body n low (level-tail ls) d) (blocked-cons k)
     no-body n low ls (here {h = h} c e m d r) k =
-        either (either (λ f. f (derived-in book level n h (here c e m d r))) (λ u. no-body n low (subst (λ i. LevelBody level i c) e (levelled h c m)) d (blocked h u c m)))
+        either (either (λ f. f (derived-in book level n h (here c e m d r)))
+        (λ u. no-body n low (subst (λ i. LevelBody level i c) e (levelled h c m)) d (blocked h u c m)))
         (no-body n low (level-tail ls) r) (blocked-cons k)
     no-body n low ls (absent {h = h} x d) k =
         either (λ i. x (in-below book level n h i (level-head ls))) (no-body n low (level-tail ls) d) (blocked-cons k)
 
-    derived-block : (n h : ℕ) → ((h : ℕ) → U h → Below book level n h → ⊥) → U h → level h ≡ n → Derived book level n (Below book level n) (pos h ∷ []) → ⊥
+    derived-block : (n h : ℕ) → ((h : ℕ) → U h → Below book level n h → ⊥) → U h → level h ≡ n
+        → Derived book level n (Below book level n) (pos h ∷ []) → ⊥
     derived-block n h low u e d = no-body n low (levels (omega arith) levels-end) d (inr (h, List·Memᴰ·head refl, u))
 
     no-below : (n h : ℕ) → U h → Below book level n h → ⊥

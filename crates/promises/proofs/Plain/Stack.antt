@@ -39,7 +39,8 @@ abbrev pub Place : List ℕ → (m g c : ℕ) → List Entry → ℕ → Type 0
 Place P m g c es u = List·Memᴰ u P ⊎ (((g ≡ u) × (m ≤ c)) ⊎ OnFrom m u es)
 
 -- the entry of goal g, clock c, minimums m and n, over the entries es; P holds the tables popped as part of a cycle
-pub record Settled (S : Setting) (ans : ℕ → Bool) (H : ℕ → Strand → Type 0) (q : Queues) (g c m n : ℕ) (es : List Entry) (P : List ℕ) : Type 0 where
+pub record Settled (S : Setting) (ans : ℕ → Bool) (H : ℕ → Strand → Type 0) (q : Queues) (g c m n : ℕ) (es : List Entry) (P : List ℕ) : Type
+    0 where
   pub pending : ans g ≡ false
   pub timed : (s : Strand) → List·Memᴰ s (q g) → s .time ≤ c
   pub parked : (s : Strand) → List·Memᴰ s (q g) → s .time ≡ c → Waits ans (Place P m g c es) s
@@ -61,7 +62,8 @@ pub record Calls (c : Entry) (g k : ℕ) : Type 0 where
   pub time : strand .time ≤ c .clock
   pub earlier : c .clock < k
 
-abbrev pub SettledAt : (S : Setting) (ans : ℕ → Bool) (H : ℕ → Strand → Type 0) (q : Queues) (e : Entry) (es : List Entry) (P : List ℕ) → Type 0
+abbrev pub SettledAt : (S : Setting) (ans : ℕ → Bool) (H : ℕ → Strand → Type 0) (q : Queues) (e : Entry) (es : List Entry) (P : List ℕ)
+    → Type 0
 SettledAt S ans H q e es P = Settled S ans H q (e .goal) (e .clock) (e .positive-min) (e .negative-min) es P
 
 abbrev pub Piled : (S : Setting) (ans : ℕ → Bool) (H : ℕ → Strand → Type 0) (q : Queues) → Entry → List Entry → Type 0
@@ -73,8 +75,10 @@ waits-kept w k =
     let p = k (w .table) (w .rest) (w .lits) (w .chosen) (w .pending) in
     record { table = w .table; rest = w .rest; lits = p .0; chosen = p .1; pending = w .pending; place = w .place }
 
-pub settled-kept : (S : Setting) {ans : ℕ → Bool} {H H' : ℕ → Strand → Type 0} {q q' : Queues} {g c m n k k' : ℕ} {es : List Entry} {P : List ℕ}
-    → Settled S ans H q g c m n es P → Step S ans H k H' k' → ((s : Strand) → List·Memᴰ s (q' g) → List·Memᴰ s (q g)) → Settled S ans H' q' g c m n es P
+pub settled-kept : (S : Setting) {ans : ℕ → Bool} {H H' : ℕ → Strand → Type 0} {q q' : Queues} {g c m n k k' : ℕ} {es : List Entry}
+    {P : List ℕ}
+    → Settled S ans H q g c m n es P → Step S ans H k H' k' → ((s : Strand) → List·Memᴰ s (q' g) → List·Memᴰ s (q g))
+    → Settled S ans H' q' g c m n es P
 settled-kept S i step less = record {
   pending = i .pending;
   timed = λ s x. i .timed s (less s x);
@@ -87,9 +91,11 @@ settled-kept S i step less = record {
 }
 
 pub piled-kept : (S : Setting) {ans : ℕ → Bool} {H H' : ℕ → Strand → Type 0} {q q' : Queues} {k k' : ℕ} (e : Entry) (es : List Entry)
-    → Piled S ans H q e es → Step S ans H k H' k' → ((u : ℕ) → On u (e ∷ es) → (s : Strand) → List·Memᴰ s (q' u) → List·Memᴰ s (q u)) → Piled S ans H' q' e es
+    → Piled S ans H q e es → Step S ans H k H' k' → ((u : ℕ) → On u (e ∷ es) → (s : Strand) → List·Memᴰ s (q' u) → List·Memᴰ s (q u))
+    → Piled S ans H' q' e es
 piled-kept S e [] (P, i) step less = (P, settled-kept S i step (less (e .goal) (inl refl)))
-piled-kept S e (c ∷ es) (P, i, a, r) step less = (P, settled-kept S i step (less (e .goal) (inl refl)), a, piled-kept S c es r step (λ u o. less u (inr o)))
+piled-kept S e (c ∷ es) (P, i, a, r) step less =
+    (P, settled-kept S i step (less (e .goal) (inl refl)), a, piled-kept S c es r step (λ u o. less u (inr o)))
 
 pub lit-level : (level : ℕ → ℕ) (n : ℕ) (l : Lit) → LevelLit level n l → level (literal-goal l) ≤ n
 lit-level level n (pos h) v = v
@@ -98,10 +104,12 @@ lit-level level n (neg h) v = let w : suc (level h) ≤ n = v in omega arith
 pub call-level : (S : Setting) {c : Entry} {g k : ℕ} (a : Calls c g k) → Good S (c .goal) (a .strand) → S .level g ≤ S .level (c .goal)
 call-level S {c} {g} a good =
     subst (λ h. S .level h ≤ S .level (c .goal)) (a .names)
-    (lit-level (S .level) (S .level (c .goal)) (a .lit) (level-head (subst (λ b. LevelBody (S .level) (S .level (c .goal)) b) (a .lits) (good .levels))))
+    (lit-level (S .level) (S .level (c .goal)) (a .lit)
+    (level-head (subst (λ b. LevelBody (S .level) (S .level (c .goal)) b) (a .lits) (good .levels))))
 
 -- levels do not rise along the stack
-pub levels-fall : (S : Setting) (ans : ℕ → Bool) {H : ℕ → Strand → Type 0} (q : Queues) (e : Entry) (es : List Entry) → ((g : ℕ) (s : Strand) → H g s → Good S g s) → ((g : ℕ) (s : Strand) → Act es g s → H g s)
+pub levels-fall : (S : Setting) (ans : ℕ → Bool) {H : ℕ → Strand → Type 0} (q : Queues) (e : Entry) (es : List Entry)
+    → ((g : ℕ) (s : Strand) → H g s → Good S g s) → ((g : ℕ) (s : Strand) → Act es g s → H g s)
     → Piled S ans H q e es → (u : ℕ) → On u (e ∷ es) → S .level (e .goal) ≤ S .level u
 levels-fall S ans q e [] good act i u (inl p) = let w : S .level (e .goal) ≡ S .level u = ap (S .level) p in omega arith
 levels-fall S ans q e [] good act i u (inr p) = absurd p
@@ -120,7 +128,8 @@ pub found-on : (u : ℕ) (es : List Entry) (c : ℕ) → find-clock u es ≡ som
 found-on u [] c p = absurd (none-some p)
 found-on u (e ∷ es) c p = go (found-on u es c) (ℕ-discrete (e .goal) u) p
   where
-    go : (find-clock u es ≡ some c → OnFrom c u es) → (d : Dec (e .goal ≡ u)) → pick d (some (e .clock)) (find-clock u es) ≡ some c → OnFrom c u (e ∷ es)
+    go : (find-clock u es ≡ some c → OnFrom c u es) → (d : Dec (e .goal ≡ u)) → pick d (some (e .clock)) (find-clock u es) ≡ some c
+        → OnFrom c u (e ∷ es)
     go r (yes o) x = inl (o, let y : e .clock ≡ c = some-inj x in omega arith)
     go r (no o) x = inr (r x)
 
@@ -128,11 +137,13 @@ pub found-reach : (level : ℕ → ℕ) (n u : ℕ) (es : List Entry) (c : ℕ) 
 found-reach level n u [] c v p = absurd (none-some p)
 found-reach level n u (e ∷ es) c v p = go (found-reach level n u es c v) (ℕ-discrete (e .goal) u) p
   where
-    go : (find-clock u es ≡ some c → Reach level c n es) → (d : Dec (e .goal ≡ u)) → pick d (some (e .clock)) (find-clock u es) ≡ some c → Reach level c n (e ∷ es)
+    go : (find-clock u es ≡ some c → Reach level c n es) → (d : Dec (e .goal ≡ u)) → pick d (some (e .clock)) (find-clock u es) ≡ some c
+        → Reach level c n (e ∷ es)
     go r (yes o) x = inl (let y : e .clock ≡ c = some-inj x in omega arith, let z : level (e .goal) ≡ level u = ap level o in omega arith)
     go r (no o) x = inr (r x)
 
-pub found-below : (level : ℕ → ℕ) (n u : ℕ) (e : Entry) (es : List Entry) (c : ℕ) → level u ≤ n → c < e .clock → find-clock u (e ∷ es) ≡ some c → Reach level c n es
+pub found-below : (level : ℕ → ℕ) (n u : ℕ) (e : Entry) (es : List Entry) (c : ℕ) → level u ≤ n → c < e .clock
+    → find-clock u (e ∷ es) ≡ some c → Reach level c n es
 found-below level n u e es c v lt p = go (ℕ-discrete (e .goal) u) p
   where
     go : (d : Dec (e .goal ≡ u)) → pick d (some (e .clock)) (find-clock u es) ≡ some c → Reach level c n es
@@ -142,7 +153,8 @@ found-below level n u e es c v lt p = go (ℕ-discrete (e .goal) u) p
 pub not-on : (u : ℕ) (es : List Entry) → find-clock u es ≡ none → On u es → ⊥
 not-on u (e ∷ es) p o = go (not-on u es) (ℕ-discrete (e .goal) u) p o
   where
-    go : (find-clock u es ≡ none → On u es → ⊥) → (d : Dec (e .goal ≡ u)) → pick d (some (e .clock)) (find-clock u es) ≡ none → On u (e ∷ es) → ⊥
+    go : (find-clock u es ≡ none → On u es → ⊥) → (d : Dec (e .goal ≡ u)) → pick d (some (e .clock)) (find-clock u es) ≡ none
+        → On u (e ∷ es) → ⊥
     go r (yes o) x a = none-some (sym x)
     go r (no o) x (inl a) = o a
     go r (no o) x (inr a) = r x a
@@ -155,8 +167,16 @@ pub on-weaken : (m m' u : ℕ) (es : List Entry) → m' ≤ m → OnFrom m u es 
 on-weaken m m' u (e ∷ es) o (inl p) = inl (p .0, let x : m ≤ e .clock = p .1 in omega arith)
 on-weaken m m' u (e ∷ es) o (inr p) = inr (on-weaken m m' u es o p)
 
-pub waits-map : {ans : ℕ → Bool} {Here There : ℕ → Type 0} {s : Strand} → ((u : ℕ) → Here u → There u) → Waits ans Here s → Waits ans There s
-waits-map f w = record { table = w .table; rest = w .rest; lits = w .lits; chosen = w .chosen; pending = w .pending; place = f (w .table) (w .place) }
+pub waits-map : {ans : ℕ → Bool} {Here There : ℕ → Type 0} {s : Strand} → ((u : ℕ) → Here u → There u) → Waits ans Here s
+    → Waits ans There s
+waits-map f w = record {
+  table = w .table;
+  rest = w .rest;
+  lits = w .lits;
+  chosen = w .chosen;
+  pending = w .pending;
+  place = f (w .table) (w .place);
+}
 
 -- where no strand can be taken, all of them wait well
 pub settled-waits : (S : Setting) {ans : ℕ → Bool} {H : ℕ → Strand → Type 0} {q : Queues} {g c m n : ℕ} {es : List Entry} {P : List ℕ}
@@ -170,7 +190,8 @@ pub still : (ans : ℕ → Bool) (T u : ℕ) → ans u ≡ false → (T ≡ u �
 still ans T u a n = put-there ans T u true n ∙ a
 
 -- the table T gets its answer
-module _ (S : Setting) (ans : ℕ → Bool) (H H' : ℕ → Strand → Type 0) (q q' : Queues) (T : ℕ) (s : Strand) (holds : H T s) (none-left : s .lits ≡ []) (less : (u : ℕ) (t : Strand) → H' u t → H u t) where
+module _ (S : Setting) (ans : ℕ → Bool) (H H' : ℕ → Strand → Type 0) (q q' : Queues) (T : ℕ) (s : Strand) (holds : H T s)
+    (none-left : s .lits ≡ []) (less : (u : ℕ) (t : Strand) → H' u t → H u t) where
   settled-answered : {g c m n : ℕ} {es : List Entry} {P : List ℕ} → Settled S ans H q g c m n es P → (T ≡ g → ⊥) → (On T es → ⊥)
       → ((t : Strand) → List·Memᴰ t (q' g) → List·Memᴰ t (q g)) → Settled S (put ans T true) H' q' g c m n es P
   settled-answered {g} {c} {m} {n} {es} {P} i off off' sub = record {
@@ -193,8 +214,22 @@ module _ (S : Setting) (ans : ℕ → Bool) (H H' : ℕ → Strand → Type 0) (
       placed u (inr (inr p)) e = off' (subst (λ v. On v es) (sym e) (on-of m u es p))
 
       again : {t : Strand} → Waits ans (Place P m g c es) t → Waits (put ans T true) (Place P m g c es) t
-      again w = record { table = w .table; rest = w .rest; lits = w .lits; chosen = w .chosen; pending = still ans T (w .table) (w .pending) (placed (w .table) (w .place)); place = w .place }
+      again w = record {
+        table = w .table;
+        rest = w .rest;
+        lits = w .lits;
+        chosen = w .chosen;
+        pending = still ans T (w .table) (w .pending) (placed (w .table) (w .place));
+        place = w .place;
+      }
 
-  pub piled-answered : (e : Entry) (es : List Entry) → Piled S ans H q e es → (On T (e ∷ es) → ⊥) → ((u : ℕ) → On u (e ∷ es) → (t : Strand) → List·Memᴰ t (q' u) → List·Memᴰ t (q u)) → Piled S (put ans T true) H' q' e es
+  pub piled-answered : (e : Entry) (es : List Entry) → Piled S ans H q e es → (On T (e ∷ es) → ⊥)
+      → ((u : ℕ) → On u (e ∷ es) → (t : Strand) → List·Memᴰ t (q' u) → List·Memᴰ t (q u)) → Piled S (put ans T true) H' q' e es
   piled-answered e [] (P, i) off sub = (P, settled-answered i (λ p. off (inl (sym p))) (λ o. o) (sub (e .goal) (inl refl)))
-  piled-answered e (c ∷ es) (P, i, a, r) off sub = (P, settled-answered i (λ p. off (inl (sym p))) (λ o. off (inr o)) (sub (e .goal) (inl refl)), a, piled-answered c es r (λ o. off (inr o)) (λ u o. sub u (inr o)))
+  piled-answered e (c ∷ es) (P, i, a, r) off sub = (
+    P,
+    settled-answered i (λ p. off (inl (sym p))) (λ o. off (inr o)) (sub (e .goal) (inl refl)),
+    a,
+    piled-answered c es r
+        (λ o. off (inr o)) (λ u o. sub u (inr o)),
+  )

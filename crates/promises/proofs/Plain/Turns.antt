@@ -4,17 +4,26 @@ use native.Mathlib.Omega.{arith}
 use native.Mathlib.Decide.{decLt, decLe, ℕ-discrete}
 use mathlib.Core.Path.{_≡_, refl, sym, ap, subst, _∙_}
 use mathlib.Core.Bool.{Bool, true, false}
-use mathlib.Core.Logic.{_⊎_, inl, inr}
+use mathlib.Core.Logic.{inl, inr}
 use mathlib.Core.Option.{Option, none, some}
-use mathlib.Core.List.{List, [], _∷_, _++_, List·Memᴰ, List·Memᴰ·head, List·Memᴰ·tail, List·Memᴰ·not-nil, Memᴰ·append-left, Memᴰ·append-right, List·Memᴰ·append-cases, List·Memᴰ·eq-of-singleton, List·Memᴰ·cases-cons}
+use mathlib.Core.List.{List, [], _∷_, _++_, List·Memᴰ, List·Memᴰ·head, List·Memᴰ·not-nil}
 use Rattle.promises.proofs.Plain.Model.{Lit, pos, neg, Body, literal-goal, either}
-use Rattle.promises.proofs.Plain.Steps.{Setting, Fine, Step, fine-step, step-trans, Holds, moved, put-here, some-inj, none-some, step-off, step-back, step-drop, step-less}
+use Rattle.promises.proofs.Plain.Steps.{Setting, Fine, Step, fine-step, step-trans, Holds, moved, put-here, some-inj, none-some}
+use Rattle.promises.proofs.Plain.Steps.{step-off, step-back, step-drop, step-less}
 use Rattle.promises.proofs.Plain.Stack.{nil-cons}
-use Rattle.promises.proofs.Plain.Cases.{Inv, remade, top-new, true-false, case-take, case-popped, case-park, case-no-cycle, case-push}
-use Rattle.promises.proofs.Plain.Pops.{top-pending, fine-answered, case-proved, case-unproved, case-answered, case-not, case-false, case-no-not, case-cycle, case-no-root}
+use Rattle.promises.proofs.Plain.Cases.{Inv, remade, top-new, true-false, case-take, case-popped, case-park, case-no-cycle}
+use Rattle.promises.proofs.Plain.Cases.{case-push}
+use Rattle.promises.proofs.Plain.Pops.{top-pending, fine-answered, case-proved, case-unproved, case-answered, case-not, case-false}
+use Rattle.promises.proofs.Plain.Pops.{case-no-not, case-cycle, case-no-root}
 use lib.ListN.{length, length-append}
-use Rattle.promises.proofs.Plain.Machine.{Strand, Entry, Queues, Forest, pick, put, with-queue, make, entry-with, append, popped, pursued, restore, all-back, take-at, take-from, find-clock, clear, total, Outcome, found, no-more-left, again, cut, clock-ended, noted, refused, negative-cycled, unselected, repeated, broken, Turn, turn-goes-on, stop, answering, parking, pushing, unanswered, selected, pursue, empty-at, empty, emptied, cleared, clearing, cycle-at, cycle, part-of, waiting, idle, taking, turn-with, turn}
+use Rattle.promises.proofs.Plain.Machine.{Strand, Entry, Queues, Forest, pick, put, with-queue, make, entry-with, append, popped}
+use Rattle.promises.proofs.Plain.Machine.{pursued, restore, all-back, take-from, find-clock, clear, total, Outcome, found}
+use Rattle.promises.proofs.Plain.Machine.{no-more-left, again, cut, clock-ended, noted, refused, negative-cycled, unselected}
+use Rattle.promises.proofs.Plain.Machine.{repeated, broken, Turn, turn-goes-on, stop, answering, parking, pushing, unanswered}
+use Rattle.promises.proofs.Plain.Machine.{selected, pursue, empty-at, empty, emptied, cleared, clearing, cycle-at, cycle, part-of}
+use Rattle.promises.proofs.Plain.Machine.{waiting, idle, taking, turn-with, turn}
 use Rattle.promises.proofs.Plain.Clear.{Less, less-trans, case-clear}
+use Rattle.promises.proofs.Plain.Taking.{taken, none-taken, put-length}
 
 abbrev pub flag : Bool → ℕ
 flag true = 1
@@ -62,7 +71,8 @@ back-length q (e ∷ es) u =
     go none = omega arith
     go (some s) = append-length q (e .goal) s u
 
-pub active-count : (e : Entry) (es : List Entry) (s : Strand) (u : ℕ) → e .active ≡ some s → count (e ∷ es) u ≡ pick (ℕ-discrete (e .goal) u) 1 0 + count es u
+pub active-count : (e : Entry) (es : List Entry) (s : Strand) (u : ℕ) → e .active ≡ some s
+    → count (e ∷ es) u ≡ pick (ℕ-discrete (e .goal) u) 1 0 + count es u
 active-count e es s u a = ap (λ z. one z (ℕ-discrete (e .goal) u) + count es u) a
 
 pub self-one : (g : ℕ) → _≡_ {A = ℕ} (pick (ℕ-discrete g g) 1 0) 1
@@ -109,12 +119,23 @@ TurnOK S r B L (turn-goes-on f e es) = Going S r B L f e es
 TurnOK S r B L (stop o f) = Ended S r B L o f
 
 -- the search ends after a step, and its stack is put back
-pub rest-after : (S : Setting) (f : Forest) (e : Entry) (es : List Entry) (made' first' : ℕ → Bool) (q' : Queues) (es' : List Entry) → Inv S (f .answered) (f .queue) (f .clock) e es
-    → Step S (f .answered) (Holds (f .queue) (e ∷ es)) (f .clock) (Holds q' es') (f .clock) → Resting S (record { made = made'; answered = f .answered; first = first'; queue = all-back q' es'; clock = f .clock })
-rest-after S f e es made' first' q' es' inv step = record { fine = fine-step S (inv .fine) (step-trans S step (step-back S q' es')); bound = inv .bound }
+pub rest-after : (S : Setting) (f : Forest) (e : Entry) (es : List Entry) (made' first' : ℕ → Bool) (q' : Queues) (es' : List Entry)
+    → Inv S (f .answered) (f .queue) (f .clock) e es
+    → Step S (f .answered) (Holds (f .queue) (e ∷ es)) (f .clock) (Holds q' es') (f .clock) → Resting S (record {
+      made = made';
+      answered = f .answered;
+      first = first';
+      queue = all-back q' es';
+      clock = f .clock;
+    })
+rest-after S f e es made' first' q' es' inv step = record {
+  fine = fine-step S (inv .fine) (step-trans S step (step-back S q' es'));
+  bound = inv .bound;
+}
 
 module _ (S : Setting) (B L : ℕ → ℕ) where
-  answering-ok : (b : Bool) (f : Forest) (e : Entry) (es : List Entry) (s : Strand) → Inv S (f .answered) (f .queue) (f .clock) e es → e .active ≡ some s → s .lits ≡ [] → f .answered (e .goal) ≡ b
+  answering-ok : (b : Bool) (f : Forest) (e : Entry) (es : List Entry) (s : Strand) → Inv S (f .answered) (f .queue) (f .clock) e es
+      → e .active ≡ some s → s .lits ≡ [] → f .answered (e .goal) ≡ b
       → ((u : ℕ) → Fits B L f (e ∷ es) u) → TurnOK S (root-of e es) B L (answering (S .limits) b f e es)
   answering-ok true f e es s inv a p t few = absurd (true-false t (top-pending S (f .answered) (f .queue) (f .clock) e es inv))
   answering-ok false f e [] s inv a p t few =
@@ -134,17 +155,22 @@ module _ (S : Setting) (B L : ℕ → ℕ) where
   root-remade e m n a [] = refl
   root-remade e m n a (c ∷ es) = refl
 
-  parking-ok : (l : Lit) (c : ℕ) (f : Forest) (e : Entry) (es : List Entry) (s : Strand) (b : Body) → Inv S (f .answered) (f .queue) (f .clock) e es → e .active ≡ some s → s .lits ≡ l ∷ b → f .answered (literal-goal l) ≡ false
-      → find-clock (literal-goal l) (e ∷ es) ≡ some c → ((u : ℕ) → Fits B L f (e ∷ es) u) → TurnOK S (root-of e es) B L (parking (S .limits) l c f e es (pursued (e .clock) (l ∷ b)))
+  parking-ok : (l : Lit) (c : ℕ) (f : Forest) (e : Entry) (es : List Entry) (s : Strand) (b : Body)
+      → Inv S (f .answered) (f .queue) (f .clock) e es → e .active ≡ some s → s .lits ≡ l ∷ b → f .answered (literal-goal l) ≡ false
+      → find-clock (literal-goal l) (e ∷ es) ≡ some c → ((u : ℕ) → Fits B L f (e ∷ es) u)
+      → TurnOK S (root-of e es) B L (parking (S .limits) l c f e es (pursued (e .clock) (l ∷ b)))
   parking-ok (pos h) c f e es s b inv a p n at few = record {
     inv = case-park S (f .answered) (f .queue) (f .clock) e es inv s h b c a p n at;
     root = root-remade e (min (e .positive-min) c) (e .negative-min) none es;
-    fewer = λ u. let x = few u in let y = append-length (f .queue) (e .goal) (pursued (e .clock) (pos h ∷ b)) u in let z = active-count e es s u a in omega arith;
+    fewer = λ u. let x = few u in let y = append-length (f .queue) (e .goal) (pursued (e .clock) (pos h ∷ b)) u in
+        let z = active-count e es s u a in omega arith;
   }
   parking-ok (neg h) c f e es s b inv a p n at few = absurd (case-no-cycle S (f .answered) (f .queue) (f .clock) e es inv s h b c a p at)
 
-  pushing-ok : (before f : Forest) (d : Dec (f .clock < S .limits .limit)) (l : Lit) (e : Entry) (es : List Entry) (s : Strand) (b : Body) → Inv S (f .answered) (f .queue) (f .clock) e es → e .active ≡ some s → s .lits ≡ l ∷ b
-      → f .answered (literal-goal l) ≡ false → find-clock (literal-goal l) (e ∷ es) ≡ none → ((u : ℕ) → Fits B L f (e ∷ es) u) → Resting S before → ((u : ℕ) → Fits B L before [] u)
+  pushing-ok : (before f : Forest) (d : Dec (f .clock < S .limits .limit)) (l : Lit) (e : Entry) (es : List Entry) (s : Strand) (b : Body)
+      → Inv S (f .answered) (f .queue) (f .clock) e es → e .active ≡ some s → s .lits ≡ l ∷ b
+      → f .answered (literal-goal l) ≡ false → find-clock (literal-goal l) (e ∷ es) ≡ none → ((u : ℕ) → Fits B L f (e ∷ es) u)
+      → Resting S before → ((u : ℕ) → Fits B L before [] u)
       → TurnOK S (root-of e es) B L (pushing (S .limits) d before f (literal-goal l) e es (pursued (e .clock) (l ∷ b)))
   pushing-ok before f (yes o) l e es s b inv a p n at few rest few' = record {
     inv = case-push S (f .answered) (f .queue) (f .clock) e es inv s l b a p n at o;
@@ -153,13 +179,17 @@ module _ (S : Setting) (B L : ℕ → ℕ) where
   }
   pushing-ok before f (no o) l e es s b inv a p n at few rest few' = record { rest = rest; ends = tt; fewer = few' }
 
-  unanswered-ok : (o : Option ℕ) (before f : Forest) (l : Lit) (e : Entry) (es : List Entry) (s : Strand) (b : Body) → Inv S (f .answered) (f .queue) (f .clock) e es → e .active ≡ some s → s .lits ≡ l ∷ b
-      → f .answered (literal-goal l) ≡ false → find-clock (literal-goal l) (e ∷ es) ≡ o → ((u : ℕ) → Fits B L f (e ∷ es) u) → Resting S before → ((u : ℕ) → Fits B L before [] u)
+  unanswered-ok : (o : Option ℕ) (before f : Forest) (l : Lit) (e : Entry) (es : List Entry) (s : Strand) (b : Body)
+      → Inv S (f .answered) (f .queue) (f .clock) e es → e .active ≡ some s → s .lits ≡ l ∷ b
+      → f .answered (literal-goal l) ≡ false → find-clock (literal-goal l) (e ∷ es) ≡ o → ((u : ℕ) → Fits B L f (e ∷ es) u)
+      → Resting S before → ((u : ℕ) → Fits B L before [] u)
       → TurnOK S (root-of e es) B L (unanswered (S .limits) o before f e es l b)
   unanswered-ok (some c) before f l e es s b inv a p n at few rest few' = parking-ok l c f e es s b inv a p n at few
-  unanswered-ok none before f l e es s b inv a p n at few rest few' = pushing-ok before f (decLt (f .clock) (S .limits .limit)) l e es s b inv a p n at few rest few'
+  unanswered-ok none before f l e es s b inv a p n at few rest few' =
+      pushing-ok before f (decLt (f .clock) (S .limits .limit)) l e es s b inv a p n at few rest few'
 
-  selected-ok : (t : Bool) (before f : Forest) (l : Lit) (e : Entry) (es : List Entry) (s : Strand) (b : Body) → Inv S (f .answered) (f .queue) (f .clock) e es → e .active ≡ some s → s .lits ≡ l ∷ b
+  selected-ok : (t : Bool) (before f : Forest) (l : Lit) (e : Entry) (es : List Entry) (s : Strand) (b : Body)
+      → Inv S (f .answered) (f .queue) (f .clock) e es → e .active ≡ some s → s .lits ≡ l ∷ b
       → f .answered (literal-goal l) ≡ t → ((u : ℕ) → Fits B L f (e ∷ es) u) → Resting S before → ((u : ℕ) → Fits B L before [] u)
       → TurnOK S (root-of e es) B L (selected (S .limits) t before f e es l b)
   selected-ok true before f (pos h) e es s b inv a p t few rest few' = record {
@@ -168,32 +198,42 @@ module _ (S : Setting) (B L : ℕ → ℕ) where
     fewer = λ u. let x = few u in let z = active-count e es s u a in omega arith;
   }
   selected-ok true before f (neg h) e es s b inv a p t few rest few' = record {
-    rest = rest-after S f e es (f .made) (f .first) (f .queue) es inv (step-drop S (f .queue) e es s a (neg h, subst (List·Memᴰ (neg h)) (sym p) (List·Memᴰ·head refl), inv .fine .proved h t));
+    rest = rest-after S f e es (f .made) (f .first) (f .queue) es inv
+        (step-drop S (f .queue) e es s a (neg h, subst (List·Memᴰ (neg h)) (sym p) (List·Memᴰ·head refl), inv .fine .proved h t));
     ends = (
       e .goal,
       inv .fine .good (e .goal) s (inr (inl (refl, a))) .inside,
-      let x = few (e .goal) in let y = back-length (f .queue) es (e .goal) in let z = active-count e es s (e .goal) a in let w = self-one (e .goal) in omega arith,
+      let x = few (e .goal) in let y = back-length (f .queue) es (e .goal) in let z = active-count e es s (e .goal) a in
+          let w = self-one (e .goal) in omega arith,
     );
     fewer = λ u. let x = few u in let y = back-length (f .queue) es u in omega arith;
   }
-  selected-ok false before f l e es s b inv a p t few rest few' = unanswered-ok (find-clock (literal-goal l) (e ∷ es)) before f l e es s b inv a p t refl few rest few'
+  selected-ok false before f l e es s b inv a p t few rest few' =
+      unanswered-ok (find-clock (literal-goal l) (e ∷ es)) before f l e es s b inv a p t refl few rest few'
 
-  pursue-ok : (b : Body) (before f : Forest) (e : Entry) (es : List Entry) (s : Strand) → Inv S (f .answered) (f .queue) (f .clock) e es → e .active ≡ some s → s .lits ≡ b
-      → ((u : ℕ) → Fits B L f (e ∷ es) u) → Resting S before → ((u : ℕ) → Fits B L before [] u) → TurnOK S (root-of e es) B L (pursue (S .limits) b before f e es)
+  pursue-ok : (b : Body) (before f : Forest) (e : Entry) (es : List Entry) (s : Strand) → Inv S (f .answered) (f .queue) (f .clock) e es
+      → e .active ≡ some s → s .lits ≡ b
+      → ((u : ℕ) → Fits B L f (e ∷ es) u) → Resting S before → ((u : ℕ) → Fits B L before [] u)
+      → TurnOK S (root-of e es) B L (pursue (S .limits) b before f e es)
   pursue-ok [] before f e es s inv a p few rest few' = answering-ok (f .answered (e .goal)) f e es s inv a p refl few
-  pursue-ok (l ∷ b) before f e es s inv a p few rest few' = selected-ok (f .answered (literal-goal l)) before (make f (literal-goal l)) l e es s b inv a p refl few rest few'
+  pursue-ok (l ∷ b) before f e es s inv a p few rest few' =
+      selected-ok (f .answered (literal-goal l)) before (make f (literal-goal l)) l e es s b inv a p refl few rest few'
 
-  empty-at-ok : (b : Body) (f : Forest) (e c : Entry) (es : List Entry) (s : Strand) → Inv S (f .answered) (f .queue) (f .clock) e (c ∷ es) → e .active ≡ none → f .queue (e .goal) ≡ [] → c .active ≡ some s → s .lits ≡ b
+  empty-at-ok : (b : Body) (f : Forest) (e c : Entry) (es : List Entry) (s : Strand) → Inv S (f .answered) (f .queue) (f .clock) e (c ∷ es)
+      → e .active ≡ none → f .queue (e .goal) ≡ [] → c .active ≡ some s → s .lits ≡ b
       → ((u : ℕ) → Fits B L f (e ∷ c ∷ es) u) → TurnOK S (root-of c es) B L (empty-at (S .limits) b s f c es)
   empty-at-ok [] f e c es s inv a n a' p few =
       let k = inv .piled .2 in
       absurd (nil-cons (sym p ∙ sym (ap (λ z. z .lits) (some-inj (sym (k .active) ∙ a'))) ∙ k .lits))
   empty-at-ok (pos h ∷ b) f e c es s inv a n a' p few = record {
-    rest = rest-after S f e (c ∷ es) (f .made) (f .first) (f .queue) es inv (step-trans S (step-off S (f .queue) e (c ∷ es) a) (step-drop S (f .queue) c es s a' (case-false S (f .answered) (f .queue) (f .clock) e c es inv s h b a n a' p)));
+    rest = rest-after S f e (c ∷ es) (f .made) (f .first) (f .queue) es inv
+        (step-trans S (step-off S (f .queue) e (c ∷ es) a)
+        (step-drop S (f .queue) c es s a' (case-false S (f .answered) (f .queue) (f .clock) e c es inv s h b a n a' p)));
     ends = (
       c .goal,
       inv .fine .good (c .goal) s (inr (inr (inl (refl, a')))) .inside,
-      let x = few (c .goal) in let y = back-length (f .queue) es (c .goal) in let z = active-count c es s (c .goal) a' in let w = self-one (c .goal) in omega arith,
+      let x = few (c .goal) in let y = back-length (f .queue) es (c .goal) in let z = active-count c es s (c .goal) a' in
+          let w = self-one (c .goal) in omega arith,
     );
     fewer = λ u. let x = few u in let y = back-length (f .queue) es u in omega arith;
   }
@@ -203,12 +243,14 @@ module _ (S : Setting) (B L : ℕ → ℕ) where
     fewer = λ u. let x = few u in let z = active-count c es s u a' in omega arith;
   }
 
-  empty-ok : (o : Option Strand) (f : Forest) (e c : Entry) (es : List Entry) → Inv S (f .answered) (f .queue) (f .clock) e (c ∷ es) → e .active ≡ none → f .queue (e .goal) ≡ [] → c .active ≡ o
+  empty-ok : (o : Option Strand) (f : Forest) (e c : Entry) (es : List Entry) → Inv S (f .answered) (f .queue) (f .clock) e (c ∷ es)
+      → e .active ≡ none → f .queue (e .goal) ≡ [] → c .active ≡ o
       → ((u : ℕ) → Fits B L f (e ∷ c ∷ es) u) → TurnOK S (root-of c es) B L (empty (S .limits) o f c es)
   empty-ok none f e c es inv a n a' few = absurd (none-some (sym a' ∙ inv .piled .2 .active))
   empty-ok (some s) f e c es inv a n a' few = empty-at-ok (s .lits) f e c es s inv a n a' refl few
 
-  emptied-ok : (f : Forest) (e : Entry) (es : List Entry) → Inv S (f .answered) (f .queue) (f .clock) e es → e .active ≡ none → f .queue (e .goal) ≡ []
+  emptied-ok : (f : Forest) (e : Entry) (es : List Entry) → Inv S (f .answered) (f .queue) (f .clock) e es → e .active ≡ none
+      → f .queue (e .goal) ≡ []
       → ((u : ℕ) → Fits B L f (e ∷ es) u) → TurnOK S (root-of e es) B L (emptied (S .limits) f es)
   emptied-ok f e [] inv a n few = record {
     rest = record { fine = fine-step S (inv .fine) (step-off S (f .queue) e [] a); bound = inv .bound };
@@ -217,14 +259,17 @@ module _ (S : Setting) (B L : ℕ → ℕ) where
   }
   emptied-ok f e (c ∷ es) inv a n few = empty-ok (c .active) f e c es inv a n refl few
 
-  cleared-ok : (o : Option Queues) (f : Forest) (e : Entry) (es : List Entry) (x : Strand) (xs : List Strand) → Inv S (f .answered) (f .queue) (f .clock) e es → e .active ≡ none → f .queue (e .goal) ≡ x ∷ xs → (q' : Queues) → o ≡ some q' → Less S (put (f .queue) (e .goal) []) q' → Less S (f .queue) (put (f .queue) (e .goal) [])
+  cleared-ok : (o : Option Queues) (f : Forest) (e : Entry) (es : List Entry) (x : Strand) (xs : List Strand)
+      → Inv S (f .answered) (f .queue) (f .clock) e es → e .active ≡ none → f .queue (e .goal) ≡ x ∷ xs → (q' : Queues) → o ≡ some q'
+      → Less S (put (f .queue) (e .goal) []) q' → Less S (f .queue) (put (f .queue) (e .goal) [])
       → ((u : ℕ) → Fits B L f (e ∷ es) u) → TurnOK S (root-of e es) B L (cleared (S .limits) o f es)
   cleared-ok none f e es x xs inv a n q' p l₁ l₂ few = absurd (none-some p)
   cleared-ok (some q) f e es x xs inv a n q' p l₁ l₂ few =
       let l : Less S (put (f .queue) (e .goal) []) q = subst (λ z. Less S (put (f .queue) (e .goal) []) z) (sym (some-inj p)) l₁ in
       let m = less-trans S l₂ l in
       record {
-        rest = rest-after S f e es (f .made) (f .first) q es inv (step-trans S (step-off S (f .queue) e es a) (step-less S (f .queue) q es (m .less) (m .most)));
+        rest = rest-after S f e es (f .made) (f .first) q es inv
+            (step-trans S (step-off S (f .queue) e es a) (step-less S (f .queue) q es (m .less) (m .most)));
         ends = (
           e .goal,
           inv .fine .good (e .goal) x (inl (subst (List·Memᴰ x) (sym n) (List·Memᴰ·head refl))) .inside,
@@ -236,14 +281,20 @@ module _ (S : Setting) (B L : ℕ → ℕ) where
         fewer = λ u. let y = few u in let z = back-length q es u in let w = m .size u in omega arith;
       }
 
-  clearing-ok : (f : Forest) (e : Entry) (es : List Entry) (d : Dec (e .negative-min ≡ S .limits .max)) (x : Strand) (xs : List Strand) → Inv S (f .answered) (f .queue) (f .clock) e es → e .active ≡ none → f .queue (e .goal) ≡ x ∷ xs
-      → ((t : Strand) → List·Memᴰ t (f .queue (e .goal)) → t .time < e .clock → ⊥) → e .clock ≤ e .positive-min → ((u : ℕ) → Fits B L f (e ∷ es) u) → TurnOK S (root-of e es) B L (clearing (S .limits) d f e es)
+  clearing-ok : (f : Forest) (e : Entry) (es : List Entry) (d : Dec (e .negative-min ≡ S .limits .max)) (x : Strand) (xs : List Strand)
+      → Inv S (f .answered) (f .queue) (f .clock) e es → e .active ≡ none → f .queue (e .goal) ≡ x ∷ xs
+      → ((t : Strand) → List·Memᴰ t (f .queue (e .goal)) → t .time < e .clock → ⊥) → e .clock ≤ e .positive-min
+      → ((u : ℕ) → Fits B L f (e ∷ es) u) → TurnOK S (root-of e es) B L (clearing (S .limits) d f e es)
   clearing-ok f e es (yes p) x xs inv a n late high few =
       let r = case-clear S (f .answered) (f .queue) (f .clock) e es inv a late high in
-      cleared-ok (clear (total (S .limits .goals) (λ g. length (f .queue g))) (f .queue (e .goal)) (put (f .queue) (e .goal) [])) f e es x xs inv a n (r .0) (r .1) (r .2) (r .3) few
-  clearing-ok f e es (no o) x xs inv a n late high few = absurd (o (top-new S (f .answered) (Holds (f .queue) (e ∷ es)) (f .queue) e es (inv .piled) .1 .plain))
+      cleared-ok (clear (total (S .limits .goals) (λ g. length (f .queue g))) (f .queue (e .goal)) (put (f .queue) (e .goal) [])) f e es x
+      xs inv a n (r .0) (r .1) (r .2) (r .3) few
+  clearing-ok f e es (no o) x xs inv a n late high few =
+      absurd (o (top-new S (f .answered) (Holds (f .queue) (e ∷ es)) (f .queue) e es (inv .piled) .1 .plain))
 
-  cycle-at-ok : (b : Body) (f : Forest) (e c : Entry) (es : List Entry) (s : Strand) → Inv S (f .answered) (f .queue) (f .clock) e (c ∷ es) → e .active ≡ none → ((t : Strand) → List·Memᴰ t (f .queue (e .goal)) → t .time < e .clock → ⊥) → c .active ≡ some s → s .lits ≡ b → e .positive-min < e .clock
+  cycle-at-ok : (b : Body) (f : Forest) (e c : Entry) (es : List Entry) (s : Strand) → Inv S (f .answered) (f .queue) (f .clock) e (c ∷ es)
+      → e .active ≡ none → ((t : Strand) → List·Memᴰ t (f .queue (e .goal)) → t .time < e .clock → ⊥) → c .active ≡ some s → s .lits ≡ b
+      → e .positive-min < e .clock
       → ((u : ℕ) → Fits B L f (e ∷ c ∷ es) u) → TurnOK S (root-of c es) B L (cycle-at (S .limits) b s f e c es)
   cycle-at-ok [] f e c es s inv a late a' p lt few =
       let k = inv .piled .2 in
@@ -253,14 +304,18 @@ module _ (S : Setting) (B L : ℕ → ℕ) where
     root = root-remade c (min (c .positive-min) (e .positive-min)) (min (c .negative-min) (e .negative-min)) none es;
     fewer = λ u. let x = few u in let y = append-length (f .queue) (c .goal) s u in let z = active-count c es s u a' in omega arith;
   }
-  cycle-at-ok (neg h ∷ b) f e c es s inv a late a' p lt few = absurd (case-no-not S (f .answered) (f .queue) (f .clock) e c es inv s h b a' p lt)
+  cycle-at-ok (neg h ∷ b) f e c es s inv a late a' p lt few =
+      absurd (case-no-not S (f .answered) (f .queue) (f .clock) e c es inv s h b a' p lt)
 
-  cycle-ok : (o : Option Strand) (f : Forest) (e c : Entry) (es : List Entry) → Inv S (f .answered) (f .queue) (f .clock) e (c ∷ es) → e .active ≡ none → ((t : Strand) → List·Memᴰ t (f .queue (e .goal)) → t .time < e .clock → ⊥) → c .active ≡ o → e .positive-min < e .clock
+  cycle-ok : (o : Option Strand) (f : Forest) (e c : Entry) (es : List Entry) → Inv S (f .answered) (f .queue) (f .clock) e (c ∷ es)
+      → e .active ≡ none → ((t : Strand) → List·Memᴰ t (f .queue (e .goal)) → t .time < e .clock → ⊥) → c .active ≡ o
+      → e .positive-min < e .clock
       → ((u : ℕ) → Fits B L f (e ∷ c ∷ es) u) → TurnOK S (root-of c es) B L (cycle (S .limits) o f e c es)
   cycle-ok none f e c es inv a late a' lt few = absurd (none-some (sym a' ∙ inv .piled .2 .active))
   cycle-ok (some s) f e c es inv a late a' lt few = cycle-at-ok (s .lits) f e c es s inv a late a' refl lt few
 
-  part-of-ok : (f : Forest) (e : Entry) (es : List Entry) → Inv S (f .answered) (f .queue) (f .clock) e es → e .active ≡ none → ((t : Strand) → List·Memᴰ t (f .queue (e .goal)) → t .time < e .clock → ⊥) → e .positive-min < e .clock
+  part-of-ok : (f : Forest) (e : Entry) (es : List Entry) → Inv S (f .answered) (f .queue) (f .clock) e es → e .active ≡ none
+      → ((t : Strand) → List·Memᴰ t (f .queue (e .goal)) → t .time < e .clock → ⊥) → e .positive-min < e .clock
       → ((u : ℕ) → Fits B L f (e ∷ es) u) → TurnOK S (root-of e es) B L (part-of (S .limits) f e es)
   part-of-ok f e [] inv a late lt few = absurd (case-no-root S (f .answered) (f .queue) (f .clock) e inv lt)
   part-of-ok f e (c ∷ es) inv a late lt few = cycle-ok (c .active) f e c es inv a late refl lt few
@@ -272,8 +327,11 @@ module _ (S : Setting) (B L : ℕ → ℕ) where
       go (yes p) = omega arith
       go (no n) = omega arith
 
-  waiting-ok : (m : Bool) (f : Forest) (e : Entry) (es : List Entry) (d : Dec (e .clock ≤ e .positive-min)) (d' : Dec (e .clock ≤ e .negative-min)) (x : Strand) (xs : List Strand) → Inv S (f .answered) (f .queue) (f .clock) e es → f .first (e .goal) ≡ m → e .active ≡ none → f .queue (e .goal) ≡ x ∷ xs
-      → ((t : Strand) → List·Memᴰ t (f .queue (e .goal)) → t .time < e .clock → ⊥) → ((u : ℕ) → Fits B L f (e ∷ es) u) → TurnOK S (root-of e es) B L (waiting (S .limits) m d d' f e es)
+  waiting-ok : (m : Bool) (f : Forest) (e : Entry) (es : List Entry) (d : Dec (e .clock ≤ e .positive-min))
+      (d' : Dec (e .clock ≤ e .negative-min)) (x : Strand) (xs : List Strand) → Inv S (f .answered) (f .queue) (f .clock) e es
+      → f .first (e .goal) ≡ m → e .active ≡ none → f .queue (e .goal) ≡ x ∷ xs
+      → ((t : Strand) → List·Memᴰ t (f .queue (e .goal)) → t .time < e .clock → ⊥) → ((u : ℕ) → Fits B L f (e ∷ es) u)
+      → TurnOK S (root-of e es) B L (waiting (S .limits) m d d' f e es)
   waiting-ok true f e es d d' x xs inv t a n late few = record {
     rest = rest-after S f e es (f .made) (put (f .first) (e .goal) false) (f .queue) es inv (step-off S (f .queue) e es a);
     ends = (
@@ -286,88 +344,52 @@ module _ (S : Setting) (B L : ℕ → ℕ) where
     );
     fewer = λ u. let y = few u in let z = back-length (f .queue) es u in let w = flag-put (f .first) (e .goal) u in omega arith;
   }
-  waiting-ok false f e es (yes p) (yes p') x xs inv t a n late few = clearing-ok f e es (ℕ-discrete (e .negative-min) (S .limits .max)) x xs inv a n late p few
+  waiting-ok false f e es (yes p) (yes p') x xs inv t a n late few =
+      clearing-ok f e es (ℕ-discrete (e .negative-min) (S .limits .max)) x xs inv a n late p few
   waiting-ok false f e es (yes p) (no o) x xs inv t a n late few =
-      absurd (let y = top-new S (f .answered) (Holds (f .queue) (e ∷ es)) (f .queue) e es (inv .piled) .1 .plain in let z = S .room in let w = inv .now in let v = inv .bound in omega arith)
+      absurd (let y = top-new S (f .answered) (Holds (f .queue) (e ∷ es)) (f .queue) e es (inv .piled) .1 .plain in let z = S .room in
+      let w = inv .now in let v = inv .bound in omega arith)
   waiting-ok false f e es (no o) d' x xs inv t a n late few = part-of-ok f e es inv a late (omega arith) few
 
-  idle-ok : (x : List Strand) (f : Forest) (e : Entry) (es : List Entry) → Inv S (f .answered) (f .queue) (f .clock) e es → e .active ≡ none → f .queue (e .goal) ≡ x
-      → ((t : Strand) → List·Memᴰ t (f .queue (e .goal)) → t .time < e .clock → ⊥) → ((u : ℕ) → Fits B L f (e ∷ es) u) → TurnOK S (root-of e es) B L (idle (S .limits) x f e es)
+  idle-ok : (x : List Strand) (f : Forest) (e : Entry) (es : List Entry) → Inv S (f .answered) (f .queue) (f .clock) e es → e .active ≡ none
+      → f .queue (e .goal) ≡ x
+      → ((t : Strand) → List·Memᴰ t (f .queue (e .goal)) → t .time < e .clock → ⊥) → ((u : ℕ) → Fits B L f (e ∷ es) u)
+      → TurnOK S (root-of e es) B L (idle (S .limits) x f e es)
   idle-ok [] f e es inv a n late few = emptied-ok f e es inv a n few
-  idle-ok (x ∷ xs) f e es inv a n late few = waiting-ok (f .first (e .goal)) f e es (decLe (e .clock) (e .positive-min)) (decLe (e .clock) (e .negative-min)) x xs inv refl a n late few
-
--- what taking a strand from a queue does; pre has been passed over
-pub record Taken (pre q : List Strand) (s : Strand) (r : List Strand) : Type 0 where
-  pub less : (t : Strand) → List·Memᴰ t r → List·Memᴰ t pre ⊎ List·Memᴰ t q
-  pub mem : List·Memᴰ s q
-  pub behind : (t : Strand) → List·Memᴰ t pre → List·Memᴰ t r
-  pub most : (t : Strand) → List·Memᴰ t q → (s ≡ t) ⊎ List·Memᴰ t r
-  pub number : suc (length r) ≡ length pre + length q
-
-taken-here : (pre xs : List Strand) (x : Strand) → Taken pre (x ∷ xs) x (xs ++ pre)
-taken-here pre xs x = record {
-  less = λ t m. either (λ y. inr (List·Memᴰ·tail y)) inl (List·Memᴰ·append-cases xs m);
-  mem = List·Memᴰ·head refl;
-  behind = λ t m. Memᴰ·append-right xs m;
-  most = λ t m. either (λ y. inl (sym y)) (λ y. inr (Memᴰ·append-left pre y)) (List·Memᴰ·cases-cons m);
-  number = let a : length (xs ++ pre) ≡ length xs + length pre = length-append xs pre in omega arith;
-}
-
-taken-later : (pre xs : List Strand) (x s : Strand) (r : List Strand) → Taken (pre ++ (x ∷ [])) xs s r → Taken pre (x ∷ xs) s r
-taken-later pre xs x s r k = record {
-  less = λ t m. either (λ y. either inl (λ z. inr (List·Memᴰ·head (List·Memᴰ·eq-of-singleton z))) (List·Memᴰ·append-cases pre y)) (λ y. inr (List·Memᴰ·tail y)) (k .less t m);
-  mem = List·Memᴰ·tail (k .mem);
-  behind = λ t m. k .behind t (Memᴰ·append-left (x ∷ []) m);
-  most = λ t m. either (λ y. inr (k .behind t (Memᴰ·append-right pre (List·Memᴰ·head y)))) (k .most t) (List·Memᴰ·cases-cons m);
-  number = let a : length (pre ++ (x ∷ [])) ≡ length pre + 1 = length-append pre (x ∷ []) in let b = k .number in omega arith;
-}
-
-pub taken : (c : ℕ) (pre q : List Strand) (s : Strand) (r : List Strand) → take-from c pre q ≡ some (s, r) → Taken pre q s r
-taken c pre [] s r p = absurd (none-some p)
-taken c pre (x ∷ xs) s r p = go (decLt (x .time) c) p (taken c (pre ++ (x ∷ [])) xs s r)
-  where
-    go : (d : Dec (x .time < c)) → take-at d x (xs ++ pre) (take-from c (pre ++ (x ∷ [])) xs) ≡ some (s, r) → (take-from c (pre ++ (x ∷ [])) xs ≡ some (s, r) → Taken (pre ++ (x ∷ [])) xs s r) → Taken pre (x ∷ xs) s r
-    go (yes o) e k = subst (λ (z : Strand × List Strand). Taken pre (x ∷ xs) (z .0) (z .1)) (some-inj e) (taken-here pre xs x)
-    go (no o) e k = taken-later pre xs x s r (k e)
-
-pub none-taken : (c : ℕ) (pre q : List Strand) → take-from c pre q ≡ none → (t : Strand) → List·Memᴰ t q → t .time < c → ⊥
-none-taken c pre [] p t m o = List·Memᴰ·not-nil m
-none-taken c pre (x ∷ xs) p t m o = go (decLt (x .time) c) p (none-taken c (pre ++ (x ∷ [])) xs) (List·Memᴰ·cases-cons m)
-  where
-    go : (d : Dec (x .time < c)) → take-at d x (xs ++ pre) (take-from c (pre ++ (x ∷ [])) xs) ≡ none → (take-from c (pre ++ (x ∷ [])) xs ≡ none → (t : Strand) → List·Memᴰ t xs → t .time < c → ⊥) → (t ≡ x) ⊎ List·Memᴰ t xs → ⊥
-    go (yes l) e k i = none-some (sym e)
-    go (no l) e k (inl i) = l (subst (λ z. z .time < c) i o)
-    go (no l) e k (inr i) = k e t i o
-
-pub put-length : (q : Queues) (g u : ℕ) (r : List Strand) → suc (length r) ≡ length (q g) → length (put q g r u) + pick (ℕ-discrete g u) 1 0 ≤ length (q u)
-put-length q g u r n = go (ℕ-discrete g u)
-  where
-    go : (d : Dec (g ≡ u)) → length (pick d r (q u)) + pick d 1 0 ≤ length (q u)
-    go (yes p) = let a : length (q g) ≡ length (q u) = ap (λ v. length (q v)) p in omega arith
-    go (no o) = omega arith
+  idle-ok (x ∷ xs) f e es inv a n late few = waiting-ok (f .first (e .goal)) f e es (decLe (e .clock) (e .positive-min))
+      (decLe (e .clock) (e .negative-min)) x xs inv refl a n late few
 
 module _ (S : Setting) (B L : ℕ → ℕ) where
   -- a search put back before the turn
-  back-ok : (f : Forest) (e : Entry) (es : List Entry) → Inv S (f .answered) (f .queue) (f .clock) e es → Resting S (with-queue f (all-back (f .queue) (e ∷ es)))
+  back-ok : (f : Forest) (e : Entry) (es : List Entry) → Inv S (f .answered) (f .queue) (f .clock) e es
+      → Resting S (with-queue f (all-back (f .queue) (e ∷ es)))
   back-ok f e es inv = rest-after S f e es (f .made) (f .first) (f .queue) (e ∷ es) inv (moved S (λ g s h. h) (λ g s h. h))
 
-  taking-ok : (o : Option (Strand × List Strand)) (f : Forest) (e : Entry) (es : List Entry) → Inv S (f .answered) (f .queue) (f .clock) e es → e .active ≡ none → take-from (e .clock) [] (f .queue (e .goal)) ≡ o
+  taking-ok : (o : Option (Strand × List Strand)) (f : Forest) (e : Entry) (es : List Entry)
+      → Inv S (f .answered) (f .queue) (f .clock) e es → e .active ≡ none → take-from (e .clock) [] (f .queue (e .goal)) ≡ o
       → ((u : ℕ) → Fits B L f (e ∷ es) u) → TurnOK S (root-of e es) B L (taking (S .limits) o f e es)
-  taking-ok none f e es inv a p few = idle-ok S B L (f .queue (e .goal)) f e es inv a refl (none-taken (e .clock) [] (f .queue (e .goal)) p) few
+  taking-ok none f e es inv a p few = idle-ok S B L (f .queue (e .goal)) f e es inv a refl (none-taken (e .clock) [] (f .queue (e .goal)) p)
+      few
   taking-ok (some (s, r)) f e es inv a p few =
       let k = taken (e .clock) [] (f .queue (e .goal)) s r p in
-      let w = pursue-ok S B L (s .lits) (with-queue f (all-back (f .queue) (e ∷ es))) (with-queue f (put (f .queue) (e .goal) r)) (entry-with e (some s)) es s
-      (case-take S (f .answered) (f .queue) (f .clock) e es inv s r a (λ t m. either (λ y. absurd (List·Memᴰ·not-nil y)) (λ y. y) (k .less t m)) (k .mem) (k .most)) refl refl
+      let w = pursue-ok S B L (s .lits) (with-queue f (all-back (f .queue) (e ∷ es))) (with-queue f (put (f .queue) (e .goal) r))
+      (entry-with e (some s)) es s
+      (case-take S (f .answered) (f .queue) (f .clock) e es inv s r a
+      (λ t m. either (λ y. absurd (List·Memᴰ·not-nil y)) (λ y. y) (k .less t m)) (k .mem) (k .most)) refl refl
       (λ u. let x = few u in let y = put-length (f .queue) (e .goal) u r (let z = k .number in omega arith) in omega arith)
       (back-ok f e es inv) (λ u. let x = few u in let y = back-length (f .queue) (e ∷ es) u in omega arith) in
-      subst (λ z. TurnOK S z B L (taking (S .limits) (some (s, r)) f e es)) (root-remade S B L e (e .positive-min) (e .negative-min) (some s) es) w
+      subst (λ z. TurnOK S z B L (taking (S .limits) (some (s, r)) f e es))
+      (root-remade S B L e (e .positive-min) (e .negative-min) (some s) es) w
 
-  turn-with-ok : (o : Option Strand) (f : Forest) (e : Entry) (es : List Entry) → Inv S (f .answered) (f .queue) (f .clock) e es → e .active ≡ o
+  turn-with-ok : (o : Option Strand) (f : Forest) (e : Entry) (es : List Entry) → Inv S (f .answered) (f .queue) (f .clock) e es
+      → e .active ≡ o
       → ((u : ℕ) → Fits B L f (e ∷ es) u) → TurnOK S (root-of e es) B L (turn-with (S .limits) o f e es)
   turn-with-ok none f e es inv a few = taking-ok (take-from (e .clock) [] (f .queue (e .goal))) f e es inv a refl few
   turn-with-ok (some s) f e es inv a few =
-      pursue-ok S B L (s .lits) (with-queue f (all-back (f .queue) (e ∷ es))) f e es s inv a refl few (back-ok f e es inv) (λ u. let x = few u in let y = back-length (f .queue) (e ∷ es) u in omega arith)
+      pursue-ok S B L (s .lits) (with-queue f (all-back (f .queue) (e ∷ es))) f e es s inv a refl few (back-ok f e es inv)
+      (λ u. let x = few u in let y = back-length (f .queue) (e ∷ es) u in omega arith)
 
   -- every turn
-  pub turn-ok : (f : Forest) (e : Entry) (es : List Entry) → Inv S (f .answered) (f .queue) (f .clock) e es → ((u : ℕ) → Fits B L f (e ∷ es) u) → TurnOK S (root-of e es) B L (turn (S .limits) f e es)
+  pub turn-ok : (f : Forest) (e : Entry) (es : List Entry) → Inv S (f .answered) (f .queue) (f .clock) e es
+      → ((u : ℕ) → Fits B L f (e ∷ es) u) → TurnOK S (root-of e es) B L (turn (S .limits) f e es)
   turn-ok f e es inv few = turn-with-ok (e .active) f e es inv refl few

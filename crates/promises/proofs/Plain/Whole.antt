@@ -11,17 +11,23 @@ use Rattle.promises.proofs.Plain.Steps.{Setting, Good, Fine, fine-step,
 use Rattle.promises.proofs.Plain.Cases.{Inv, true-false}
 use lib.ListN.{length}
 use Rattle.promises.proofs.Plain.Claim.{Reply, Plainly, Says, AllSay, agains, Inside, Demand}
-use Rattle.promises.proofs.Plain.Machine.{Limits, Strand, Entry, Forest, take-from, total, Outcome, found, no-more-left, again, cut, clock-ended, noted, refused, negative-cycled, unselected, repeated, broken, Turn, turn-goes-on, stop, entry-pushed, tick, idle, taking, turn, follow, run, begin, search-at, search, peek-next, rounds, peek, Call, opens-goal, searches-goal, peeks-goal, asks-any-future, fresh, initial, marked, counts, opening, call-on, calls}
+use Rattle.promises.proofs.Plain.Machine.{Limits, Strand, Entry, Forest, take-from, total, Outcome, found, no-more-left, again, cut}
+use Rattle.promises.proofs.Plain.Machine.{clock-ended, noted, refused, negative-cycled, unselected, repeated, broken, Turn}
+use Rattle.promises.proofs.Plain.Machine.{turn-goes-on, stop, entry-pushed, tick, idle, taking, turn, follow, run, begin, search-at}
+use Rattle.promises.proofs.Plain.Machine.{search, peek-next, rounds, peek, Call, opens-goal, searches-goal, peeks-goal}
+use Rattle.promises.proofs.Plain.Machine.{asks-any-future, fresh, initial, marked, counts, opening, call-on, calls}
 use Rattle.promises.proofs.Plain.Clear.{total-mono, total-drop}
 use Rattle.promises.proofs.Plain.Turns.{count, size, back-length, Ends, Going, Ended, TurnOK, rest-after, turn-ok}
 
 module _ (S : Setting) (r : ℕ) (B L : ℕ → ℕ) where
-  follow-ok : (k : Forest → Entry → List Entry → Outcome × Forest) → ((f : Forest) (e : Entry) (es : List Entry) → Going S r B L f e es → Ended S r B L (k f e es .0) (k f e es .1))
+  follow-ok : (k : Forest → Entry → List Entry → Outcome × Forest)
+      → ((f : Forest) (e : Entry) (es : List Entry) → Going S r B L f e es → Ended S r B L (k f e es .0) (k f e es .1))
       → (t : Turn) → TurnOK S r B L t → Ended S r B L (follow (S .limits) t k .0) (follow (S .limits) t k .1)
   follow-ok k h (turn-goes-on f e es) g = h f e es g
   follow-ok k h (stop o f) g = g
 
-  pub run-ok : (n : ℕ) (f : Forest) (e : Entry) (es : List Entry) → Going S r B L f e es → Ended S r B L (run (S .limits) n f e es .0) (run (S .limits) n f e es .1)
+  pub run-ok : (n : ℕ) (f : Forest) (e : Entry) (es : List Entry) → Going S r B L f e es
+      → Ended S r B L (run (S .limits) n f e es .0) (run (S .limits) n f e es .1)
   run-ok zero f e es g = record {
     rest = rest-after S f e es (f .made) (f .first) (f .queue) (e ∷ es) (g .inv) (moved S (λ g s h. h) (λ g s h. h));
     ends = tt;
@@ -62,7 +68,8 @@ ended-reply S g i before after unselected x = x
 ended-reply S g i before after repeated x = x
 ended-reply S g i before after broken x = x
 
-ended-falls : (S : Setting) (g : ℕ) (before after : ℕ → ℕ) (o : Outcome) → ((u : ℕ) → after u ≤ before u) → Ends S g before after o → total (S .limits .goals) after + counts o ≤ total (S .limits .goals) before
+ended-falls : (S : Setting) (g : ℕ) (before after : ℕ → ℕ) (o : Outcome) → ((u : ℕ) → after u ≤ before u) → Ends S g before after o
+    → total (S .limits .goals) after + counts o ≤ total (S .limits .goals) before
 ended-falls S g before after found h x = let y = total-mono (S .limits .goals) before after h in omega arith
 ended-falls S g before after no-more-left h x = let y = total-mono (S .limits .goals) before after h in omega arith
 ended-falls S g before after again h (u, l, x) = total-drop (S .limits .goals) before after u 1 h l (omega arith)
@@ -75,7 +82,8 @@ ended-falls S g before after unselected h x = absurd x
 ended-falls S g before after repeated h x = absurd x
 ended-falls S g before after broken h x = absurd x
 
-ended-told : (S : Setting) (f : Forest) (g i : ℕ) (o : Outcome) (f' : Forest) → Ended S g (size f []) (clauses S) o f' → Told S f (Reply (S .I) g i) o (counts o) f'
+ended-told : (S : Setting) (f : Forest) (g i : ℕ) (o : Outcome) (f' : Forest) → Ended S g (size f []) (clauses S) o f'
+    → Told S f (Reply (S .I) g i) o (counts o) f'
 ended-told S f g i o f' x = record {
   rest = record { fine = x .rest .fine; bound = x .rest .bound; live = λ u. let y = x .fewer u in omega arith };
   says = ended-reply S g i (size f []) (size f' []) o (x .ends);
@@ -86,10 +94,12 @@ abbrev pub SearchTold : (S : Setting) → Forest → (g i : ℕ) → Outcome × 
 SearchTold S f g i p = Told S f (Reply (S .I) g i) (p .0) (counts (p .0)) (p .1)
 
 -- a search for an unanswered goal begins
-pub begin-inv : (S : Setting) (f : Forest) (g : ℕ) → Ready S f → f .answered g ≡ false → f .clock < S .limits .limit → Inv S (f .answered) (f .queue) (suc (f .clock)) (entry-pushed (S .limits) g (suc (f .clock))) []
+pub begin-inv : (S : Setting) (f : Forest) (g : ℕ) → Ready S f → f .answered g ≡ false → f .clock < S .limits .limit
+    → Inv S (f .answered) (f .queue) (suc (f .clock)) (entry-pushed (S .limits) g (suc (f .clock))) []
 begin-inv S f g rest n lt =
     let top = entry-pushed (S .limits) g (suc (f .clock)) in
-    let step = step-trans S (step-on S {ans = f .answered} {k = f .clock} (f .queue) top [] refl) (step-tick S {k' = suc (f .clock)} (omega arith)) in
+    let step = step-trans S (step-on S {ans = f .answered} {k = f .clock} (f .queue) top [] refl)
+    (step-tick S {k' = suc (f .clock)} (omega arith)) in
     let r = S .room in
     record {
       fine = fine-step S (rest .fine) step;
@@ -110,12 +120,17 @@ begin-inv S f g rest n lt =
       bound = lt;
     }
 
-begin-ok : (S : Setting) (f : Forest) (g i n : ℕ) (d : Dec (f .clock < S .limits .limit)) → Ready S f → f .answered g ≡ false → SearchTold S f g i (begin (S .limits) d f g n)
+begin-ok : (S : Setting) (f : Forest) (g i n : ℕ) (d : Dec (f .clock < S .limits .limit)) → Ready S f → f .answered g ≡ false
+    → SearchTold S f g i (begin (S .limits) d f g n)
 begin-ok S f g i n (yes o) rest a =
     let top = entry-pushed (S .limits) g (suc (f .clock)) in
     let f' = tick (S .limits) f in
     ended-told S f g i (run (S .limits) n f' top [] .0) (run (S .limits) n f' top [] .1)
-    (run-ok S g (size f []) (clauses S) n f' top [] (record { inv = begin-inv S f g rest a o; root = refl; fewer = λ u. let x = rest .live u in omega arith }))
+    (run-ok S g (size f []) (clauses S) n f' top [] (record {
+      inv = begin-inv S f g rest a o;
+      root = refl;
+      fewer = λ u. let x = rest .live u in omega arith;
+    }))
 begin-ok S f g i n (no o) rest a = record { rest = rest; says = tt; falls = omega arith }
 
 -- a search at index 1, where the answer is stored: nothing is left to do
@@ -123,19 +138,23 @@ pub no-member : (q : List Strand) → ((s : Strand) → List·Memᴰ s q → ⊥
 no-member [] h = refl
 no-member (x ∷ xs) h = absurd (h x (List·Memᴰ·head refl))
 
-pub turn-stored : (S : Setting) (f : Forest) (g c : ℕ) → f .queue g ≡ [] → turn (S .limits) f (entry-pushed (S .limits) g c) [] ≡ stop no-more-left f
+pub turn-stored : (S : Setting) (f : Forest) (g c : ℕ) → f .queue g ≡ []
+    → turn (S .limits) f (entry-pushed (S .limits) g c) [] ≡ stop no-more-left f
 turn-stored S f g c p =
     let e = entry-pushed (S .limits) g c in
     ap (λ z. taking (S .limits) (take-from c [] z) f e []) p ∙ ap (λ z. idle (S .limits) z f e []) p
 
-pub run-stored : (S : Setting) (f : Forest) (g c n : ℕ) → f .queue g ≡ [] → (run (S .limits) n f (entry-pushed (S .limits) g c) [] ≡ (cut, f)) ⊎ (run (S .limits) n f (entry-pushed (S .limits) g c) [] ≡ (no-more-left, f))
+pub run-stored : (S : Setting) (f : Forest) (g c n : ℕ) → f .queue g ≡ []
+    → (run (S .limits) n f (entry-pushed (S .limits) g c) [] ≡ (cut, f))
+    ⊎ (run (S .limits) n f (entry-pushed (S .limits) g c) [] ≡ (no-more-left, f))
 run-stored S f g c zero p = inl refl
 run-stored S f g c (suc n) p = inr (ap (λ z. follow (S .limits) z (run (S .limits) n)) (turn-stored S f g c p))
 
 ticked : (S : Setting) (f : Forest) → Ready S f → f .clock < S .limits .limit → Ready S (tick (S .limits) f)
 ticked S f rest lt = record { fine = fine-step S (rest .fine) (step-tick S (omega arith)); bound = lt; live = rest .live }
 
-stored-ok : (S : Setting) (f : Forest) (g n : ℕ) (d : Dec (f .clock < S .limits .limit)) → Ready S f → f .answered g ≡ true → SearchTold S f g 1 (begin (S .limits) d f g n)
+stored-ok : (S : Setting) (f : Forest) (g n : ℕ) (d : Dec (f .clock < S .limits .limit)) → Ready S f → f .answered g ≡ true
+    → SearchTold S f g 1 (begin (S .limits) d f g n)
 stored-ok S f g n (yes o) rest a =
     let f' = tick (S .limits) f in
     let q : f .queue g ≡ [] = no-member (f .queue g) (λ s m. rest .fine .quiet g a s (inl m)) in
@@ -147,7 +166,8 @@ stored-ok S f g n (no o) rest a = record { rest = rest; says = tt; falls = omega
 refused-ok : (S : Setting) (f : Forest) (g i n : ℕ) → Ready S f → SearchTold S f g i (refused n, f)
 refused-ok S f g i n rest = record { rest = rest; says = tt; falls = omega arith }
 
-search-at-ok : (S : Setting) (f : Forest) (m a : Bool) (g i n : ℕ) → Ready S f → f .answered g ≡ a → SearchTold S f g i (search-at (S .limits) m a i n f g)
+search-at-ok : (S : Setting) (f : Forest) (m a : Bool) (g i n : ℕ) → Ready S f → f .answered g ≡ a
+    → SearchTold S f g i (search-at (S .limits) m a i n f g)
 search-at-ok S f false a g i n rest e = refused-ok S f g i 10 rest
 search-at-ok S f true false g zero zero rest e = refused-ok S f g 0 12 rest
 search-at-ok S f true false g zero (suc n) rest e = begin-ok S f g 0 (suc n) (decLt (f .clock) (S .limits .limit)) rest e
@@ -164,7 +184,9 @@ search-ok S f g i n rest = search-at-ok S f (f .made g) (f .answered g) g i n re
 abbrev pub PeekTold : (S : Setting) → Forest → (g i : ℕ) → Outcome × ℕ × Forest → Type 0
 PeekTold S f g i p = Told S f (Reply (S .I) g i) (p .0) (p .1) (p .2)
 
-peek-next-ok : (S : Setting) (f : Forest) (g i : ℕ) (k : Forest → Outcome × ℕ × Forest) → ((f' : Forest) → Ready S f' → PeekTold S f' g i (k f')) → (p : Outcome × Forest) → SearchTold S f g i p → PeekTold S f g i (peek-next (S .limits) p k)
+peek-next-ok : (S : Setting) (f : Forest) (g i : ℕ) (k : Forest → Outcome × ℕ × Forest)
+    → ((f' : Forest) → Ready S f' → PeekTold S f' g i (k f')) → (p : Outcome × Forest) → SearchTold S f g i p
+    → PeekTold S f g i (peek-next (S .limits) p k)
 peek-next-ok S f g i k h (found, f') t = t
 peek-next-ok S f g i k h (no-more-left, f') t = t
 peek-next-ok S f g i k h (again, f') t =
@@ -181,7 +203,8 @@ peek-next-ok S f g i k h (broken, f') t = t
 
 rounds-ok : (S : Setting) (r g i n : ℕ) (f : Forest) → Ready S f → PeekTold S f g i (rounds (S .limits) r g i n f)
 rounds-ok S zero g i n f rest = record { rest = rest; says = tt; falls = omega arith }
-rounds-ok S (suc r) g i n f rest = peek-next-ok S f g i (rounds (S .limits) r g i n) (rounds-ok S r g i n) (search (S .limits) f g i n) (search-ok S f g i n rest)
+rounds-ok S (suc r) g i n f rest = peek-next-ok S f g i (rounds (S .limits) r g i n) (rounds-ok S r g i n) (search (S .limits) f g i n)
+    (search-ok S f g i n rest)
 
 pub peek-ok : (S : Setting) (r g i n : ℕ) (f : Forest) → Ready S f → PeekTold S f g i (peek (S .limits) r g i n f)
 peek-ok S zero g i n f rest =
@@ -189,21 +212,24 @@ peek-ok S zero g i n f rest =
     record { rest = t .rest; says = t .says; falls = let x = t .falls in omega arith }
 peek-ok S (suc r) g i n f rest = rounds-ok S (suc r) g i n f rest
 
-pub call-ok : (S : Setting) (m : Bool) (c : Call) (f : Forest) → Ready S f → Told S f (Says (S .I) c) (call-on (S .limits) m c f .0) (call-on (S .limits) m c f .1) (call-on (S .limits) m c f .2)
+pub call-ok : (S : Setting) (m : Bool) (c : Call) (f : Forest) → Ready S f
+    → Told S f (Says (S .I) c) (call-on (S .limits) m c f .0) (call-on (S .limits) m c f .1) (call-on (S .limits) m c f .2)
 call-ok S true (opens-goal g) f rest = record { rest = rest; says = tt; falls = omega arith }
 call-ok S true (searches-goal g i n) f rest = record { rest = rest; says = tt; falls = omega arith }
 call-ok S true (peeks-goal g i r n) f rest = record { rest = rest; says = tt; falls = omega arith }
 call-ok S true (asks-any-future g i) f rest = record { rest = rest; says = tt; falls = omega arith }
 call-ok S false (opens-goal g) f rest = go (decLt g (S .limits .goals))
   where
-    go : (d : Dec (g < S .limits .goals)) → Told S f Plainly (opening (S .limits) d g f .0) (opening (S .limits) d g f .1) (opening (S .limits) d g f .2)
+    go : (d : Dec (g < S .limits .goals)) → Told S f Plainly (opening (S .limits) d g f .0) (opening (S .limits) d g f .1)
+        (opening (S .limits) d g f .2)
     go (yes o) = record { rest = record { fine = rest .fine; bound = rest .bound; live = rest .live }; says = tt; falls = omega arith }
     go (no o) = record { rest = rest; says = tt; falls = omega arith }
 call-ok S false (searches-goal g i n) f rest = search-ok S f g i n rest
 call-ok S false (peeks-goal g i r n) f rest = peek-ok S r g i n f rest
 call-ok S false (asks-any-future g i) f rest = record { rest = rest; says = tt; falls = omega arith }
 
-pub calls-ok : (S : Setting) (cs : List Call) (m : Bool) (f : Forest) → Ready S f → AllSay (S .I) (calls (S .limits) cs m f) × (agains (calls (S .limits) cs m f) ≤ potential S f)
+pub calls-ok : (S : Setting) (cs : List Call) (m : Bool) (f : Forest) → Ready S f
+    → AllSay (S .I) (calls (S .limits) cs m f) × (agains (calls (S .limits) cs m f) ≤ potential S f)
 calls-ok S [] m f rest = (tt, omega arith)
 calls-ok S (c ∷ cs) m f rest =
     let k = call-ok S m c f rest in
@@ -212,7 +238,8 @@ calls-ok S (c ∷ cs) m f rest =
 
 mem-map : (bs : List Body) (s : Strand) → List·Memᴰ s (map fresh bs) → (c : Body) × List·Memᴰ c bs × (fresh c ≡ s)
 mem-map [] s m = absurd (List·Memᴰ·not-nil m)
-mem-map (b ∷ bs) s m = either (λ p. (b, List·Memᴰ·head refl, sym p)) (λ x. let r = mem-map bs s x in (r .0, List·Memᴰ·tail (r .1), r .2)) (List·Memᴰ·cases-cons m)
+mem-map (b ∷ bs) s m = either (λ p. (b, List·Memᴰ·head refl, sym p)) (λ x. let r = mem-map bs s x in (r .0, List·Memᴰ·tail (r .1), r .2))
+    (List·Memᴰ·cases-cons m)
 
 map-mem : (bs : List Body) (c : Body) → List·Memᴰ c bs → List·Memᴰ (fresh c) (map fresh bs)
 map-mem bs c (List·Memᴰ·head p) = List·Memᴰ·head (ap fresh p)
@@ -240,7 +267,8 @@ initial-ok S = record {
     queued g s (inl m) = m
     queued g s (inr x) = absurd x
 
-    from : (g : ℕ) (s : Strand) → Holds (initial (S .book) .queue) [] g s → ((c : Body) → List·Memᴰ c (S .book g) → Good S g (fresh c)) → Good S g s
+    from : (g : ℕ) (s : Strand) → Holds (initial (S .book) .queue) [] g s → ((c : Body) → List·Memᴰ c (S .book g) → Good S g (fresh c))
+        → Good S g s
     from g s h k = let r = mem-map (S .book g) s (queued g s h) in subst (Good S g) (r .2) (k (r .0) (r .1))
 
 pub initial-total : (n : ℕ) (book : Book) → total n (size (initial book) []) ≤ n + total n (λ g. length (book g))
@@ -248,10 +276,12 @@ initial-total zero book = omega arith
 initial-total (suc n) book = let x = initial-total n book in let y = map-length (book n) in omega arith
 
 -- the strands of all tables are never more than the clauses
-pub ready-strands : (S : Setting) (f : Forest) → Ready S f → total (S .limits .goals) (λ u. length (f .queue u)) ≤ total (S .limits .goals) (clauses S)
+pub ready-strands : (S : Setting) (f : Forest) → Ready S f
+    → total (S .limits .goals) (λ u. length (f .queue u)) ≤ total (S .limits .goals) (clauses S)
 ready-strands S f r = total-mono (S .limits .goals) (clauses S) (λ u. length (f .queue u)) (r .live)
 
-pub going-strands : (S : Setting) (r : ℕ) (B : ℕ → ℕ) (f : Forest) (e : Entry) (es : List Entry) → Going S r B (clauses S) f e es → total (S .limits .goals) (λ u. length (f .queue u) + count (e ∷ es) u) ≤ total (S .limits .goals) (clauses S)
+pub going-strands : (S : Setting) (r : ℕ) (B : ℕ → ℕ) (f : Forest) (e : Entry) (es : List Entry) → Going S r B (clauses S) f e es
+    → total (S .limits .goals) (λ u. length (f .queue u) + count (e ∷ es) u) ≤ total (S .limits .goals) (clauses S)
 going-strands S r B f e es g = total-mono (S .limits .goals) (clauses S) (λ u. length (f .queue u) + count (e ∷ es) u) (λ u. g .fewer u .1)
 
 abbrev pub setting : (book : Book) (level : ℕ → ℕ) (N : Limits) → Levelled book level → Inside book (N .goals) → N .limit ≤ N .max → Setting
@@ -267,7 +297,8 @@ setting book level N levelled inside room = record {
   room = room;
 }
 
-pub demand : (book : Book) (level : ℕ → ℕ) (N : Limits) → Levelled book level → Inside book (N .goals) → N .limit ≤ N .max → Demand book level N
+pub demand : (book : Book) (level : ℕ → ℕ) (N : Limits) → Levelled book level → Inside book (N .goals) → N .limit ≤ N .max
+    → Demand book level N
 demand book level N levelled inside room cs =
     let S = setting book level N levelled inside room in
     let r = calls-ok S cs false (initial book) (initial-ok S) in
