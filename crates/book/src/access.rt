@@ -11,7 +11,7 @@ fn goal_byte(a: &[u8; 64], goal: usize) -> u8
     if goal < 64 { a[goal] } else { 0 }
 }
 
-fn goal_number(a: &[u16; 64], goal: usize) -> u16
+pub fn goal_number(a: &[u16; 64], goal: usize) -> u16
     ensures { λ r. ⌜ r ≡ entry 64 (now (a .entry)) goal ⌝ }
 {
     if goal < 64 { a[goal] } else { 0 }

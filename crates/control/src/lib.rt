@@ -1,3 +1,4 @@
 // logic.rs over the stores: a turn is decided, reading only, and then done, writing only (crate `split`). Files are named after the
 // functions of logic.rs.
 pub mod decision; // decision.rt: what a turn with a strand is decided to do
+pub mod select_subgoal; // select_subgoal.rt: which literal the strand goes on with
