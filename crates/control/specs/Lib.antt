@@ -1,1 +1,3 @@
 pub mod Decision
+pub mod OnSubgoalSelected
+pub mod OnNoRemainingSubgoals

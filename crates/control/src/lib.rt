@@ -1,3 +1,5 @@
 // logic.rs over the stores: a turn is decided, reading only, and then done, writing only (crate `split`). Files are named after the
 // functions of logic.rs.
 pub mod decision; // decision.rt: what a turn with a strand is decided to do
+pub mod on_subgoal_selected; // on_subgoal_selected.rt: a strand that has selected a literal, by what that literal's table holds for it
+pub mod on_no_remaining_subgoals; // on_no_remaining_subgoals.rt: a strand with no literal left gives its answer
