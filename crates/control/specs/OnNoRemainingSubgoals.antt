@@ -1,12 +1,15 @@
 -- What a strand with no literal left is decided to do: x is the answer that it gives, `was` the stored one that is the same.
 use Prim.Native.Nat.{ℕ}
 use mathlib.Core.Bool.{Bool, true, false, not, _&&_}
+use mathlib.Core.Option.{none, some}
+use mathlib.Core.Path.{_≡_}
 use lib.Dec.{leb}
 use Rattle.definitions.specs.Fitting.{is-trivial, is-outsized}
 use Rattle.definitions.specs.Lists.{is-empty}
+use Rattle.definitions.specs.Table.{Table, equal-answer}
 use Rattle.strands.specs.declared.Answer.{Answer}
 use Rattle.strands.specs.declared.Strand.{Strand}
-use Rattle.strands.specs.View.{clause}
+use Rattle.strands.specs.View.{clause, answer}
 use Rattle.control.specs.declared.decision.Deed.the-variants.{Stop, GivesUp, Requeues, Flounders, Answers}
 use Rattle.control.specs.declared.decision.Decision.{Decision}
 use Rattle.control.specs.Decision.{decided}
@@ -50,3 +53,8 @@ no-remaining-by false s was x is-new held = pursue-answer s was x is-new held
 -- `on_no_remaining_subgoals`
 abbrev pub no-remaining : Strand → (was x : Answer) → (is-new complete : Bool) → (held : ℕ) → Decision
 no-remaining s was x is-new complete held = no-remaining-by (complete && s .ambiguous) s was x is-new held
+
+-- what the table has stored of the answer x: nothing that is the same where x is new, and else `was`
+abbrev pub Stored : (is-new : Bool) → (was x : Answer) → Table → Type 0
+Stored true was x table = equal-answer (answer x) (table .answers) ≡ none
+Stored false was x table = equal-answer (answer x) (table .answers) ≡ some (answer was)

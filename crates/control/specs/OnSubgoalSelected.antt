@@ -1,11 +1,20 @@
 -- What a strand that has selected its last literal is decided to do, by what the selected table holds for it.
-use Prim.Native.Nat.{ℕ}
+use Prim.Native.Nat.{ℕ, suc, _<_}
 use mathlib.Core.Bool.{Bool, true, false, not, _&&_}
-use mathlib.Core.List.{[], _∷_}
+use mathlib.Core.List.{[], _∷_, map}
+use mathlib.Core.Option.{none, some}
+use mathlib.Core.Path.{_≡_}
 use lib.Dec.{eqb, leb}
+use lib.ListN.{length, getElem?}
+use Rattle.definitions.specs.{TimeStamp}
 use Rattle.definitions.specs.Book.{goal-of}
 use Rattle.definitions.specs.Fitting.{answer-fits, is-trivial}
 use Rattle.definitions.specs.Slg.{next-subgoal-index}
+use Rattle.definitions.specs.Stack.{Stack, is-active, top-of-stack-from}
+use Rattle.definitions.specs.Strand as held
+use Rattle.definitions.specs.Table as tables
+use Rattle.definitions.specs.Tables.{Forest}
+use Rattle.split.specs.Decide.{or, table-of, all-coinductive}
 use Rattle.book.specs.View.{meant}
 use Rattle.book.specs.declared.Literal.{Literal}
 use Rattle.strands.specs.declared.Answer.{Answer}
@@ -19,7 +28,7 @@ use Rattle.strands.specs.Fields.{no-literal, with-selected, with-ambiguous, nex
 use Rattle.strands.specs.Floundering.{flounder}
 use Rattle.strands.specs.Literals.{subgoal-at, last-removed}
 use Rattle.strands.specs.Merging.{take-answer}
-use Rattle.strands.specs.View.{clause, is-negative}
+use Rattle.strands.specs.View.{clause, selected, answer, is-negative}
 use Rattle.control.specs.declared.decision.Deed.the-variants.{Stop, GoesOn, GivesUp, Cycles, Pushes}
 use Rattle.control.specs.declared.decision.Decision.{Decision}
 use Rattle.control.specs.declared.on_subgoal_selected.Look.the-variants as looks
@@ -113,3 +122,26 @@ selected-deed (looks.Answer place) s a complete live late = merge-answer s a com
 selected-deed looks.Coinductive s a complete live late = coinductive s a
 selected-deed (looks.Cycle height) s a complete live late = decided (Cycles height) false s s a
 selected-deed (looks.Push table) s a complete live late = push-table late table s a
+
+-- The strand has selected k, which is its last literal; and the index after the answer's is still one of a u16.
+pub record Selects (s : Strand) (k : held.SelectedSubgoal) : Type 0 where
+  pub selects : selected (s .selected) ≡ some k
+  pub is-last : suc (k .subgoal-index) ≡ length (clause s .subgoals)
+  pub goes-on : k .answer-index < 65535
+
+-- WHAT A LOOK MEANS for a strand that has selected k, in the forest f with this stack: a is the answer at the place that it names, and
+-- `clock-at` gives the clock of the entry at a height.
+module _ (clock-at : ℕ → TimeStamp) (f : Forest) (stack : Stack) (k : held.SelectedSubgoal) (a : Answer) where
+  abbrev pub No-answer : Type 0
+  No-answer = tables.answer (table-of f (k .subgoal-table)) (k .answer-index) ≡ none
+
+  pub data LookMeans : Look → Type 0 where
+    holds-answer : {place : ℕ} → tables.answer (table-of f (k .subgoal-table)) (k .answer-index) ≡ some (answer a)
+        → LookMeans (looks.Answer place)
+    all-are-coinductive : (depth : ℕ) → No-answer → is-active (k .subgoal-table) stack ≡ some depth
+        → all-coinductive f (top-of-stack-from depth stack) ≡ true → LookMeans looks.Coinductive
+    is-on-stack : {height : ℕ} (depth : ℕ) → No-answer → is-active (k .subgoal-table) stack ≡ some depth
+        → all-coinductive f (top-of-stack-from depth stack) ≡ false → clock-at height ≡ or 0 (getElem? (map (λ e. e .clock) stack) depth)
+        → LookMeans (looks.Cycle height)
+    is-to-push : {table : ℕ} → No-answer → is-active (k .subgoal-table) stack ≡ none → table ≡ k .subgoal-table
+        → LookMeans (looks.Push table)

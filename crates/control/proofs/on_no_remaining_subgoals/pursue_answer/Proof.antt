@@ -1,7 +1,7 @@
 -- The ways out of `pursue_answer`, by its three tests.
 use mathlib.Core.Bool.{true, false}
 use mathlib.Core.Path.{refl, sym, _∙_}
-use Rattle.control.proofs.NoRemainingCases.{says-left, says-pursued}
+use Rattle.control.proofs.OnNoRemainingSubgoalsCases.{says-left, says-pursued}
 use borrow.Author.Needs.{needs}
 use Rattle.control.proofs.on_no_remaining_subgoals.pursue_answer.Statement.{statement}
 use Rattle.control.proofs.on_no_remaining_subgoals.pursue_answer.Tie as tie

@@ -2,7 +2,7 @@
 use mathlib.Core.Bool.{true, false}
 use mathlib.Core.Path.{sym, ap, _∙_}
 use Rattle.strands.specs.Merging.{take-answer}
-use Rattle.control.proofs.SelectedCases.{says-into, says-misfit}
+use Rattle.control.proofs.OnSubgoalSelectedCases.{says-into, says-misfit}
 use borrow.Author.Needs.{needs}
 use Rattle.control.proofs.on_subgoal_selected.merge_into.Statement.{statement}
 use Rattle.control.proofs.on_subgoal_selected.merge_into.Tie as tie

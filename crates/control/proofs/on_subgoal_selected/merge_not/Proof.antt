@@ -6,7 +6,7 @@ use Rattle.strands.specs.Fields.{with-ambiguous}
 use Rattle.strands.specs.Literals.{last-removed}
 use Rattle.control.specs.declared.decision.Deed.the-variants.{GoesOn}
 use Rattle.control.specs.Decision.{decided}
-use Rattle.control.proofs.SelectedCases.{says-delays, says-not}
+use Rattle.control.proofs.OnSubgoalSelectedCases.{says-delays, says-not}
 use borrow.Author.Needs.{needs}
 use Rattle.control.proofs.on_subgoal_selected.merge_not.Statement.{statement}
 use Rattle.control.proofs.on_subgoal_selected.merge_not.Tie as tie

@@ -4,7 +4,7 @@ use mathlib.Core.Path.{sym, ap, _∙_}
 use borrow.Author.Tests.{le-leb, lt-leb}
 use Rattle.strands.specs.declared.Strand.{Strand}
 use Rattle.control.specs.OnSubgoalSelected.{merge-into}
-use Rattle.control.proofs.SelectedCases.{says-trivial, says-other}
+use Rattle.control.proofs.OnSubgoalSelectedCases.{says-trivial, says-other}
 use borrow.Author.Needs.{needs}
 use Rattle.control.proofs.on_subgoal_selected.merge_positive.Statement.{statement}
 use Rattle.control.proofs.on_subgoal_selected.merge_positive.Tie as tie

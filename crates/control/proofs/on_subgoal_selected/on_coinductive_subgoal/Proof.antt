@@ -4,7 +4,7 @@ use mathlib.Core.Path.{sym, ap, _∙_}
 use Rattle.definitions.specs.Book.{goal-of}
 use Rattle.strands.specs.Literals.{last-removed}
 use Rattle.strands.specs.View.{is-negative}
-use Rattle.control.proofs.SelectedCases.{says-coinductive-not, says-coinductive}
+use Rattle.control.proofs.OnSubgoalSelectedCases.{says-coinductive-not, says-coinductive}
 use borrow.Author.Needs.{needs}
 use Rattle.control.proofs.on_subgoal_selected.on_coinductive_subgoal.Statement.{statement}
 use Rattle.control.proofs.on_subgoal_selected.on_coinductive_subgoal.Tie as tie
