@@ -1,6 +1,9 @@
--- Strands as they are seen; for each file of src/ the ways out of its functions over variables (Cases), and what its models mean and keep.
+-- Decisions with no copy; strands as they are seen; for each file of src/ the ways out of its functions over variables (Cases), what its
+-- models mean, and what they keep and leave (Leaves).
+pub mod Decisions
 pub mod Seen
 pub mod OnSubgoalSelectedCases
 pub mod OnSubgoalSelected
+pub mod OnSubgoalSelectedLeaves
 pub mod OnNoRemainingSubgoalsCases
 pub mod OnNoRemainingSubgoals

@@ -14,11 +14,12 @@ use Rattle.split.specs.Decide.{decide-answer, decide-no-remaining}
 use Rattle.strands.specs.declared.Answer.{Answer}
 use Rattle.strands.specs.declared.Strand.{Strand}
 use Rattle.strands.specs.Answers.{answer-from, answer-of}
-use Rattle.strands.specs.View.{Sound, clause, answer}
+use Rattle.strands.specs.View.{Sound, SoundAnswer, clause, answer}
 use Rattle.strands.proofs.AnswerViews.{answer-of-view}
-use Rattle.control.specs.Decision.{seen, meaning}
+use Rattle.control.specs.Decision.{seen, meaning, SoundDecision, Leaves}
 use Rattle.control.specs.OnNoRemainingSubgoals.{outsized, empties, answer-again-by, answer-anew-by, pursue-by, pursue-answer}
 use Rattle.control.specs.OnNoRemainingSubgoals.{no-remaining-by, no-remaining, Stored}
+use Rattle.control.proofs.Decisions.{alone-sound, alone-leaves}
 
 module _ (time : TimeStamp) (clock-at : ℕ → TimeStamp) (s : Strand) (was x : Answer) (held : ℕ) where
   -- A repeated answer, and a new one.
@@ -80,3 +81,50 @@ module _ (time : TimeStamp) (clock-at : ℕ → TimeStamp) (s : Strand) (was x :
           → meaning time clock-at (no-remaining s was x is-new complete held) ≡ decide-no-remaining held (seen time s) table
       no-remaining-means complete e =
           no-remaining-by-view (complete && s .ambiguous) ∙ ap (λ (b : Bool). remaining-by (b && s .ambiguous)) (sym e)
+
+-- What is carried is sound, and the strand is left as it came.
+module _ (s : Strand) (was x : Answer) where
+  module _ (o : Sound s) (p : SoundAnswer was) (q : SoundAnswer x) where
+    again-by-sound : (ambiguous was-ambiguous : Bool) → SoundDecision (answer-again-by ambiguous was-ambiguous s was)
+    again-by-sound true was-ambiguous = alone-sound _ s was o p
+    again-by-sound false true = alone-sound _ s was o p
+    again-by-sound false false = alone-sound _ s was o p
+
+    anew-by-sound : (full : Bool) → SoundDecision (answer-anew-by full s was x)
+    anew-by-sound true = alone-sound _ s was o p
+    anew-by-sound false = alone-sound _ s x o q
+
+    pursue-by-sound : (none-left large is-new : Bool) (held : ℕ) → SoundDecision (pursue-by none-left large is-new s was x held)
+    pursue-by-sound false large is-new held = alone-sound _ s was o p
+    pursue-by-sound true true is-new held = alone-sound _ s was o p
+    pursue-by-sound true false true held = anew-by-sound (leb 256 held)
+    pursue-by-sound true false false held = again-by-sound (s .ambiguous) (was .ambiguous)
+
+    no-remaining-by-sound : (puts-off is-new : Bool) (held : ℕ) → SoundDecision (no-remaining-by puts-off s was x is-new held)
+    no-remaining-by-sound true is-new held = alone-sound _ s was o p
+    no-remaining-by-sound false is-new held = pursue-by-sound (is-empty (clause s .subgoals)) (outsized s) is-new held
+
+    pub no-remaining-sound : (is-new complete : Bool) (held : ℕ) → SoundDecision (no-remaining s was x is-new complete held)
+    no-remaining-sound is-new complete held = no-remaining-by-sound (complete && s .ambiguous) is-new held
+
+  again-by-leaves : (ambiguous was-ambiguous : Bool) → Leaves s was x (answer-again-by ambiguous was-ambiguous s was)
+  again-by-leaves true was-ambiguous = alone-leaves _ s s was x was refl refl
+  again-by-leaves false true = alone-leaves _ s s was x was refl refl
+  again-by-leaves false false = alone-leaves _ s s was x was refl refl
+
+  anew-by-leaves : (full : Bool) → Leaves s was x (answer-anew-by full s was x)
+  anew-by-leaves true = alone-leaves _ s s was x was refl refl
+  anew-by-leaves false = alone-leaves _ s s was x x refl refl
+
+  pursue-by-leaves : (none-left large is-new : Bool) (held : ℕ) → Leaves s was x (pursue-by none-left large is-new s was x held)
+  pursue-by-leaves false large is-new held = alone-leaves _ s s was x was refl refl
+  pursue-by-leaves true true is-new held = alone-leaves _ s s was x was refl refl
+  pursue-by-leaves true false true held = anew-by-leaves (leb 256 held)
+  pursue-by-leaves true false false held = again-by-leaves (s .ambiguous) (was .ambiguous)
+
+  no-remaining-by-leaves : (puts-off is-new : Bool) (held : ℕ) → Leaves s was x (no-remaining-by puts-off s was x is-new held)
+  no-remaining-by-leaves true is-new held = alone-leaves _ s s was x was refl refl
+  no-remaining-by-leaves false is-new held = pursue-by-leaves (is-empty (clause s .subgoals)) (outsized s) is-new held
+
+  pub no-remaining-leaves : (is-new complete : Bool) (held : ℕ) → Leaves s was x (no-remaining s was x is-new complete held)
+  no-remaining-leaves is-new complete held = no-remaining-by-leaves (complete && s .ambiguous) is-new held

@@ -2,44 +2,51 @@
 use Prim.Native.Nat.{ℕ, _<_}
 use native.Mathlib.Omega.{arith}
 use mathlib.Core.Bool.{Bool, true, false, not, _&&_}
-use mathlib.Core.List.{[], _∷_}
+use mathlib.Core.List.{[], _∷_, map}
 use mathlib.Core.Option.{Option, none, some}
 use mathlib.Core.Path.{_≡_, refl, sym, ap, ap₂, _∙_}
 use lib.Dec.{eqb, leb, leb·suc-suc}
-use Rattle.definitions.specs.{TimeStamp, is-complete}
+use lib.ListN.{getElem?}
+use Rattle.definitions.specs.{TimeStamp, MAX, is-complete}
 use Rattle.definitions.specs as said
 use Rattle.definitions.specs.Book as books
 use Rattle.definitions.specs.Fitting.{answer-fits, is-trivial}
 use Rattle.definitions.specs.Lists.{remove}
 use Rattle.definitions.specs.Logic.{next-answer-strand}
 use Rattle.definitions.specs.Slg.{next-subgoal-index, delay}
+use Rattle.definitions.specs.Stack.{StackEntry, Stack, is-active, top-of-stack-from}
 use Rattle.definitions.specs.Stop.{Stops, stop, go, _>>=_, _>>_, stop-if}
 use Rattle.definitions.specs.Strand as held
 use Rattle.definitions.specs.Table.{Table}
+use Rattle.definitions.specs.Tables.{Forest}
 use Rattle.split.specs.Acts as split
-use Rattle.split.specs.Decide.{literal-at, with-literal-floundered, decide-copy, decide-into, decide-merge, decide-coinductive}
+use Rattle.split.specs.Decide.{or, no-selected, literal-at, table-of, with-literal-floundered, decide-copy, decide-into, decide-merge}
+use Rattle.split.specs.Decide.{decide-coinductive, all-coinductive, decide-awaiting, decide-selected}
 use Rattle.book.specs.View.{meant}
 use Rattle.book.specs.declared.Literal.{Literal}
 use Rattle.strands.specs.declared.Answer.{Answer}
 use Rattle.strands.specs.declared.Selected.the-variants.{Nothing}
 use Rattle.strands.specs.declared.Strand.{Strand}
 use Rattle.strands.specs.declared.delaying.Delayed.{Delayed}
-use Rattle.strands.specs.Delaying.{delayed-by, delayed, delay-goals}
-use Rattle.strands.specs.Fields.{with-selected, with-ambiguous, next-of}
+use Rattle.strands.specs.Delaying.{delayed-by, delay-goals}
+use Rattle.strands.specs.Fields.{with-selected, next-of}
 use Rattle.strands.specs.Floundering.{flounder}
 use Rattle.strands.specs.Literals.{without-last, last-removed}
 use Rattle.strands.specs.Merging.{taking, take-answer}
-use Rattle.strands.specs.View.{Sound, SoundAnswer, Kept, clause, selected, answer, is-negative}
+use Rattle.strands.specs.View.{Sound, SoundAnswer, Kept, clause, answer, is-negative}
 use Rattle.strands.proofs.DelayViews.{delay-view, delay-kept}
 use Rattle.strands.proofs.FieldViews.{kept-on, selected-sound}
 use Rattle.strands.proofs.FlounderViews.{flounder-kept}
 use Rattle.strands.proofs.Lists.{take-empty}
 use Rattle.strands.proofs.MergeViews.{take-view, take-kept}
 use Rattle.control.specs.declared.decision.Decision.{Decision}
+use Rattle.control.specs.declared.on_subgoal_selected.Look.the-variants as looks
+use Rattle.control.specs.declared.on_subgoal_selected.Look.{Look}
 use Rattle.control.specs.Decision.{seen, copy-by, last-literal, meaning}
 use Rattle.control.specs.OnSubgoalSelected.{chosen, deselected, coinductive-by, coinductive, Selects, merge-not-by, merge-not}
 use Rattle.control.specs.OnSubgoalSelected.{merge-into-by, merge-into, merge-positive-by, merge-positive, merge-literal-by}
-use Rattle.control.specs.OnSubgoalSelected.{merge-literal, merge-answer-by, merge-answer}
+use Rattle.control.specs.OnSubgoalSelected.{merge-literal, merge-answer-by, merge-answer, push-table, selected-deed, LookMeans}
+use Rattle.control.specs.OnSubgoalSelected.{holds-answer, all-are-coinductive, is-on-stack, is-to-push}
 use Rattle.control.proofs.Seen.{kept-seen, next-answer-seen, chosen-means, last-removed-clause, some-left, flounder-clause}
 
 index-is : (s : Strand) (k : held.SelectedSubgoal) → Selects s k → k .subgoal-index ≡ next-subgoal-index (clause s)
@@ -232,3 +239,58 @@ module _ (time : TimeStamp) (clock-at : ℕ → TimeStamp) (s : Strand) (o : Sou
       ∙ cycle-view a (last-literal s)
       ∙ ap (λ (i : ℕ). delaying i (literal-at (clause s) i)) (sym (index-is s k c))
       ∙ delaying-is (literal-at (clause s) (k .subgoal-index))
+
+-- `on_subgoal_selected`, by what the look means.
+
+module _ (time : TimeStamp) (clock-at : ℕ → TimeStamp) (s : Strand) (o : Sound s) (k : held.SelectedSubgoal) (c : Selects s k)
+    (a : Answer) (p : SoundAnswer a) (live : ℕ) (f : Forest) (e : StackEntry) (es : Stack) where
+  abbrev cycle-at : (depth : ℕ) → (coinductive : Bool) → Stops split.Deed
+  cycle-at depth all = elim all [
+    | true ↦ decide-coinductive (seen time s) k (literal-at (clause s) (k .subgoal-index))
+    | false ↦ go (split.cycles (seen time s) (literal-at (clause s) (k .subgoal-index))
+        (record { positive = or 0 (getElem? (map (λ e. e .clock) (e ∷ es)) depth); negative = MAX }))
+  ]
+
+  abbrev no-answer-by : Option ℕ → Stops split.Deed
+  no-answer-by on-stack = elim on-stack [
+    | some depth ↦ cycle-at depth (all-coinductive f (top-of-stack-from depth (e ∷ es)))
+    | none ↦ stop-if (leb (f .clock-limit) (f .clock)) 21 >> go (split.pushes (seen time s) (k .subgoal-table))
+  ]
+
+  abbrev awaiting-by : Option said.Answer → Stops split.Deed
+  awaiting-by found = elim found [
+    | some b ↦ decide-merge live (seen time s) k b (table-of f (e .table))
+    | none ↦ no-answer-by (is-active (k .subgoal-table) (e ∷ es))
+  ]
+
+  push-means : (late : Bool) (table : ℕ)
+      → meaning time clock-at (push-table late table s a) ≡ (stop-if late 21 >> go (split.pushes (seen time s) table))
+  push-means true table = refl
+  push-means false table = refl
+
+  module _ (complete late : Bool) (complete-is : is-complete (table-of f (e .table) .answer-mode) ≡ complete)
+      (late-is : leb (f .clock-limit) (f .clock) ≡ late) where
+    awaiting-means : (look : Look) → LookMeans clock-at f (e ∷ es) k a look
+        → meaning time clock-at (selected-deed look s a complete live late)
+        ≡ decide-awaiting live f e es (seen time s) k (table-of f (k .subgoal-table))
+    awaiting-means (looks.Answer place) (holds-answer q) =
+        merge-answer-means time clock-at s o k c a p live complete (table-of f (e .table)) complete-is ∙ sym (ap awaiting-by q)
+    awaiting-means looks.Coinductive (all-are-coinductive depth q r w) =
+        coinductive-means time clock-at s o k c a ∙ sym (ap awaiting-by q ∙ ap no-answer-by r ∙ ap (cycle-at depth) w)
+    awaiting-means (looks.Cycle height) (is-on-stack depth q r w clock) =
+        ap₂ (λ (i : ℕ) (t : TimeStamp). go (split.cycles (seen time s) (literal-at (clause s) i) (record { positive = t; negative = MAX })))
+        (sym (index-is s k c)) clock
+        ∙ sym (ap awaiting-by q ∙ ap no-answer-by r ∙ ap (cycle-at depth) w)
+    awaiting-means (looks.Push table) (is-to-push q r table-is) =
+        push-means late table
+        ∙ ap₂ (λ (b : Bool) (t : ℕ). stop-if b 21 >> go (split.pushes (seen time s) t)) (sym late-is) table-is
+        ∙ sym (ap awaiting-by q ∙ ap no-answer-by r)
+
+    pub selected-means : (look : Look) → LookMeans clock-at f (e ∷ es) k a look
+        → meaning time clock-at (selected-deed look s a complete live late) ≡ decide-selected live f e es (seen time s)
+    selected-means look h =
+        awaiting-means look h
+        ∙ ap
+        (λ (j : Option held.SelectedSubgoal). decide-awaiting live f e es (seen time s) (or no-selected j)
+        (table-of f (or no-selected j .subgoal-table)))
+        (sym (c .selects))
