@@ -2,6 +2,7 @@
 use Prim.Native.Nat.{ℕ}
 use mathlib.Core.Bool.{Bool, true, false}
 use mathlib.Core.Option.{Option, none, some}
+use mathlib.Core.Path.{_≡_}
 use Rattle.definitions.specs.{TimeStamp, MAX}
 use Rattle.definitions.specs.Book as books
 use Rattle.definitions.specs.Stop.{Stops, stop, go}
@@ -10,8 +11,10 @@ use Rattle.definitions.specs.Slg.{next-subgoal-index}
 use Rattle.split.specs.Acts as split
 use Rattle.split.specs.Decide.{literal-at}
 use Rattle.strands.specs.declared.Answer.{Answer}
+use Rattle.strands.specs.declared.Selected.the-variants.{Nothing}
 use Rattle.strands.specs.declared.Strand.{Strand}
-use Rattle.strands.specs.View.{clause, selected, answer}
+use Rattle.strands.specs.Fields.{with-selected, next-of}
+use Rattle.strands.specs.View.{Sound, SoundAnswer, clause, selected, answer}
 use Rattle.control.specs.declared.decision.Deed.{Deed}
 use Rattle.control.specs.declared.decision.Deed.the-variants.{Stop, GoesOn, GivesUp, Cycles, Pushes, Requeues, Flounders, Answers}
 use Rattle.control.specs.declared.decision.Decision.{Decision}
@@ -46,3 +49,37 @@ module _ (time : TimeStamp) (clock-at : ℕ → TimeStamp) where
 
   abbrev pub meaning : Decision → Stops split.Deed
   meaning d = meaning-by (d .deed) (copy-by (d .copies) (seen time (d .copy))) (d .strand) (d .answer)
+
+-- What a decision carries is sound.
+pub record SoundDecision (d : Decision) : Type 0 where
+  pub strand : Sound (d .strand)
+  pub copy : Sound (d .copy)
+  pub answer : SoundAnswer (d .answer)
+
+-- What a deed leaves of the strand s: one that goes on has nothing selected, and any other is as it came.
+abbrev pub Left : Deed → (s t : Strand) → Type 0
+Left (Stop n) s t = t ≡ s
+Left GoesOn s t = t .selected ≡ Nothing
+Left GivesUp s t = t ≡ s
+Left (Cycles height) s t = t ≡ s
+Left (Pushes table) s t = t ≡ s
+Left Requeues s t = t ≡ s
+Left Flounders s t = t ≡ s
+Left (Answers empties) s t = t ≡ s
+
+-- The answer that a deed carries: x where it is stored, and any other deed carries the one that it came with.
+abbrev pub carried : Deed → (was x : Answer) → Answer
+carried (Answers empties) was x = x
+carried (Stop n) was x = was
+carried GoesOn was x = was
+carried GivesUp was x = was
+carried (Cycles height) was x = was
+carried (Pushes table) was x = was
+carried Requeues was x = was
+carried Flounders was x = was
+
+-- what a decision about s leaves, so that the numbers beside it can be told
+pub record Leaves (s : Strand) (was x : Answer) (d : Decision) : Type 0 where
+  pub strand : Left (d .deed) s (d .strand)
+  pub copy : d .copies ≡ true → d .copy ≡ with-selected s (next-of (s .selected))
+  pub answer : d .answer ≡ carried (d .deed) was x

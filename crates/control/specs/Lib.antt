@@ -1,2 +1,4 @@
 pub mod Decision
 pub mod SelectSubgoal
+pub mod OnSubgoalSelected
+pub mod OnNoRemainingSubgoals

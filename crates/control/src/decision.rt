@@ -2,7 +2,7 @@
 use strands::Answer;
 use strands::Strand;
 ghost use mathlib.Core.Path.{_≡_};
-ghost use mathlib.Core.Bool.{false};
+ghost use mathlib.Core.Bool.{false, _&&_};
 ghost use Rattle.control.specs.Decision.{decided};
 
 // The acts of logic.rs with a strand (crate `split`, `Deed`). A cycle names the entry's height, a push its table; an answer says whether
@@ -38,4 +38,11 @@ pub fn decide_on(deed: Deed, s: Strand, a: Answer) -> Decision
         copy: s,
         answer: a,
     }
+}
+
+// A table that wants complete answers has no use for an ambiguous answer or strand yet.
+pub fn unwanted(complete: bool, ambiguous: bool) -> bool
+    ensures { λ r. ⌜ r ≡ complete && ambiguous ⌝ }
+{
+    if complete { ambiguous } else { false }
 }
