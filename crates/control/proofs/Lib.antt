@@ -9,3 +9,4 @@ pub mod OnSubgoalSelected
 pub mod OnSubgoalSelectedLeaves
 pub mod OnNoRemainingSubgoalsCases
 pub mod OnNoRemainingSubgoals
+pub mod ClearStrandsAfterCycleCases

@@ -4,3 +4,4 @@ pub mod decision; // decision.rt: what a turn with a strand is decided to do
 pub mod select_subgoal; // select_subgoal.rt: which literal the strand goes on with
 pub mod on_subgoal_selected; // on_subgoal_selected.rt: a strand that has selected a literal, by what that literal's table holds for it
 pub mod on_no_remaining_subgoals; // on_no_remaining_subgoals.rt: a strand with no literal left gives its answer
+pub mod clear_strands_after_cycle; // clear_strands_after_cycle.rt: the queues of a cycle, taken
