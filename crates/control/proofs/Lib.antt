@@ -1,9 +1,8 @@
--- For each file of src/ the facts over variables that its functions' proofs cite (Cases), and what its models mean and keep.
-pub mod SelectCases
 -- Decisions with no copy; strands as they are seen; for each file of src/ the ways out of its functions over variables (Cases), what its
 -- models mean, and what they keep and leave (Leaves).
 pub mod Decisions
 pub mod Seen
+pub mod SelectCases
 pub mod OnSubgoalSelectedCases
 pub mod OnSubgoalSelected
 pub mod OnSubgoalSelectedLeaves
