@@ -8,11 +8,12 @@ use lib.ListN.{getD, set, length-set}
 use lib.Seq.{getD-set-same}
 use Rattle.definitions.specs.Book as said
 use Rattle.definitions.specs.Book.{Clause, Goal, goals-name, add-clause, with-clauses, bit0, bit1}
+use Rattle.definitions.proofs.Book.{add-clause-last}
 use Rattle.book.specs.declared.Book.{Book}
 use Rattle.book.specs.View.{span, literal-viewed, clause-made, clause-viewed, goal-made, goal-viewed, view, Tiles, Full}
 use Rattle.book.proofs.Spans.{span-snoc, span-ext}
 use Rattle.book.proofs.Names.{names-clause}
-use Rattle.book.proofs.Tilings.{add-clause-last, tiles-within, tiles-last}
+use Rattle.book.proofs.Tilings.{tiles-within, tiles-last}
 use Rattle.book.proofs.Held.{below, stored, tiles-clause, Held}
 
 abbrev pub with-clause : Book → (g variant flags : ℕ) → Book

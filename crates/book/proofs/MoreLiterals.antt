@@ -10,11 +10,12 @@ use lib.Seq.{getD-set-same}
 use lib.Dec.{ltb, leb}
 use Rattle.definitions.specs.Book as said
 use Rattle.definitions.specs.Book.{goals-name, clause-count, add-literal, goal-of, with-literals, bit0, bit1}
+use Rattle.laws.proofs.Bools.{and-then}
 use Rattle.book.specs.declared.Book.{Book}
 use Rattle.book.specs.View.{span, signed, literal-viewed, clause-made, clause-viewed, view, Tiles, Full}
 use Rattle.book.specs.Faults.{largest}
 use Rattle.book.proofs.Spans.{span-snoc, span-ext}
-use Rattle.book.proofs.Names.{and-then, names-literal, names-more}
+use Rattle.book.proofs.Names.{names-literal, names-more}
 use Rattle.book.proofs.Tilings.{tiles-add}
 use Rattle.book.proofs.Held.{below, stored, Held, held-count}
 

@@ -6,40 +6,10 @@ use mathlib.Core.Bool.{Bool, true, false}
 use mathlib.Core.List.{List, [], _∷_, _++_}
 use lib.ListN.{length, getD}
 use lib.Dec.{eqb}
-use borrow.Author.Tests.{eq-eqb, eqb-true, eqb-false}
-use Rattle.definitions.specs.Book.{
-  Literal,
-  Clause,
-  Goal,
-  Book,
-  clause-count,
-  add-clause,
-  add-to-last,
-  add-literal,
-  with-clauses,
-  with-literals,
-  last-literals,
-  literals-so-far,
-}
+use borrow.Author.Tests.{eqb-true, eqb-false}
+use Rattle.definitions.specs.Book.{Literal, Clause, Goal, Book, clause-count, add-to-last, add-literal, with-clauses, with-literals, last-literals, literals-so-far}
 use Rattle.book.specs.View.{span, goal-in, Tiles}
 use Rattle.book.proofs.Spans.{span-length, span-ext}
-
--- a clause is added to the last goal
-pub add-clause-last : (c : Clause) (gs : Book) (g : Goal) → add-clause c (gs ++ (g ∷ [])) ≡ gs ++ (with-clauses g (g .clauses ++ (c ∷ [])) ∷ [])
-add-clause-last c [] g = refl
-add-clause-last c (x ∷ []) g = refl
-add-clause-last c (x ∷ y ∷ gs) g = ap (λ (l : Book). x ∷ l) (add-clause-last c (y ∷ gs) g)
-
--- where there is no clause there is no literal
-pub literals-none : (book : Book) → clause-count book ≡ 0 → literals-so-far book ≡ 0
-literals-none [] e = refl
-literals-none (g ∷ gs) e =
-    ap (λ (t : Bool). elim t [ true ↦ last-literals (g .clauses) | false ↦ literals-so-far gs ]) (eq-eqb (clause-count gs) 0 (omega arith))
-    ∙ empty (g .clauses) (omega arith)
-  where
-    empty : (cs : List Clause) → length cs ≡ 0 → last-literals cs ≡ 0
-    empty [] x = refl
-    empty (c ∷ cs) x = absurd (omega arith)
 
 module _ (f : ℕ → Clause) where
   last-literals-span : (s k : ℕ) → last-literals (span f s (suc k)) ≡ length (f (s + k) .literals)

@@ -11,11 +11,12 @@ use borrow.Author.Tests.{ltb-false}
 use Rattle.definitions.specs.Refusal.{Refusable, refused, accepted, Test, _refuses_, unless}
 use Rattle.definitions.specs.Book as said
 use Rattle.definitions.specs.Book.{Command, goal, clause, positive, negative, end, unknown, command, width, byte, u16, bit0, Positive, Negative, add-clause, add-literal, clause-count, literals-so-far, apply-command, whole-command, is-end, read-from}
+use Rattle.definitions.proofs.Book.{literals-none}
 use Rattle.book.specs.declared.Book.{Book}
 use Rattle.book.specs.View.{clause-viewed, literal-viewed, goal-viewed, view, Tiles}
 use Rattle.book.specs.Faults.{fault, Counts, counts, command-tests, whole-tests, next-fault, end-tests, literal-tests, goal-tests, clause-tests}
 use Rattle.book.proofs.Spans.{span-length}
-use Rattle.book.proofs.Tilings.{literals-none, tiles-literals}
+use Rattle.book.proofs.Tilings.{tiles-literals}
 use Rattle.book.proofs.Held.{Held, held-count}
 use Rattle.book.proofs.MoreGoals.{bare-goal}
 use Rattle.book.proofs.MoreClauses.{bare-clause}

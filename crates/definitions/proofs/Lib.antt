@@ -1,3 +1,5 @@
+pub mod Refusal
+pub mod Book
 pub mod RoundTrip
 pub mod Written
 pub mod Prefix

@@ -12,7 +12,7 @@ use Rattle.definitions.specs.Book.{Book, Goal, Clause, Literal, Positive, Negat
 use Rattle.definitions.specs.Book.{end, unknown, command, width, is-end, with-clauses, add-clause, add-to-last, add-literal, last-literals}
 use Rattle.definitions.specs.Book.{literals-so-far, goals-name, whole-command, read-from, apply-command, literal-command, byte, u16, bit0}
 use Rattle.definitions.specs.Book.{bit1}
-use Rattle.promises.proofs.Reading.{same-accepted, not-accepted, all-pass}
+use Rattle.definitions.proofs.Refusal.{same-accepted, not-accepted, all-pass}
 use Rattle.promises.proofs.Asserts.Lists.{All, more, all-first, all-rest, all-push}
 use Rattle.promises.proofs.Asserts.Lists as Lists
 
