@@ -8,7 +8,6 @@ use lib.Dec.{ltb}
 use borrow.Author.Tests.{ltb-true}
 use Rattle.definitions.specs.Book as said
 use Rattle.definitions.specs.Book.{
-use Rattle.laws.proofs.Bools.{both-true}
   bit0,
   bit1,
   goal-of,
@@ -21,6 +20,7 @@ use Rattle.laws.proofs.Bools.{both-true}
   GoalsWithin,
   Within,
 }
+use Rattle.laws.proofs.Bools.{both-true}
 use Rattle.book.specs.declared.Book.{Book}
 use Rattle.book.specs.View.{span, signed, literal-viewed, clause-viewed, goal-viewed, view, Sound}
 use Rattle.book.proofs.Spans.{span-length}

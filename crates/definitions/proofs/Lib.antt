@@ -1,3 +1,4 @@
+pub mod Lists
 pub mod Refusal
 pub mod Book
 pub mod RoundTrip

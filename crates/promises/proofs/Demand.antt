@@ -126,7 +126,7 @@ from-start : (book : Book) (limit : ℕ) (level : ℕ → ℕ) → limit ≤ MAX
     → AllSay (In book level) limit false (calls (forest-of book limit 0 [] 0) cs)
     × (exceeded (calls (forest-of book limit 0 [] 0) cs) ≤ length book + clause-count book)
 from-start book limit level room good plain levelled cs =
-    let sum = clauses-total book in
+    let sums = clauses-total book in
     let G : Premises = record {
       book = book;
       sound = good-sound book good plain;

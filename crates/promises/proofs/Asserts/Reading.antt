@@ -16,7 +16,7 @@ use Rattle.definitions.proofs.Refusal.{not-accepted, all-pass}
 use Rattle.laws.proofs.Options.{no-such}
 use Rattle.promises.proofs.Reading.{read-good}
 use Rattle.laws.proofs.Bools.{both-true, both-false}
-use Rattle.promises.proofs.Asserts.Lists.{All, end, more, all-first, all-rest}
+use Rattle.laws.proofs.All.{All, end, more, all-first, all-rest}
 use Rattle.promises.proofs.Asserts.Few.{Few, FewLiterals, read-few}
 use Rattle.promises.proofs.Asserts.Sound.{Named, SoundBook, SoundForest}
 
