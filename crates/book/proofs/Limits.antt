@@ -21,9 +21,10 @@ use Rattle.definitions.specs.Book.{
   Within,
 }
 use Rattle.laws.proofs.Bools.{both-true}
+use Rattle.laws.proofs.Spans.{length-span}
+use Rattle.laws.specs.Spans.{span}
 use Rattle.book.specs.declared.Book.{Book}
-use Rattle.book.specs.View.{span, signed, literal-viewed, clause-viewed, goal-viewed, view, Sound}
-use Rattle.book.proofs.Spans.{span-length}
+use Rattle.book.specs.View.{signed, literal-viewed, clause-viewed, goal-viewed, view, Sound}
 use Rattle.book.proofs.Looks.{goals-are, clauses-are}
 
 signed-within : (n : ℕ) (t : Bool) (goal want : ℕ) (o : Bool) → want < 65536 → goal-of (signed t goal want o) < n → LiteralWithin n (signed t goal want o)
@@ -47,7 +48,7 @@ module _ (b : Book) (s : Sound b) (n : ℕ) where
       let rest = clauses-name n (span (clause-viewed b) (suc c) k) in (
         record {
           variant-fits = s .ranged .variants c;
-          few-literals = subst (λ (m : ℕ). m ≤ 8) (sym (span-length (literal-viewed b) (8 * c) (getD (b .«clause_len») c 0))) (s .few-literals c);
+          few-literals = subst (λ (m : ℕ). m ≤ 8) (sym (length-span (literal-viewed b) (8 * c) (getD (b .«clause_len») c 0))) (s .few-literals c);
           literals-fit = literals-within (8 * c) (getD (b .«clause_len») c 0) (both-true first rest e .0);
         },
         clauses-within (suc c) k (both-true first rest e .1),

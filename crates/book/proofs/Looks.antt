@@ -10,11 +10,12 @@ use borrow.Author.Tests.{lt-ltb, ltb-true, ltb-false}
 use Rattle.definitions.specs.Book as said
 use Rattle.definitions.specs.Book.{Clause, Goal, goal-of, literals-name, clauses-name, goals-name, bit0, bit1, clause-count}
 use Rattle.laws.proofs.Bools.{both-true}
+use Rattle.laws.proofs.Spans.{length-span, getD-span}
+use Rattle.laws.specs.Spans.{span}
 use Rattle.book.specs.declared.Book.{Book}
 use Rattle.book.specs.declared.Literal.{Literal}
-use Rattle.book.specs.View.{span, kept, meant, literal-viewed, clause-viewed, goal-in, goal-viewed, view, Tiles, Sound}
+use Rattle.book.specs.View.{kept, meant, literal-viewed, clause-viewed, goal-in, goal-viewed, view, Tiles, Sound}
 use Rattle.book.specs.Access.{entry, entry-by, literal-there, literal-read, literal-by}
-use Rattle.book.proofs.Spans.{span-length, span-getD}
 use Rattle.book.proofs.MoreLiterals.{goal-of-signed}
 use Rattle.book.proofs.Tilings.{tiles-count, tiles-within}
 
@@ -72,7 +73,7 @@ module _ (n : ℕ) where
 
 module _ (b : Book) (s : Sound b) where
   pub goals-are : length (view b) ≡ b .goals
-  goals-are = span-length (goal-viewed b) 0 (b .goals)
+  goals-are = length-span (goal-viewed b) 0 (b .goals)
 
   pub clauses-are : clause-count (view b) ≡ b .clauses
   clauses-are =
@@ -82,7 +83,7 @@ module _ (b : Book) (s : Sound b) where
     pub goal-is : getD (view b) g d ≡ goal-viewed b g
     goal-is =
         let z : 0 + g ≡ g = omega arith in
-        span-getD (goal-viewed b) 0 (b .goals) g d h ∙ ap (goal-viewed b) z
+        getD-span (goal-viewed b) 0 (b .goals) g d h ∙ ap (goal-viewed b) z
 
     pub coinductive-is : bit0 (entry 64 (b .«goal_flags») g) ≡ getD (view b) g d .coinductive
     coinductive-is =
@@ -98,7 +99,7 @@ module _ (b : Book) (s : Sound b) where
     pub clauses-of-are : entry 64 (b .«goal_len») g ≡ length (getD (view b) g d .clauses)
     clauses-of-are =
         entry-in 64 (b .«goal_len») g (omega (arith, s .few-goals))
-        ∙ sym (ap (λ (x : Goal). length (x .clauses)) goal-is ∙ span-length (clause-viewed b) (getD (b .«goal_first») g 0) (getD (b .«goal_len») g 0))
+        ∙ sym (ap (λ (x : Goal). length (x .clauses)) goal-is ∙ length-span (clause-viewed b) (getD (b .«goal_first») g 0) (getD (b .«goal_len») g 0))
 
     -- a goal's clauses are among the book's
     pub clauses-within : getD (b .«goal_first») g 0 + getD (b .«goal_len») g 0 ≤ b .clauses
@@ -111,7 +112,7 @@ module _ (b : Book) (s : Sound b) where
     pub clause-is : (i : ℕ) (e : Clause) → i < getD (b .«goal_len») g 0 → getD (getD (view b) g d .clauses) i e ≡ clause-viewed b (getD (b .«goal_first») g 0 + i)
     clause-is i e l =
         ap (λ (x : Goal). getD (x .clauses) i e) goal-is
-        ∙ span-getD (clause-viewed b) (getD (b .«goal_first») g 0) (getD (b .«goal_len») g 0) i e l
+        ∙ getD-span (clause-viewed b) (getD (b .«goal_first») g 0) (getD (b .«goal_len») g 0) i e l
 
   module _ (c : ℕ) (h : c < b .clauses) where
     pub variant-is : entry 256 (b .«clause_variant») c ≡ clause-viewed b c .variant
@@ -125,7 +126,7 @@ module _ (b : Book) (s : Sound b) where
 
     pub literals-are : entry 256 (b .«clause_len») c ≡ length (clause-viewed b c .literals)
     literals-are =
-        entry-in 256 (b .«clause_len») c (omega (arith, s .few-clauses)) ∙ sym (span-length (literal-viewed b) (8 * c) (getD (b .«clause_len») c 0))
+        entry-in 256 (b .«clause_len») c (omega (arith, s .few-clauses)) ∙ sym (length-span (literal-viewed b) (8 * c) (getD (b .«clause_len») c 0))
 
     module _ (j : ℕ) (l : j < getD (b .«clause_len») c 0) where
       goal-named : getD (b .«literal_goal») (8 * c + j) 0 < b .goals
@@ -147,7 +148,7 @@ module _ (b : Book) (s : Sound b) where
       literal-is d =
           ap meant here
           ∙ ap (λ (n : ℕ). kept (getD (b .«literal_kind») (8 * c + j) 0) n (getD (b .«literal_want») (8 * c + j) 0)) goal-fits
-          ∙ sym (span-getD (literal-viewed b) (8 * c) (getD (b .«clause_len») c 0) j d l)
+          ∙ sym (getD-span (literal-viewed b) (8 * c) (getD (b .«clause_len») c 0) j d l)
 
       -- a literal names a goal of the book
       pub literal-names : literal-read (b .«literal_kind») (b .«literal_goal») (b .«literal_want») c j .goal < b .goals

@@ -8,8 +8,9 @@ use lib.ListN.{length, getD}
 use lib.Dec.{eqb}
 use borrow.Author.Tests.{eqb-true, eqb-false}
 use Rattle.definitions.specs.Book.{Literal, Clause, Goal, Book, clause-count, add-to-last, add-literal, with-clauses, with-literals, last-literals, literals-so-far}
-use Rattle.book.specs.View.{span, goal-in, Tiles}
-use Rattle.book.proofs.Spans.{span-length, span-ext}
+use Rattle.laws.proofs.Spans.{length-span, span-ext}
+use Rattle.laws.specs.Spans.{span}
+use Rattle.book.specs.View.{goal-in, Tiles}
 
 module _ (f : ℕ → Clause) where
   last-literals-span : (s k : ℕ) → last-literals (span f s (suc k)) ≡ length (f (s + k) .literals)
@@ -30,7 +31,7 @@ module _ (f : ℕ → Clause) (flags first len : List ℕ) where
   pub tiles-count : (n g at end : ℕ) → Tiles first len g n at end → at + clause-count (span (goal-in f flags first len) g n) ≡ end
   tiles-count zero g at end t = omega arith
   tiles-count (suc n) g at end t =
-      let a : length (span f (getD first g 0) (getD len g 0)) ≡ getD len g 0 = span-length f (getD first g 0) (getD len g 0) in
+      let a : length (span f (getD first g 0) (getD len g 0)) ≡ getD len g 0 = length-span f (getD first g 0) (getD len g 0) in
       let r : (at + getD len g 0) + clause-count (span (goal-in f flags first len) (suc g) n) ≡ end = tiles-count n (suc g) (at + getD len g 0) end (t .1) in
       omega arith
 
@@ -107,7 +108,7 @@ module _ (f h : ℕ → Clause) (l : Literal) (e : ℕ) (more : with-literals (f
     no-clauses : (n g : ℕ) → clause-count (span (goal-in f flags first len) g n) ≡ 0 → span (goal-in f flags first len) g n ≡ span (goal-in h flags first len) g n
     no-clauses zero g q = refl
     no-clauses (suc n) g q =
-        let a : length (span f (getD first g 0) (getD len g 0)) ≡ getD len g 0 = span-length f (getD first g 0) (getD len g 0) in
+        let a : length (span f (getD first g 0) (getD len g 0)) ≡ getD len g 0 = length-span f (getD first g 0) (getD len g 0) in
         ap (λ (cs : List Clause). with-clauses (goal-in f flags first len g) cs ∷ span (goal-in f flags first len) (suc g) n)
         (span-ext f h (getD first g 0) (getD len g 0) (λ i x y. absurd (omega arith)))
         ∙ ap (λ (gs : Book). goal-in h flags first len g ∷ gs) (no-clauses n (suc g) (omega arith))

@@ -93,8 +93,8 @@ module _ {A : Type 0} where
   every-set P (x ∷ l) (suc i) a d h k zero = k zero
   every-set P (x ∷ l) (suc i) a d h k (suc c) = every-set P l i a d h (λ e. k (suc e)) c
 
-  -- a list of defaults, at any place and past its end
-  pub getD-defaults : (n i : ℕ) (d : A) → getD (replicate n d) i d ≡ d
-  getD-defaults zero i d = refl
-  getD-defaults (suc n) zero d = refl
-  getD-defaults (suc n) (suc i) d = getD-defaults n i d
+-- a list of zeros, at any place and past its end
+pub getD-zeros : (n i : ℕ) → _≡_ {A = ℕ} (getD (replicate n 0) i 0) 0
+getD-zeros zero i = refl
+getD-zeros (suc n) zero = refl
+getD-zeros (suc n) (suc i) = getD-zeros n i
