@@ -26,11 +26,6 @@ abbrev pub add-if : Bool → ℕ → ℕ
 add-if true n = n + 1
 add-if false n = n
 
--- a place, or 256 for none
-abbrev pub place-if : Bool → ℕ → ℕ
-place-if true p = p
-place-if false p = 256
-
 -- a number, or 0
 abbrev pub number-if : Bool → ℕ → ℕ
 number-if true n = n

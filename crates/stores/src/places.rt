@@ -1,9 +1,13 @@
-// Places of a store: a free one is found here; the rings' own operations are in the crate `rings`.
+// Places of a store: a free one is found here, and one by the numbers that stand beside it; the rings' own operations are in the crate
+// `rings`.
 use rings::ring_pop;
 ghost use mathlib.Core.Path.{_≡_};
-ghost use Prim.Native.Nat.{_-_};
-ghost use lib.ListN.{getD};
-ghost use Rattle.stores.specs.Places.{TookPlace, blank-places};
+ghost use mathlib.Core.Bool.{_&&_};
+ghost use Prim.Native.Nat.{_-_, _<_};
+ghost use lib.ListN.{drop, getD};
+ghost use lib.Dec.{eqb};
+ghost use Rattle.rings.specs.Rings.{ring-of};
+ghost use Rattle.stores.specs.Places.{TookPlace, numbered-by, numbered, found-in, blank-places};
 
 // Rings of the places of a store: ring t is that of table t, ring 64 that of the places that were used and are free again. The places
 // from `top` on were never used.
@@ -52,4 +56,65 @@ pub fn in_use(len: &[u16; 256], top: u16) -> u16
 {
     let free = len[64];
     if free < top { top - free } else { 0 }
+}
+
+fn wide(x: u8) -> usize
+    ensures { λ r. ⌜ (r ≡ x) × (r < 256) ⌝ }
+{
+    x as usize
+}
+
+fn less(n: usize) -> usize
+    ensures { λ r. ⌜ r ≡ n - 1 ⌝ }
+{
+    if n > 0 { n - 1 } else { 0 }
+}
+
+// Whether the numbers beside a place are those looked for, once none is to be passed over.
+fn hit(skip: usize, by_key: bool, variant: u16, v: u16, key: u64, k: u64) -> bool
+    ensures { λ r. ⌜ r ≡ eqb skip 0 && numbered-by «by_key» variant v key k ⌝ }
+{
+    if skip > 0 {
+        return false;
+    }
+    if variant != v {
+        return false;
+    }
+    if by_key {
+        return key == k;
+    }
+    true
+}
+
+// The first place of the table's ring, from an index on, whose variant is v and, where keys are looked for, whose key is k; 256 where
+// there is none.
+pub fn find_number(
+    next: &[u8; 256],
+    tail: &[u8; 256],
+    len: &[u16; 256],
+    t: u8,
+    from: usize,
+    variant: &[u16; 256],
+    v: u16,
+    key: &[u64; 256],
+    k: u64,
+    by_key: bool,
+) -> usize
+    ensures { λ r. ⌜ r ≡ found-in (numbered «by_key» (now (variant .entry)) v (now (key .entry)) k)
+        (drop from (ring-of (now (next .entry)) (now (tail .entry)) (now (len .entry)) t)) ⌝ }
+{
+    let mut prev = tail[t as usize];
+    let mut left = len[t as usize];
+    let mut skip = from;
+    while left > 0 {
+        let p = next[wide(prev)];
+        let q = wide(p);
+        if hit(skip, by_key, variant[q], v, key[q], k) {
+            return q;
+        }
+        skip = less(skip);
+        prev = p;
+        left = left - 1;
+    }
+    256
 }

@@ -12,8 +12,11 @@ ring-pop-requires c κs = search needs
 
 returns : tie.Need-returns
 returns c =
-    let a = c .before .before .before .before .before .args in
-    took-free (a .next .now) (a .tail .now) (a .len .now) (a .top .now) (search needs) (c .ring-pop .last .0) (c .ring-pop .last .1 .1 .0) (c .ring-pop .result) (c .ring-pop .ensures)
+    let p = c .ring-pop in
+    let test = c .before .before in
+    let a = test .before .before .before .args in
+    took-free (a .next .now) (a .tail .now) (a .len .now) (a .top .now) (search needs) (p .last .0) (p .last .1 .1 .0) (p .result)
+    (p .ensures .0) (p .ensures .1) (p .ensures .2)
 
 add-top : tie.Need-add-top
 add-top c = search needs

@@ -1,11 +1,11 @@
 -- `may_take` is the test of `eligible-at`.
-use mathlib.Core.Path.{_≡_, refl, sym}
+use mathlib.Core.Path.{sym}
 use borrow.Author.Tests.{lt-ltb, le-ltb}
 use Rattle.rings.proofs.Laws.{not-not}
-use Rattle.rings.proofs.may_take.Statement.{statement}
-use Rattle.rings.proofs.may_take.Tie as tie
-use Rattle.rings.proofs.may_take.Reads as reads
-use Rattle.rings.proofs.may_take.Lts as lts
+use Rattle.stores.proofs.queue.may_take.Statement.{statement}
+use Rattle.stores.proofs.queue.may_take.Tie as tie
+use Rattle.stores.proofs.queue.may_take.Reads as reads
+use Rattle.stores.proofs.queue.may_take.Lts as lts
 
 -- src/lib.rt:29:9
 returns : tie.Need-returns
