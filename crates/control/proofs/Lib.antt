@@ -2,3 +2,4 @@
 pub mod SelectCases
 pub mod SelectTables
 pub mod SelectStrands
+pub mod SelectSubgoal
