@@ -9,3 +9,6 @@ pub mod OnSubgoalSelectedLeaves
 pub mod OnNoRemainingSubgoalsCases
 pub mod OnNoRemainingSubgoals
 pub mod ClearStrandsAfterCycleCases
+pub mod SelectTables
+pub mod SelectStrands
+pub mod SelectSubgoal

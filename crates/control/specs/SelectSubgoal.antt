@@ -1,13 +1,22 @@
--- What each function of select_subgoal.rt leaves, in the order of the code, by clauses on its tests' answers.
-use Prim.Native.Nat.{ℕ, zero, suc, _+_, _*_, _-_, min}
+-- What each function of select_subgoal.rt leaves, in the order of the code, by clauses on its tests' answers; then what a choice means,
+-- and what the lent numbers mean.
+use Prim.Native.Nat.{ℕ, zero, suc, _+_, _*_, _-_, _≤_, min}
 use mathlib.Core.Bool.{Bool, true, false}
-use mathlib.Core.List.{List}
+use mathlib.Core.List.{List, [], _∷_}
+use mathlib.Core.Option.{some}
+use mathlib.Core.Path.{_≡_}
 use lib.Dec.{eqb, leb, ltb}
-use lib.ListN.{getD, set, replicate}
-use Rattle.definitions.specs.Book.{bit1, goal-of}
+use lib.ListN.{length, getD, getElem?, set, replicate}
+use Rattle.definitions.specs.{TimeStamp}
+use Rattle.definitions.specs.Book.{Goal, bit1, goal-of}
 use Rattle.definitions.specs.Fitting.{gets-table}
 use Rattle.definitions.specs.Lists.{is-empty}
+use Rattle.definitions.specs.Logic as logic
 use Rattle.definitions.specs.Slg.{next-subgoal-index}
+use Rattle.definitions.specs.Stop.{Stops, stop, go}
+use Rattle.definitions.specs.Table.{Table}
+use Rattle.definitions.specs.Tables.{Forest}
+use Rattle.split.specs.Decide.{View, Picked, picking}
 use Rattle.book.specs.Access.{entry}
 use Rattle.book.specs.View.{meant}
 use Rattle.book.specs.declared.Literal.{Literal}
@@ -20,7 +29,8 @@ use Rattle.strands.specs.Fields.{no-literal, with-selected, with-ambiguous}
 use Rattle.strands.specs.Floundering.{flounder, reconsider}
 use Rattle.strands.specs.Literals.{subgoal-at}
 use Rattle.strands.specs.View.{clause, is-negative}
-use Rattle.stores.specs.Numbers.{within, first-at, flag-at}
+use Rattle.stores.specs.Numbers.{within, first-at, flag, flag-at}
+use Rattle.control.specs.Decision.{seen}
 use Rattle.control.specs.declared.select_subgoal.Made.{Made}
 use Rattle.control.specs.declared.select_subgoal.Selection.the-variants as selection
 use Rattle.control.specs.declared.select_subgoal.Selection.{Selection}
@@ -171,3 +181,40 @@ module _ (goal floundered : List ℕ) (count : ℕ) (goal-flags goal-len : List 
 
   abbrev pub select-subgoal : (live : ℕ) → Strand → Choice
   select-subgoal live s = select-from (passes-for s) (begun live s)
+
+-- WHAT A CHOICE MEANS.
+
+-- the first n goals noted, the last one first
+abbrev pub noted-down : (n : ℕ) → List ℕ → List ℕ
+noted-down zero l = []
+noted-down (suc n) l = getD l n 0 ∷ noted-down n l
+
+abbrev pub noted-goals : Made → List ℕ
+noted-goals m = noted-down (m .count) (m .goals)
+
+abbrev pub noted-view : Choice → View
+noted-view c = record { live = c .live; made = noted-goals (c .made) }
+
+-- of a strand that is pursued at this time
+module _ (time : TimeStamp) where
+  abbrev pub picks : logic.SubGoalSelection → Choice → Stops Picked
+  picks k c = go (picking k (seen time (c .strand)) (noted-view c))
+
+  abbrev pub choice-means-by : Selection → Choice → Stops Picked
+  choice-means-by selection.Again c = picks logic.NotSelected c
+  choice-means-by selection.Selected c = picks logic.Selected c
+  choice-means-by selection.NotSelected c = picks logic.NotSelected c
+  choice-means-by (selection.Stop n) c = stop n
+
+  abbrev pub choice-means : Choice → Stops Picked
+  choice-means c = choice-means-by (c .selection) c
+
+-- WHAT THE LENT NUMBERS MEAN: the forest's tables by number, and the goals of its book.
+pub record TablesMean (goal floundered : List ℕ) (count : ℕ) (goal-flags goal-len : List ℕ) (f : Forest) : Type 0 where
+  pub counted : length (f .tables) ≡ count
+  pub few : count ≤ 64
+  pub goals : (i : ℕ) (t : Table) → getElem? (f .tables) i ≡ some t → t .table-goal ≡ getD goal i 0
+  pub flags : (i : ℕ) (t : Table) → getElem? (f .tables) i ≡ some t → t .floundered ≡ flag (getD floundered i 0)
+  pub few-goals : length (f .book) ≤ 64
+  pub flagged : (g : ℕ) (x : Goal) → getElem? (f .book) g ≡ some x → x .floundered ≡ bit1 (getD goal-flags g 0)
+  pub clauses-counted : (g : ℕ) (x : Goal) → getElem? (f .book) g ≡ some x → length (x .clauses) ≡ getD goal-len g 0
