@@ -1,1 +1,4 @@
 pub mod ClearStrandsAfterCycleCases
+pub mod ClearStrandsAfterCycleSound
+pub mod ClearStrandsAfterCycleDecides
+pub mod ClearStrandsAfterCycleEmptied
