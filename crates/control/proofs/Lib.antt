@@ -12,3 +12,6 @@ pub mod ClearStrandsAfterCycleCases
 pub mod SelectTables
 pub mod SelectStrands
 pub mod SelectSubgoal
+pub mod ClearStrandsAfterCycleSound
+pub mod ClearStrandsAfterCycleDecides
+pub mod ClearStrandsAfterCycleEmptied
