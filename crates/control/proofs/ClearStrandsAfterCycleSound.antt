@@ -21,7 +21,8 @@ use Rattle.stores.specs.declared.places.Places.{Places}
 use Rattle.stores.specs.Numbers.{free}
 use Rattle.stores.specs.Places.{ring, moved-to}
 use Rattle.stores.specs.Sound.{waiting, SoundPlaces}
-use Rattle.stores.proofs.PlacesWaiting.{is-or-not, waiting-one}
+use Rattle.rings.proofs.Counts.{is-or-not}
+use Rattle.stores.proofs.PlacesWaiting.{waiting-one}
 use Rattle.stores.proofs.PlacesMoves.{moved-own, moved-other}
 use Rattle.control.specs.declared.clear_strands_after_cycle.Cleared.{Cleared}
 use Rattle.control.specs.ClearStrandsAfterCycle.{taken, rings-in, queue-unless, queue-left, Emptied}
