@@ -4,7 +4,11 @@ pub mod Decisions
 pub mod Seen
 pub mod SelectCases
 pub mod SelectTables
+pub mod SelectRoom
 pub mod SelectStrands
+pub mod SelectKnown
+pub mod SelectPasses
+pub mod SelectLiteral
 pub mod SelectSubgoal
 pub mod OnSubgoalSelectedCases
 pub mod OnSubgoalSelected

@@ -1,12 +1,9 @@
 -- The strand's side of a pass: the last literal, floundered or looked at again, as the definitions have it.
-use Prim.Native.Nat.{ℕ, suc, _+_, _<_, min}
+use Prim.Native.Nat.{ℕ, _<_}
 use native.Mathlib.Omega.{arith}
 use mathlib.Core.Path.{_≡_, refl, sym, ap, subst, _∙_}
-use mathlib.Core.Option.{Option, none, some}
-use lib.ListN.{length, getElem?}
+use lib.ListN.{length}
 use Rattle.definitions.specs.{ExClause}
-use Rattle.definitions.specs.Book as books
-use Rattle.definitions.specs.Logic.{flounder-subgoal, reconsider-floundered-subgoals}
 use Rattle.definitions.specs.Slg.{next-subgoal-index}
 use Rattle.definitions.specs.Stop.{Stops, go}
 use Rattle.definitions.specs.Strand as held
@@ -15,7 +12,7 @@ use Rattle.laws.proofs.Options.{same-some}
 use Rattle.promises.proofs.Asserts.Safe.{Safe, goes}
 use Rattle.promises.proofs.Asserts.Sound.{SoundClause}
 use Rattle.promises.proofs.Asserts.Returning.{Floundered, flounders, Returned, returns}
-use Rattle.split.specs.Decide.{or, no-literal, literal-at, with-literal-floundered}
+use Rattle.split.specs.Decide.{or, no-literal, with-literal-floundered}
 use Rattle.split.proofs.Matches.{Goes, going}
 use Rattle.split.proofs.Deeds.{flounders-literal}
 use Rattle.strands.specs.declared.Selected.the-variants.{Nothing, Subgoal}

@@ -1,10 +1,10 @@
 -- The forest with tables for the goals noted: where a goal has its table, whether a table is floundered, and how many strands a new one
 -- has, by the lent numbers.
-use Prim.Native.Nat.{ℕ, zero, suc, _+_, _-_, _≤_, _<_, min}
+use Prim.Native.Nat.{ℕ, zero, suc, _+_, _-_, _≤_, _<_}
 use native.Mathlib.Nat.{add-zero, sub-zero}
 use native.Mathlib.Omega.{arith}
 use mathlib.Core.Path.{_≡_, refl, sym, ap, ap₂, subst, _∙_}
-use mathlib.Core.Bool.{Bool, true, false, _&&_}
+use mathlib.Core.Bool.{Bool, true, false}
 use mathlib.Core.List.{List, [], _∷_, _++_, map, append-nil, append-assoc, map-append}
 use mathlib.Core.Option.{Option, none, some}
 use lib.Dec.{eqb, ltb}
@@ -24,12 +24,12 @@ use Rattle.promises.proofs.Asserts.Lists.{All, all-first, all-rest}
 use Rattle.book.specs.Access.{entry-by, entry}
 use Rattle.book.specs.View.{span}
 use Rattle.book.proofs.Spans.{span-length, span-ext}
-use Rattle.stores.specs.Numbers.{within, first-at, flag, flag-at}
+use Rattle.stores.specs.Numbers.{within, first-at, flag-at}
 use Rattle.stores.proofs.ListsSpans.{first-if, span-at, span-push}
 use Rattle.stores.proofs.NumbersCases.{flag-near}
 use Rattle.stores.proofs.NumbersSearch.{first-bound, position-from}
 use Rattle.control.specs.declared.select_subgoal.Made.{Made}
-use Rattle.control.specs.SelectSubgoal.{noted-count, noted-at, made-at, table-by, table-number, floundered-by, table-floundered, strands-by, noted-down, noted-goals, TablesMean}
+use Rattle.control.specs.SelectSubgoal.{noted-count, table-by, table-number, floundered-by, table-floundered, strands-by, noted-down, noted-goals, TablesMean}
 
 -- Laws of the search in a list.
 
@@ -67,7 +67,8 @@ module _ {A B : Type 0} (h : A → B) where
   map-span g s (suc n) = ap (λ (l : List B). h (g s) ∷ l) (map-span g (suc s) n)
 
   -- a list by what stands at each place
-  map-places : (g : ℕ → B) (s : ℕ) (l : List A) → ((i : ℕ) (a : A) → getElem? l i ≡ some a → h a ≡ g (s + i)) → map h l ≡ span g s (length l)
+  map-places : (g : ℕ → B) (s : ℕ) (l : List A) → ((i : ℕ) (a : A) → getElem? l i ≡ some a → h a ≡ g (s + i))
+      → map h l ≡ span g s (length l)
   map-places g s [] e = refl
   map-places g s (a ∷ l) e =
       ap₂ (λ (x : B) (r : List B). x ∷ r) (e 0 a refl ∙ ap g (add-zero s))
@@ -213,7 +214,8 @@ module _ (goal floundered : List ℕ) (count : ℕ) (goal-flags goal-len : List 
       where
         at : (b : Bool) → ltb t count ≡ b → says count (m .count) t ≡ table-of made t .floundered
         at true e =
-            ap (λ (b : Bool). floundered-by b (ltb (t - count) (m .count)) (flag-at t floundered) (bit1 (entry 64 goal-flags (getD (m .goals) (t - count) 0)))) e
+            ap (λ (b : Bool). floundered-by b (ltb (t - count) (m .count)) (flag-at t floundered)
+            (bit1 (entry 64 goal-flags (getD (m .goals) (t - count) 0)))) e
             ∙ flag-is t (ltb-true t count e)
         at false e =
             let le = ltb-false t count e in
@@ -248,7 +250,8 @@ module _ (goal floundered : List ℕ) (count : ℕ) (goal-flags goal-len : List 
 
       -- in front, behind, or nowhere
       found-by : (a b n k : ℕ) → a ≤ n → b ≤ k
-          → joined (first-if (ltb a n) a) n (first-if (ltb b k) b) ≡ first-if (ltb (table-by (ltb a n) a (n + b)) (n + k)) (table-by (ltb a n) a (n + b))
+          → joined (first-if (ltb a n) a) n (first-if (ltb b k) b)
+          ≡ first-if (ltb (table-by (ltb a n) a (n + b)) (n + k)) (table-by (ltb a n) a (n + b))
       found-by a b n k p q = front (ltb a n) refl
         where
           behind : (d : Bool) → ltb b k ≡ d → n ≤ a
@@ -289,6 +292,7 @@ module _ (goal floundered : List ℕ) (count : ℕ) (goal-flags goal-len : List 
           let r = by (ltb (first goal count) count) refl in
           omega arith
         where
-          by : (d : Bool) → ltb (first goal count) count ≡ d → table-by d (first goal count) (count + first (m .goals) (m .count)) ≤ count + m .count
+          by : (d : Bool) → ltb (first goal count) count ≡ d
+              → table-by d (first goal count) (count + first (m .goals) (m .count)) ≤ count + m .count
           by true e = omega (arith, ltb-true (first goal count) count e)
           by false e = omega (arith, bound (m .goals) (m .count))
