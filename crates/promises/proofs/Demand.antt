@@ -19,7 +19,7 @@ use Rattle.definitions.specs.Calls.{Call, opens, searches, peeks, asks-future, 
 use Rattle.definitions.specs.Model.{Plain, Levelled, In}
 use Rattle.definitions.specs.Claim.{MarkedSays, reply-stopped, AllSay, exceeded-among, exceeded, Demand3}
 use Rattle.laws.proofs.Options.{no-such}
-use Rattle.laws.proofs.Bools.{or-right}
+use Rattle.laws.proofs.Bools.{both-false}
 use Rattle.promises.proofs.Reading.{not-accepted, all-pass, Good, read-good}
 use Rattle.promises.proofs.Plain.Machine as M
 use Rattle.promises.proofs.Plain.Whole.{potential, initial-ok, initial-total}
@@ -161,8 +161,8 @@ made-from bytes limit f e = go (read bytes) refl e
       book = book;
       good = read-good bytes 0 [] book (record { few-goals = omega arith; few-clauses = omega arith }) k;
       is = all-pass ((eqb limit 0 || leb MAX limit) refuses 13 ∷ []) (forest-of book limit 0 [] 0) f x .1;
-      room = let y = leb-false MAX limit (or-right (eqb limit 0) (leb MAX limit)
-          (all-pass ((eqb limit 0 || leb MAX limit) refuses 13 ∷ []) (forest-of book limit 0 [] 0) f x .0 .0)) in omega arith;
+      room = let y = leb-false MAX limit (both-false (eqb limit 0) (leb MAX limit)
+          (all-pass ((eqb limit 0 || leb MAX limit) refuses 13 ∷ []) (forest-of book limit 0 [] 0) f x .0 .0) .1) in omega arith;
     }
 
 pub demand-3 : Demand3

@@ -3,7 +3,7 @@
 use Prim.Native.Nat.{ℕ, zero, suc, _+_, _-_, _≤_, _<_}
 use native.Mathlib.Omega.{arith}
 use mathlib.Core.Path.{_≡_, refl, subst}
-use mathlib.Core.Bool.{Bool, true, false}
+use mathlib.Core.Bool.{Bool, true, false, true≢false}
 use mathlib.Core.Logic.{inr}
 use mathlib.Core.List.{List, [], _∷_, _++_, append-nil}
 use lib.ListN.{length}
@@ -16,7 +16,7 @@ use Rattle.definitions.specs.Forest.{make, Opened, is-invalid, Peeked, peek-rou
 use Rattle.definitions.specs.Listing.{listing-rounds, listing-turns, listing-clock, Line, line, Next, next-index, next-goal, the-end, next}
 use Rattle.definitions.specs.Listing.{Listed, list-from, list-goal, list-goals, lines}
 use Rattle.definitions.specs.Model.{Each}
-use Rattle.promises.proofs.Asserts.Safe.{true-false, case-bool, case-safe}
+use Rattle.promises.proofs.Asserts.Safe.{case-bool, case-safe}
 use Rattle.promises.proofs.Asserts.Sound.{Reached, SoundForest}
 use Rattle.promises.proofs.Asserts.Making.{makes}
 use Rattle.promises.proofs.Asserts.Unwinding.{Ended}
@@ -74,7 +74,7 @@ record GoalLine (index at : ℕ) (ending : Ending) : Type 0 where
 stands : {index : ℕ} (goal at : ℕ) (ending : Ending) → GoalLine index at ending → MayStand (line goal at ending)
 stands goal at ending l = record {
   no-bound-ran-out = λ e. subst Fine e (l .fine);
-  not-invalid = λ e. true-false (subst (λ z. is-invalid z ≡ false) e (l .valid));
+  not-invalid = λ e. absurd (true≢false (subst (λ z. is-invalid z ≡ false) e (l .valid)));
 }
 
 module _ (n goal index at : ℕ) (ending : Ending) (here : GoalLine index at ending) where

@@ -3,7 +3,7 @@
 use Prim.Native.Nat.{ℕ, zero, suc, _≤_, _<_}
 use native.Mathlib.Omega.{arith}
 use mathlib.Core.Path.{_≡_, refl, sym, ap, subst, _∙_}
-use mathlib.Core.Bool.{Bool, true, false}
+use mathlib.Core.Bool.{Bool, true, false, false≢true}
 use mathlib.Core.Option.{Option, none, some}
 use mathlib.Core.List.{[], _∷_}
 use lib.ListN.{length, getElem?, set}
@@ -21,7 +21,7 @@ use Rattle.definitions.specs.Turn.{Ending, found, fail, cut, stopped, Searched}
 use Rattle.definitions.specs.Turn.{put-back, stored-answer, ok-ending, turn, search-turns, begin, root-answer}
 use Rattle.definitions.specs.Forest.{Peeked, is-invalid, is-exceeded, skip-invalid, peek-rounds}
 use Rattle.laws.proofs.Options.{same-some}
-use Rattle.promises.proofs.Asserts.Safe.{false-true, case-option, case-bool, case-stops, stop-go, unwrapped}
+use Rattle.promises.proofs.Asserts.Safe.{case-option, case-bool, case-stops, stop-go, unwrapped}
 use Rattle.promises.proofs.Asserts.Lists.{place-under}
 
 -- how many answers a table has, if it is made
@@ -109,8 +109,9 @@ module _ (root index : ℕ) where
 
   stored-there : (f : Forest) → StoredIn f (stored-answer f root index)
   stored-there f = case-stops (StoredIn f) (table-at f root >>= λ t. unwrap (answer t index))
-      (λ n e q. false-true q)
-      (λ a e. case-bool (StoredIn f) (is-empty (a .delayed-subgoals)) (λ b q. there a (getElem? (f .tables) root) e) (λ b q. false-true q))
+      (λ n e q. absurd (false≢true q))
+      (λ a e. case-bool (StoredIn f) (is-empty (a .delayed-subgoals))
+      (λ b q. there a (getElem? (f .tables) root) e) (λ b q. absurd (false≢true q)))
     where
       there : (a : Answer) (o : Option Table) → (unwrap o >>= λ t. unwrap (answer t index)) ≡ go a → index < answers-of o
       there a none e = stop-go e
@@ -118,31 +119,31 @@ module _ (root index : ℕ) where
 
   puts-stored : (ending : Ending) (turns : ℕ) (s : SolveState) → StoredIn (s .forest) ending → Stored (put-back ending turns s)
   puts-stored ending turns s x = case-stops Stored (drop-state s)
-      (λ n e q. false-true q)
+      (λ n e q. absurd (false≢true q))
       (λ f e q. let same = subst (KeepsAnswers (s .forest)) e (drop-keeps (s .forest) (s .stack)) root in let o = x q in omega arith)
 
   ok-stored : (s : SolveState) → StoredIn (s .forest) (ok-ending s root index)
-  ok-stored s = case-bool (StoredIn (s .forest)) (is-empty (s .stack)) (λ b. stored-there (s .forest)) (λ b q. false-true q)
+  ok-stored s = case-bool (StoredIn (s .forest)) (is-empty (s .stack)) (λ b. stored-there (s .forest)) (λ b q. absurd (false≢true q))
 
   turns-stored : (limit done : ℕ) (s : SolveState) → Stored (search-turns limit done root index s)
-  turns-stored zero done s = puts-stored cut done s (λ q. false-true q)
+  turns-stored zero done s = puts-stored cut done s (λ q. absurd (false≢true q))
   turns-stored (suc limit) done s = case-stops Stored (turn s)
-      (λ n e. puts-stored (stopped n) done (with-forest s (with-mark (s .forest) n)) (λ q. false-true q))
+      (λ n e. puts-stored (stopped n) done (with-forest s (with-mark (s .forest) n)) (λ q. absurd (false≢true q)))
       (λ flow e. case-flow Stored flow
       (λ s′. turns-stored limit (suc done) s′)
       (λ s′. puts-stored (ok-ending s′ root index) (suc done) s′ (ok-stored s′))
-      (λ r s′. puts-stored (fail r) (suc done) s′ (λ q. false-true q)))
+      (λ r s′. puts-stored (fail r) (suc done) s′ (λ q. absurd (false≢true q))))
 
   begin-stored : (limit : ℕ) (f : Forest) → Stored (begin limit root index f)
-  begin-stored limit f = case-stops Stored (increment-clock f) (λ n e q. false-true q) (λ g e. turns-stored limit 0 _)
+  begin-stored limit f = case-stops Stored (increment-clock f) (λ n e q. absurd (false≢true q)) (λ g e. turns-stored limit 0 _)
 
   search-stored : (limit : ℕ) (f : Forest) → Stored (root-answer limit root index f)
   search-stored limit f = case-stops Stored (table-at f root)
-      (λ n e q. false-true q)
+      (λ n e q. absurd (false≢true q))
       (λ t e. case-bool Stored (t .floundered)
-      (λ u q. false-true q)
+      (λ u q. absurd (false≢true q))
       (λ u. case-option Stored (answer t index)
-      (λ q. case-bool Stored (eqb (next-answer-index t) index) (λ b. begin-stored limit f) (λ b r. false-true r))
+      (λ q. case-bool Stored (eqb (next-answer-index t) index) (λ b. begin-stored limit f) (λ b r. absurd (false≢true r)))
       (λ a q. stored-there f)))
 
 -- A peek: it ends at the index asked for or a later one, and what it found is stored there.

@@ -1,9 +1,9 @@
 -- Reading, on any book: a call that is accepted passed every test, and a book that is read keeps within the limits.
 use Prim.Native.Nat.{ℕ, zero, suc, _+_, _≤_}
 use native.Mathlib.Omega.{arith}
-use borrow.Author.Tests.{leb-false}
+use borrow.Author.Tests.{leb-false, not-false}
 use mathlib.Core.Path.{_≡_, refl, ap, subst}
-use mathlib.Core.Bool.{Bool, true, false, not}
+use mathlib.Core.Bool.{Bool, true, false, not, true≢false}
 use mathlib.Core.List.{List, [], _∷_, _++_}
 use lib.ListN.{length, length-append}
 use lib.Dec.{ltb, leb, eqb}
@@ -106,7 +106,7 @@ command-small positive operands book next n e s =
     literal-small (Positive (u16 operands 0) (u16 operands 2) (bit0 (byte operands 4))) (byte operands 4) book next e s
 command-small negative operands book next n e s =
     literal-small (Negative (u16 operands 0) (bit0 (byte operands 2))) (byte operands 2) book next e s
-command-small end operands book next n e s = absurd (let z : _≡_ {A = ℕ} 0 1 = cc in omega arith)
+command-small end operands book next n e s = absurd (true≢false n)
 command-small unknown operands book next n e s = absurd (not-accepted e)
 
 -- a book that is read
@@ -128,10 +128,6 @@ end-good after book next e s =
     let a = all-pass (ltb 0 (length after) refuses 7 ∷ eqb (length book) 0 refuses 8 ∷ not (goals-name (length book) book) refuses 6 ∷ [])
     book next e in
     subst Good (a .1) (record { small = s; named = not-false (goals-name (length book) book) (a .0 .1 .1 .0) })
-  where
-    not-false : (b : Bool) → not b ≡ false → b ≡ true
-    not-false true x = refl
-    not-false false x = let z : _≡_ {A = ℕ} 0 1 = cc in absurd (omega arith)
 
 -- what is done with a command's book
 abbrev onward : Command → List ℕ → Refusable Book → Refusable Book

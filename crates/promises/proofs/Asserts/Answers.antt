@@ -1,9 +1,9 @@
 -- A strand with nothing left to choose: its answer is stored, and the caller goes on with it or the search has its result.
 use Prim.Native.Nat.{ℕ, suc, _+_, _≤_, _<_}
 use native.Mathlib.Omega.{arith}
-use borrow.Author.Tests.{leb-false}
+use borrow.Author.Tests.{leb-false, not-false}
 use mathlib.Core.Path.{_≡_, refl, sym, subst, _∙_}
-use mathlib.Core.Bool.{Bool, true, false, not, _&&_}
+use mathlib.Core.Bool.{true, false, not, _&&_, true≢false}
 use mathlib.Core.Logic.{inl, inr}
 use mathlib.Core.Option.{Option, none, some}
 use mathlib.Core.List.{List, [], _∷_, _++_}
@@ -13,13 +13,13 @@ use Rattle.definitions.specs.{Answer}
 use Rattle.definitions.specs.Fitting.{is-trivial, is-outsized}
 use Rattle.definitions.specs.Lists.{is-empty, push}
 use Rattle.definitions.specs.Strand.{Strand}
-use Rattle.definitions.specs.Table.{Table, with-answers, take-strands, mark-floundered, equal-answer, push-answer, answer}
+use Rattle.definitions.specs.Table.{Table, with-answers, take-strands, mark-floundered, equal-answer, push-answer}
 use Rattle.definitions.specs.Tables.{Tables, Forest, with-tables, queued, held}
 use Rattle.definitions.specs.Stack.{StackEntry, Stack, active}
 use Rattle.definitions.specs.Turn.{other-than, pursue-answer}
 use Rattle.laws.proofs.Lists.{total-set, last-one, set-here}
 use Rattle.laws.proofs.Options.{no-such, same-some}
-use Rattle.promises.proofs.Asserts.Safe.{true-false, Safe, goes, after, known, guard, asserted, by-bool, by-option, case-bool}
+use Rattle.promises.proofs.Asserts.Safe.{Safe, goes, after, known, guard, asserted, by-bool, by-option, case-bool}
 use Rattle.promises.proofs.Asserts.Lists.{All, end, more, all-first, all-rest, set-other, all-push}
 use Rattle.promises.proofs.Asserts.Sound.{Goals, SoundAnswer, SoundClause, SoundTable, SoundStack, Off}
 use Rattle.promises.proofs.Asserts.Keeping.{SameGoal, Above, Grows, calls-grow, Steady, above-same, grows-set, Kept, set-sound}
@@ -53,7 +53,7 @@ longer {n} {ts} {t} s u a g =
         goal-named = s .goal-named;
         sound-strands = s .sound-strands;
         sound-answers = all-push (s .sound-answers) g;
-        floundered-empty = λ q. true-false (sym q ∙ u);
+        floundered-empty = λ q. absurd (true≢false (sym q ∙ u));
       };
       same-goal = (refl, refl);
       fewer = omega arith;
@@ -85,10 +85,6 @@ pushes : {n : ℕ} {ts : Tables} {t : Table} → SoundTable n ts t → t .flound
 pushes {t = t} s u h a g = asserted (t .floundered) 0 u (by-option (equal-answer a (t .answers))
     (λ e. guard (leb 256 h) 23 tt (λ b. goes (record { when-new = λ i q. (sym (same-some q), leb-false 256 h b, longer s u a g) })))
     (λ was e. guard (was .ambiguous && not (a .ambiguous)) 26 tt (λ b. goes (record { when-new = λ i q. absurd (no-such q) }))))
-
-not-false : (b : Bool) → not b ≡ false → b ≡ true
-not-false true e = refl
-not-false false e = true-false e
 
 module _ (n root index first : ℕ) (f : Forest) (e : StackEntry) (es : Stack) (x : SoundStack n root index first f (e ∷ es)) where
   -- the top's table has the answer

@@ -3,7 +3,7 @@
 use Prim.Native.Nat.{ℕ, zero, suc, _+_, _*_, _≤_, _<_, min}
 use native.Mathlib.Omega.{arith}
 use mathlib.Core.Path.{_≡_, refl, sym, ap, subst}
-use mathlib.Core.Bool.{Bool, true, false, not, _&&_}
+use mathlib.Core.Bool.{Bool, true, false, not, _&&_, true≢false, false≢true}
 use mathlib.Core.Logic.{inr}
 use mathlib.Core.Option.{Option, none, some}
 use mathlib.Core.List.{List, [], _∷_}
@@ -22,7 +22,7 @@ use Rattle.definitions.specs.Logic.{SubGoalSelection, Selected, NotSelected, So
 use Rattle.definitions.specs.Logic.{reconsider-floundered-subgoals, propagate-floundered-subgoal, get-or-create-table-for-subgoal}
 use Rattle.definitions.specs.Logic.{select-from, select-subgoal}
 use Rattle.laws.proofs.Lists.{at-place}
-use Rattle.promises.proofs.Asserts.Safe.{true-false, false-true, Safe, goes, after, weaker, known, asserted, by-bool, by-option}
+use Rattle.promises.proofs.Asserts.Safe.{Safe, goes, after, weaker, known, asserted, by-bool, by-option}
 use Rattle.promises.proofs.Asserts.Safe.{unwraps}
 use Rattle.promises.proofs.Asserts.Lists.{all-at, is-nil, not-nil, no-nil}
 use Rattle.promises.proofs.Asserts.Sound.{Awaits, Selects, SoundClause, SoundStrand, SoundForest}
@@ -77,10 +77,14 @@ propagates {n} {ts} s x selected lt =
     ])
     by-literal (Positive goal want outsized) = after (flounders x (selected .subgoal-index) lt) (λ x' y. goes (record {
       sound = (y .clause, tt);
-      when-stuck = λ e. false-true e;
+      when-stuck = λ e. absurd (false≢true e);
       when-gone = λ e. (y, refl);
     }))
-    by-literal (Negative goal outsized) = goes (record { sound = (x, tt); when-stuck = λ e. some-there; when-gone = λ e. true-false e })
+    by-literal (Negative goal outsized) = goes (record {
+      sound = (x, tt);
+      when-stuck = λ e. some-there;
+      when-gone = λ e. absurd (true≢false e);
+    })
 
 -- The passes.
 

@@ -3,7 +3,7 @@ use Prim.Native.Nat.{ℕ, zero, suc, _+_, _≤_, _<_}
 use native.Mathlib.Omega.{arith}
 use borrow.Author.Tests.{eq-eqb}
 use mathlib.Core.Path.{_≡_, refl, sym, subst, _∙_}
-use mathlib.Core.Bool.{Bool, true, false, not, _&&_}
+use mathlib.Core.Bool.{Bool, true, false, not, _&&_, true≢false, and-eq-true-iff}
 use mathlib.Core.Logic.{inl, inr}
 use mathlib.Core.Option.{Option, none, some}
 use mathlib.Core.List.{List, [], _∷_}
@@ -23,7 +23,7 @@ use Rattle.definitions.specs.Turn.{on-coinductive-subgoal, cycle-minimums, on-p
 use Rattle.definitions.specs.Turn.{on-subgoal-selected}
 use Rattle.laws.proofs.Lists.{at-place}
 use Rattle.laws.proofs.Options.{no-such, same-some}
-use Rattle.promises.proofs.Asserts.Safe.{true-false, false-true, Safe, stops, goes, after, known, asserted, by-bool, by-option}
+use Rattle.promises.proofs.Asserts.Safe.{Safe, stops, goes, after, known, asserted, by-bool, by-option}
 use Rattle.promises.proofs.Asserts.Safe.{unwraps}
 use Rattle.promises.proofs.Asserts.Lists.{All, end, more, all-first, all-rest, all-take, all-at, no-place}
 use Rattle.promises.proofs.Asserts.Sound.{Off, Named, Reached, Awaits, Selects, SoundStrand, Standing, Below, SoundStack, SoundState}
@@ -68,7 +68,7 @@ not-active t (e ∷ es) k = at (is-active t es) refl k (not-active t es)
   where
     here : (b : Bool) → eqb (e .table) t ≡ b → _≡_ {A = Option ℕ} (elim b [ true ↦ some 0 | false ↦ none ]) none → e .table ≡ t → ⊥
     here true q k c = absurd (no-such (sym k))
-    here false q k c = true-false (sym (eq-eqb (e .table) t c) ∙ q)
+    here false q k c = absurd (true≢false (sym (eq-eqb (e .table) t c) ∙ q))
 
     at : (o : Option ℕ) → is-active t es ≡ o → _≡_ {A = Option ℕ}
         (elim o [ some d ↦ some (suc d) | none ↦ elim (eqb (e .table) t) [ true ↦ some 0 | false ↦ none ] ]) none
@@ -91,10 +91,6 @@ pushed f e es strand selected = record {
 abbrev Coinductive : Tables → StackEntry → Type 0
 Coinductive ts e = (t : Table) → getElem? ts (e .table) ≡ some t → t .coinductive-goal ≡ true
 
-both : (a b : Bool) → (a && b) ≡ true → (a ≡ true) × (b ≡ true)
-both true b e = (refl, e)
-both false b e = false-true e
-
 entries : {first : ℕ} (f : Forest) (es : Stack) → All (Stands (f .tables) first) es
     → Safe (λ b. b ≡ true → All (Coinductive (f .tables)) es) (coinductive-entries f es)
 entries f [] x = goes (λ e. end)
@@ -103,7 +99,7 @@ entries f (e ∷ es) x =
     let k = all-first x .is-made in
     known _ (table-is f (e .table) own k)
     (after (entries f es (all-rest x)) (λ others y. goes
-    (λ b. let r = both (own .coinductive-goal) others b in
+    (λ b. let r = and-eq-true-iff (own .coinductive-goal) others .0 b in
     more (λ t q. subst (λ z. z .coinductive-goal ≡ true) (same-some (sym k ∙ q)) (r .0)) (y (r .1)))))
 
 module _ (n root index first : ℕ) where
@@ -270,7 +266,7 @@ module _ (n root index first : ℕ) where
   merged-case (failed s) z = goes {a = return-err QuantumExceeded s} (refl, z)
 
   not-floundered : (t : Table) (k : ℕ) → t .floundered ≡ false → Reached t k → k ≤ length (t .answers)
-  not-floundered t k u (inl e) = true-false (sym e ∙ u)
+  not-floundered t k u (inl e) = absurd (true≢false (sym e ∙ u))
   not-floundered t k u (inr o) = o
 
   pub on-selected : (f : Forest) (e : StackEntry) (es : Stack) → SoundStack n root index first f (e ∷ es) → queued f + active (e ∷ es) < 256

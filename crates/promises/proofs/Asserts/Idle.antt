@@ -4,7 +4,7 @@ use Prim.Native.Nat.{ℕ, suc, _+_, _<_}
 use native.Mathlib.Omega.{arith}
 use borrow.Author.Tests.{le-leb}
 use mathlib.Core.Path.{_≡_, refl, sym, ap, subst, _∙_}
-use mathlib.Core.Bool.{Bool, true, false, _&&_}
+use mathlib.Core.Bool.{true, false, _&&_, true≢false, and-eq-true-iff}
 use mathlib.Core.Option.{Option, none, some}
 use mathlib.Core.List.{[], _∷_}
 use lib.ListN.{length, getElem?, set}
@@ -21,7 +21,7 @@ use Rattle.definitions.specs.Logic.{NoMoreSolutions, QuantumExceeded, NegativeC
 use Rattle.definitions.specs.Logic.{enqueue-at-top}
 use Rattle.definitions.specs.Turn.{cycle-minimums, on-no-strands, on-own-cycle, on-part-of-cycle, on-no-strands-left}
 use Rattle.laws.proofs.Lists.{total-set, at-place}
-use Rattle.promises.proofs.Asserts.Safe.{true-false, Safe, goes, after, known, by-bool, unwraps}
+use Rattle.promises.proofs.Asserts.Safe.{Safe, goes, after, known, by-bool, unwraps}
 use Rattle.promises.proofs.Asserts.Lists.{end, all-map}
 use Rattle.promises.proofs.Asserts.Sound.{Awaits, Selects, Calls, Active, SoundStack}
 use Rattle.promises.proofs.Asserts.Keeping.{grows-above, strand-grows, kept-trans, set-kept, strands-kept, table-is, change-is}
@@ -130,12 +130,10 @@ module _ (n root index first : ℕ) where
       let same = x .0 .below .1 in
       let p = x .0 .standing .positive-late in
       let q = x .0 .standing .negative-late in
-      true-false (sym (both-yes (leb (e .clock) (e .cyclic-minimums .positive)) (leb (e .clock) (e .cyclic-minimums .negative))
-      (le-leb (e .clock) (e .cyclic-minimums .positive) (omega arith))
-      (le-leb (e .clock) (e .cyclic-minimums .negative) (omega arith))) ∙ b)
-    where
-      both-yes : (a b : Bool) → a ≡ true → b ≡ true → (a && b) ≡ true
-      both-yes a b p q = rw (p, q)
+      let m = e .cyclic-minimums in
+      let late = and-eq-true-iff (leb (e .clock) (m .positive)) (leb (e .clock) (m .negative)) .1
+      (le-leb (e .clock) (m .positive) (omega arith), le-leb (e .clock) (m .negative) (omega arith)) in
+      absurd (true≢false (sym late ∙ b))
   part-of-cycle f e (c ∷ es) x b =
       let calls = x .0 .below .1 in
       let l = literally calls in

@@ -4,7 +4,7 @@ use native.Mathlib.Omega.{arith}
 use native.Mathlib.Decide.{ℕ-discrete}
 use borrow.Author.Tests.{leb-false}
 use mathlib.Core.Path.{_≡_, refl, sym, ap, subst, _∙_}
-use mathlib.Core.Bool.{true, false}
+use mathlib.Core.Bool.{true, false, true≢false}
 use mathlib.Core.Logic.{inl, inr}
 use mathlib.Core.Option.{Option, none, some}
 use mathlib.Core.List.{List, [], _∷_, _++_}
@@ -18,7 +18,7 @@ use Rattle.definitions.specs.Tables.{Tables, Forest, with-tables, table-at, cha
 use Rattle.definitions.specs.Stack.{Stack}
 use Rattle.laws.proofs.Lists.{total-set, set-here, at-append}
 use Rattle.laws.proofs.Options.{same-some}
-use Rattle.promises.proofs.Asserts.Safe.{true-false, Safe, goes, guard}
+use Rattle.promises.proofs.Asserts.Safe.{Safe, goes, guard}
 use Rattle.promises.proofs.Asserts.Lists.{All, all-at, all-set, all-map, all-push, set-there, set-other}
 use Rattle.promises.proofs.Asserts.Sound.{Reached, Selects, SoundStrand, SoundTable, SoundForest, Standing, Calls, Below, Rooted}
 use Rattle.promises.proofs.Asserts.Sound.{Searching, Active}
@@ -213,7 +213,7 @@ module _ {n : ℕ} {f : Forest} (s : SoundForest n f) (i : ℕ) {t : Table} (e :
 
   pub enqueue-kept : queued f < 256 → t .floundered ≡ false → (strand : Strand) → SoundStrand n (f .tables) strand
       → Kept n f (with-tables f (set (f .tables) i (enqueue-strand strand t)))
-  enqueue-kept free u strand x = strands-kept (t .strands ++ (strand ∷ [])) (λ q. true-false (sym q ∙ u))
+  enqueue-kept free u strand x = strands-kept (t .strands ++ (strand ∷ [])) (λ q. absurd (true≢false (sym q ∙ u)))
       (let y : length (t .strands ++ (strand ∷ [])) ≡ length (t .strands) + 1 = length-append (t .strands) (strand ∷ []) in omega arith)
       (all-push (table-sound s i e .sound-strands) x)
 

@@ -8,6 +8,7 @@ use mathlib.Core.Option.{Option, none, some}
 use mathlib.Core.List.{List, [], _∷_, _++_, map}
 use lib.ListN.{length, getElem?}
 use lib.Dec.{eqb, ltb}
+use mathlib.Core.Bool.{true≢false, false≢true}
 use Rattle.definitions.specs.{TableIndex}
 use Rattle.definitions.specs.Book.{Clause, Literal, goal-of, Book}
 use Rattle.definitions.specs.Fitting.{gets-table}
@@ -16,7 +17,7 @@ use Rattle.definitions.specs.Tables.{Tables, Forest, with-tables, index-of, que
 use Rattle.definitions.specs.Logic.{initial-strand, build-table, get-or-create-table-for-ucanonical-goal, get-or-create-table-for-subgoal}
 use Rattle.laws.proofs.Lists.{last-one, at-place}
 use Rattle.laws.proofs.Options.{no-such, same-some}
-use Rattle.promises.proofs.Asserts.Safe.{true-false, false-true, Safe, goes, after, known, guard, by-bool, by-option, unwraps}
+use Rattle.promises.proofs.Asserts.Safe.{Safe, goes, after, known, guard, by-bool, by-option, unwraps}
 use Rattle.promises.proofs.Asserts.Lists.{All, end, more, all-at, all-map, all-push, position-at, position-none, at-push}
 use Rattle.promises.proofs.Asserts.Lists.{total-append}
 use Rattle.promises.proofs.Asserts.Sound.{AsGoal, Named, SoundStrand, SoundTable, SoundForest}
@@ -61,7 +62,7 @@ built {n} {f} s goal lt =
         goal-named = lt;
         sound-strands = initial-sound ts (all-at goal (s .sound-book) (g .1));
         sound-answers = end;
-        floundered-empty = λ q. false-true q;
+        floundered-empty = λ q. absurd (false≢true q);
       };
       for-goal = refl;
       as-goal = λ h q. ap (λ z. z .coinductive) (same-some (sym (g .1) ∙ q));
@@ -91,7 +92,8 @@ push-kept {n} {f} s goal new t x places =
     }
   where
     not-new : (i : ℕ) (u : Table) → getElem? (f .tables) i ≡ some u → u .table-goal ≡ goal → ⊥
-    not-new i u a q = true-false (sym (eq-eqb (u .table-goal) goal q) ∙ position-none (λ v. eqb (v .table-goal) goal) (f .tables) new i u a)
+    not-new i u a q =
+        true≢false (sym (eq-eqb (u .table-goal) goal q) ∙ position-none (λ v. eqb (v .table-goal) goal) (f .tables) new i u a)
 
     apart : (i j : ℕ) (u v : Table) → (getElem? (f .tables) i ≡ some u) ⊎ ((t ≡ u) × (i ≡ length (f .tables)))
         → (getElem? (f .tables) j ≡ some v) ⊎ ((t ≡ v) × (j ≡ length (f .tables))) → u .table-goal ≡ v .table-goal → i ≡ j

@@ -14,7 +14,7 @@ use Rattle.definitions.specs.Tables.{Forest}
 use Rattle.definitions.specs.Forest.{make}
 use Rattle.laws.proofs.Options.{no-such}
 use Rattle.promises.proofs.Reading.{not-accepted, all-pass, read-good}
-use Rattle.laws.proofs.Bools.{both-true, or-right}
+use Rattle.laws.proofs.Bools.{both-true, both-false}
 use Rattle.promises.proofs.Asserts.Lists.{All, end, more, all-first, all-rest}
 use Rattle.promises.proofs.Asserts.Few.{Few, FewLiterals, read-few}
 use Rattle.promises.proofs.Asserts.Sound.{Named, SoundBook, SoundForest}
@@ -58,5 +58,5 @@ made-sound bytes limit f e = on (read bytes) refl e
           few-answers = omega arith;
           few-strands = omega arith;
           clock-within = omega arith;
-          limit-within = leb-false MAX limit (or-right (eqb limit 0) (leb MAX limit) (a .0 .0));
+          limit-within = leb-false MAX limit (both-false (eqb limit 0) (leb MAX limit) (a .0 .0) .1);
         })

@@ -3,7 +3,7 @@ use Prim.Native.Nat.{ℕ, zero, suc, _≤_}
 use native.Mathlib.Omega.{arith}
 use borrow.Author.Tests.{eq-eqb}
 use mathlib.Core.Path.{_≡_, refl, sym, ap, subst, _∙_}
-use mathlib.Core.Bool.{true, false}
+use mathlib.Core.Bool.{true, false, true≢false, false≢true}
 use mathlib.Core.Logic.{inl, inr}
 use mathlib.Core.List.{[]}
 use lib.ListN.{length, getElem?}
@@ -20,7 +20,7 @@ use Rattle.definitions.specs.Turn.{root-answer}
 use Rattle.definitions.specs.Forest.{is-invalid}
 use Rattle.laws.proofs.Lists.{at-place}
 use Rattle.laws.proofs.Options.{same-some}
-use Rattle.promises.proofs.Asserts.Safe.{true-false, false-true, NotZero, case-option, case-bool, case-stops, case-safe, stop-go}
+use Rattle.promises.proofs.Asserts.Safe.{NotZero, case-option, case-bool, case-stops, case-safe, stop-go}
 use Rattle.promises.proofs.Asserts.Safe.{unwrapped, unwraps}
 use Rattle.promises.proofs.Asserts.Lists.{end, place-under, no-place}
 use Rattle.promises.proofs.Asserts.Sound.{Reached, SoundForest, Rooted, SoundState}
@@ -80,8 +80,8 @@ module _ (n root index : ℕ) where
   puts-back : (ending : Ending) (turns : ℕ) (s : SolveState) → Left n root index s → Fine ending → is-invalid ending ≡ false
       → Well n root index (put-back ending turns s)
   puts-back ending turns s x fine valid = case-safe (Well n root index) (x .1)
-      (λ m z. record { ended = x .0; fine = z; when-invalid = λ e. false-true e })
-      (λ f y. record { ended = y; fine = fine; when-invalid = λ e. true-false (sym e ∙ valid) })
+      (λ m z. record { ended = x .0; fine = z; when-invalid = λ e. absurd (false≢true e) })
+      (λ f y. record { ended = y; fine = fine; when-invalid = λ e. absurd (true≢false (sym e ∙ valid)) })
 
   -- with the answer in the root's table
   puts-answer : (turns : ℕ) (f : Forest) (es : Stack) → es ≡ [] → SoundForest n f → Rooted (f .tables) root (suc index)
@@ -117,7 +117,7 @@ module _ (n root index : ℕ) where
   begins : (limit : ℕ) (f : Forest) (x : Ended n root index f) → x .own .floundered ≡ false → index ≤ length (x .own .answers)
       → Well n root index (begin limit root index f)
   begins limit f x u o = case-safe (Well n root index) (ticks (x .sound))
-      (λ m z. record { ended = ended-kept x (mark-kept m (x .sound)); fine = z; when-invalid = λ e. false-true e })
+      (λ m z. record { ended = ended-kept x (mark-kept m (x .sound)); fine = z; when-invalid = λ e. absurd (false≢true e) })
       (λ f′ d.
       let k = d .0 in
       let few = k .sound .few-strands in
@@ -146,7 +146,7 @@ module _ (n root index : ℕ) where
       ))
 
   unfloundered-reached : (t : Table) → t .floundered ≡ false → Reached t index → index ≤ length (t .answers)
-  unfloundered-reached t u (inl e) = true-false (sym e ∙ u)
+  unfloundered-reached t u (inl e) = absurd (true≢false (sym e ∙ u))
   unfloundered-reached t u (inr o) = o
 
   -- a search for an answer that is stored or comes next
@@ -158,14 +158,14 @@ module _ (n root index : ℕ) where
       let r = subst (λ u. Reached u index) (same-some (sym (x .is-made) ∙ k)) (x .reached) in
       let here : Ended n root index f = record { sound = x .sound; own = t; is-made = k; reached = r } in
       case-bool (Well n root index) (t .floundered)
-      (λ u. record { ended = here; fine = tt; when-invalid = λ q. false-true q })
+      (λ u. record { ended = here; fine = tt; when-invalid = λ q. absurd (false≢true q) })
       (λ u. case-option (Well n root index) (answer t index)
       (λ q.
       let least = no-place (t .answers) index q in
       let most = unfloundered-reached t u r in
       case-bool (Well n root index) (eqb (next-answer-index t) index)
       (λ b. begins limit f here u most)
-      (λ b. true-false (sym (eq-eqb (length (t .answers)) index (omega arith)) ∙ b)))
+      (λ b. absurd (true≢false (sym (eq-eqb (length (t .answers)) index (omega arith)) ∙ b))))
       (λ a q.
       let under = place-under (t .answers) index a q in
       let there : Rooted (f .tables) root (suc index) = record { own = t; is-made = k; enough = under } in

@@ -3,7 +3,7 @@ use Prim.Native.Nat.{ℕ, suc, _-_, _<_}
 use native.Mathlib.Omega.{arith}
 use borrow.Author.Tests.{leb-false}
 use mathlib.Core.Path.{_≡_, refl, sym, ap, subst, _∙_}
-use mathlib.Core.Bool.{Bool, true, false, not, _&&_, _||_}
+use mathlib.Core.Bool.{Bool, true, false, not, _&&_, _||_, true≢false}
 use mathlib.Core.Logic.{inl, inr}
 use mathlib.Core.Option.{none, some}
 use mathlib.Core.List.{List, [], _∷_}
@@ -20,7 +20,7 @@ use Rattle.definitions.specs.Calls.{Call, opens, searches, peeks, asks-future, 
 use Rattle.definitions.specs.Model.{Each}
 use Rattle.laws.proofs.Lists.{at-place}
 use Rattle.promises.proofs.Reading.{all-pass}
-use Rattle.promises.proofs.Asserts.Safe.{true-false, NotZero, case-safe}
+use Rattle.promises.proofs.Asserts.Safe.{NotZero, case-safe}
 use Rattle.promises.proofs.Asserts.Sound.{Reached, SoundForest}
 use Rattle.promises.proofs.Asserts.Making.{makes}
 use Rattle.promises.proofs.Asserts.Returning.{passes-find}
@@ -48,7 +48,7 @@ quiet-reply r q = record {
   opens-without = λ e. subst Quiet e q;
   searches-without = λ turns e. subst Quiet e q;
   peeks-without = λ index turns exceeded e. subst Quiet e q .0;
-  peeks-past-invalid = λ index turns exceeded e. true-false (subst Quiet e q .1);
+  peeks-past-invalid = λ index turns exceeded e. absurd (true≢false (subst Quiet e q .1));
 }
 
 -- Calls.
@@ -84,7 +84,7 @@ module _ {n : ℕ} (f : Forest) (s : SoundForest n f) where
 
       by-tests : (u : Table) (a b : Bool) → ltb (length (u .answers)) i ≡ a → u .floundered ≡ b → (a && not b) ≡ false → Reached u i
       by-tests u true true p q e = inl q
-      by-tests u true false p q e = true-false e
+      by-tests u true false p q e = absurd (true≢false e)
       by-tests u false true p q e = inl q
       by-tests u false false p q e = let w = leb-false (suc (length (u .answers))) i p in inr (omega arith)
 

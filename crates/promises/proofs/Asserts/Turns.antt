@@ -2,7 +2,7 @@
 use Prim.Native.Nat.{ℕ, suc, _+_, _≤_, _<_}
 use native.Mathlib.Omega.{arith}
 use mathlib.Core.Path.{_≡_, refl, sym, ap, subst, _∙_}
-use mathlib.Core.Bool.{Bool}
+use mathlib.Core.Bool.{Bool, true≢false}
 use mathlib.Core.Option.{Option, none, some}
 use mathlib.Core.List.{List, [], _∷_}
 use lib.ListN.{getElem?, set, length}
@@ -15,7 +15,7 @@ use Rattle.definitions.specs.Stack.{StackEntry, Stack, with-active, active, act
 use Rattle.definitions.specs.Logic.{SolveState, with-forest, SubGoalSelection, Selected, NotSelected, select-subgoal}
 use Rattle.definitions.specs.Turn.{on-subgoal-selected, on-no-remaining-subgoals, on-no-strands-left, eligible, next-strand, turn}
 use Rattle.laws.proofs.Lists.{total-set}
-use Rattle.promises.proofs.Asserts.Safe.{true-false, Safe, goes, after, known, by-option, case-option}
+use Rattle.promises.proofs.Asserts.Safe.{Safe, goes, after, known, by-option, case-option}
 use Rattle.promises.proofs.Asserts.Lists.{All, all-first, all-rest, all-rotate, rotate-length}
 use Rattle.promises.proofs.Asserts.Sound.{SoundStrand, SoundForest, Active, SoundStack, SoundState}
 use Rattle.promises.proofs.Asserts.Keeping.{grows-above, strand-grows, Kept, strands-kept, table-is, change-is, table-sound}
@@ -74,7 +74,7 @@ module _ (n root index first : ℕ) where
       from-queue (some r) d =
           let f′ = with-tables f (set (f .tables) (e .table) (r .1)) in
           let c : Kept n f f′ = subst (λ t. Kept n f (with-tables f (set (f .tables) (e .table) t))) (d .1 .1)
-          (strands-kept (x .0 .forest) (e .table) k (d .1 .0) (λ q. true-false (sym q ∙ x .0 .standing .unfloundered))
+          (strands-kept (x .0 .forest) (e .table) k (d .1 .0) (λ q. absurd (true≢false (sym q ∙ x .0 .standing .unfloundered)))
           (let o = x .0 .forest .few-strands in let p = d .1 .3 in omega arith) (d .1 .2)) in
           let less = total-set (λ u. length (u .strands)) (f .tables) (e .table) own (r .1) k in
           let left : length (r .1 .strands) ≡ length (d .1 .0) = ap (λ t. length (t .strands)) (sym (d .1 .1)) in

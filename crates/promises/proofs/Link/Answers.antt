@@ -3,7 +3,7 @@ use Prim.Native.Nat.{ℕ, _≤_, _<_}
 use native.Mathlib.Omega.{arith}
 use borrow.Author.Tests.{lt-leb}
 use mathlib.Core.Path.{_≡_, refl, ap, _∙_}
-use mathlib.Core.Bool.{Bool, true, false}
+use mathlib.Core.Bool.{Bool, true, false, and-false}
 use mathlib.Core.Option.{none, some}
 use mathlib.Core.List.{List, [], _∷_}
 use lib.ListN.{length, getElem?, set}
@@ -26,7 +26,7 @@ use Rattle.promises.proofs.Link.View.{StackIs, s-end, s-more}
 use Rattle.promises.proofs.Link.Tables.{forest-of, Agree, agree-set}
 use Rattle.promises.proofs.Link.Sums.{held-few}
 use Rattle.promises.proofs.Link.Back.{table-here}
-use Rattle.promises.proofs.Link.Turn.{state-of, TurnIs, going, answered, lost, Lined, and-false}
+use Rattle.promises.proofs.Link.Turn.{state-of, TurnIs, going, answered, lost, Lined}
 use Rattle.promises.proofs.Link.Selected.{limits-of}
 
 abbrev with-answer : M.Forest → ℕ → M.Forest

@@ -20,6 +20,7 @@ use Rattle.definitions.specs.Calls.{searches-made}
 use Rattle.definitions.specs.Model as D
 use Rattle.definitions.specs.Claim.{OpenRefused, SearchRefused, ReadOff, EndingSays, ReplySays, reply-stopped, one-if, exceeded-among}
 use Rattle.laws.proofs.Lists.{at-place}
+use Rattle.laws.proofs.Bools.{both-false, not-zero}
 use Rattle.promises.proofs.Plain.Model as P
 use Rattle.promises.proofs.Plain.Claim as C
 use Rattle.promises.proofs.Plain.Machine as M
@@ -187,13 +188,7 @@ module _ (G : Premises) where
         (peeked-ok t g i (r - 1) (n - 1) passes enough at o R (ap (λ z. peek-rounds (r - 1) z 0 t i F) n-is ∙ e)))
 
     neither : (r n : ℕ) → (eqb r 0 || eqb n 0) ≡ false → (0 < r) × (0 < n)
-    neither zero n e = let z : _≡_ {A = ℕ} 0 1 = cc in absurd (omega arith)
-    neither (suc r) zero e = let w = or-true (eqb (suc r) 0) in let z : _≡_ {A = ℕ} 0 1 = cc in absurd (omega arith)
-      where
-        or-true : (b : Bool) → (b || true) ≡ true
-        or-true true = refl
-        or-true false = refl
-    neither (suc r) (suc n) e = (omega arith, omega arith)
+    neither r n e = let b = both-false (eqb r 0) (eqb n 0) e in (not-zero r (b .0), not-zero n (b .1))
 
     peeking : (t i r n : ℕ) (R : Peeked) → peek-rounds (r - 1) n 0 t i F ≡ R → (o : Refusable Peeked)
         → Comes (is-marked F refuses 20 ∷ not-made F t refuses 10 ∷ index-above F t i refuses 11 ∷ (eqb r 0 || eqb n 0) refuses 12 ∷ []) R o

@@ -4,7 +4,7 @@ use native.Mathlib.Omega.{arith}
 use native.Mathlib.Decide.{decLe, ℕ-discrete}
 use borrow.Author.Tests.{le-leb, lt-leb, le-ltb}
 use mathlib.Core.Path.{_≡_, refl, sym, ap, subst, _∙_}
-use mathlib.Core.Bool.{Bool, true, false}
+use mathlib.Core.Bool.{Bool, true, false, false≢true}
 use mathlib.Core.Option.{Option, none, some}
 use mathlib.Core.List.{List, [], _∷_, append-nil}
 use lib.ListN.{length, getElem?, set}
@@ -30,12 +30,9 @@ use Rattle.promises.proofs.Link.Turn.{state-of, TurnIs, going, gave-up,
 use Rattle.promises.proofs.Link.Selected.{limits-of, names-tail}
 use Rattle.promises.proofs.Link.Clearing.{strands-in, clears}
 
-false-true : {b : Bool} → b ≡ false → b ≡ true → ⊥
-false-true {b} e o = let z : _≡_ {A = ℕ} 0 1 = cc in omega arith
-
 -- the caller's strand is selected
 not-free : {b : Body} {t : ℕ} {s : M.Strand} → _≡_ {A = Option M.Strand} (some (machine-strand b false t)) (some s) → s .chosen ≡ true → ⊥
-not-free e o = false-true (ap (λ (z : M.Strand). z .chosen) (sym (same-some e))) o
+not-free e o = false≢true (ap (λ (z : M.Strand). z .chosen) (same-some e) ∙ o)
 
 -- a search that gives up, its stack unwound
 over : {book : Book} {limit : ℕ} {gs : List ℕ} {before : M.Forest} {r : ℕ} {ts : Tables} {p : M.Forest} → Agree book gs ts p

@@ -4,7 +4,7 @@ use native.Mathlib.Omega.{arith}
 use native.Mathlib.Decide.{decLt}
 use borrow.Author.Tests.{leb-false}
 use mathlib.Core.Path.{_≡_, refl, sym, ap, subst, _∙_}
-use mathlib.Core.Bool.{Bool, true, false, _&&_}
+use mathlib.Core.Bool.{Bool, true, false, and-true}
 use mathlib.Core.Logic.{_⊎_, inl, inr}
 use mathlib.Core.Option.{some}
 use mathlib.Core.List.{List, [], _∷_}
@@ -27,10 +27,6 @@ use Rattle.promises.proofs.Link.Back.{table-here}
 use Rattle.promises.proofs.Link.Premises.{Premises, setting-of, limits-in, forest-in}
 use Rattle.promises.proofs.Link.Searches.{EndIs, found-is, none-is, again-is, cut-is, stopped-is, SearchIs, stored-is, begin-is}
 use Rattle.promises.proofs.Link.Searches.{stored-search}
-
-and-true : (b : Bool) → (b && true) ≡ b
-and-true true = refl
-and-true false = refl
 
 -- the index is not above the answers
 pub index-within : {book : Book} (limit mark c : ℕ) {gs : List ℕ} {ts : Tables} {p : M.Forest} → Agree book gs ts p → (t g i : ℕ)

@@ -4,7 +4,7 @@ use native.Mathlib.Omega.{arith}
 use native.Mathlib.Decide.{decLt}
 use borrow.Author.Tests.{le-leb, lt-leb}
 use mathlib.Core.Path.{_≡_, refl, ap, _∙_}
-use mathlib.Core.Bool.{Bool, true, false}
+use mathlib.Core.Bool.{Bool, true, false, and-false}
 use mathlib.Core.Option.{Option, none, some}
 use mathlib.Core.List.{List, [], _∷_}
 use lib.ListN.{length, getElem?, take}
@@ -26,7 +26,7 @@ use Rattle.promises.proofs.Link.Lists.{last-gone}
 use Rattle.promises.proofs.Link.Tables.{tables-map, forest-of, Agree}
 use Rattle.promises.proofs.Link.Back.{table-here, enqueued, unwound-is}
 use Rattle.promises.proofs.Link.Turn.{state-of, TurnIs, going, gave-up, clock-out, Lined, lined-top, lined-busy, lined-apart}
-use Rattle.promises.proofs.Link.Turn.{CycleIs, no-cycle, a-cycle, cycle-is, and-false}
+use Rattle.promises.proofs.Link.Turn.{CycleIs, no-cycle, a-cycle, cycle-is}
 
 abbrev pub limits-of : Book → (limit : ℕ) → M.Limits
 limits-of book limit = record { goals = length book; limit = limit; max = MAX }

@@ -4,7 +4,7 @@ use native.Mathlib.Omega.{arith}
 use native.Mathlib.Decide.{decLt}
 use borrow.Author.Tests.{lt-ltb, le-ltb}
 use mathlib.Core.Path.{_≡_, refl, sym, subst}
-use mathlib.Core.Bool.{Bool, true, false}
+use mathlib.Core.Bool.{Bool, true, false, and-false}
 use mathlib.Core.Option.{Option, none, some}
 use mathlib.Core.List.{List, [], _∷_, _++_, append-nil, append-assoc}
 use lib.ListN.{take, drop}
@@ -16,7 +16,6 @@ use Rattle.definitions.specs.Turn.{eligible}
 use Rattle.promises.proofs.Plain.Machine as M
 use Rattle.promises.proofs.Link.View.{StrandIs, free, bound, QueueIs, q-end, q-more}
 use Rattle.promises.proofs.Link.Tables.{queue-append}
-use Rattle.promises.proofs.Link.Turn.{and-false}
 
 module _ {n : ℕ} {gs : List ℕ} (c : ℕ) (mode : AnswerMode) where
   may : {s : Strand} {m : M.Strand} → StrandIs n gs s m → m .time < c → eligible c mode s ≡ true

@@ -3,7 +3,7 @@ use Prim.Native.Nat.{ℕ, _≤_}
 use native.Mathlib.Decide.{ℕ-discrete}
 use borrow.Author.Tests.{eq-eqb, ne-eqb}
 use mathlib.Core.Path.{_≡_, refl, sym, ap, subst, _∙_}
-use mathlib.Core.Bool.{Bool, true, false, _&&_}
+use mathlib.Core.Bool.{Bool, true, false}
 use mathlib.Core.Logic.{inl, inr}
 use mathlib.Core.Option.{Option, none, some}
 use mathlib.Core.List.{List, [], _∷_}
@@ -120,7 +120,3 @@ module _ (n : ℕ) (gs : List ℕ) (distinct : Distinct gs) (j u : ℕ) (named :
           (rw (eq-eqb i j (distinct i j u (e ∙ ap some k) named)) (a-cycle refl refl))
       at (no k) x = cycle-next (entry-of i c p r a) ds (is-active j ds) (M.find-clock u es)
           (ne-eqb i j (λ y. k (same-some (sym e ∙ ap (getElem? gs) y ∙ named)))) refl x
-
-pub and-false : (b : Bool) → (b && false) ≡ false
-and-false true = refl
-and-false false = refl

@@ -3,7 +3,7 @@ use Prim.Native.Nat.{ℕ, suc, _≤_, _<_, min}
 use native.Mathlib.Omega.{arith}
 use native.Mathlib.Decide.{decLe, ℕ-discrete}
 use mathlib.Core.Path.{_≡_, refl, sym, ap, subst, _∙_}
-use mathlib.Core.Bool.{Bool, true, false}
+use mathlib.Core.Bool.{Bool, true, false, true≢false}
 use mathlib.Core.Logic.{_⊎_, inl, inr}
 use mathlib.Core.Option.{Option, none, some}
 use mathlib.Core.List.{List, [], _∷_, List·Memᴰ, List·Memᴰ·tail, List·Memᴰ·not-nil}
@@ -72,9 +72,6 @@ pos-inj {h} {v} {b} {d} e = cc
 pub neg-pos : {h v : ℕ} {b d : Body} → neg h ∷ b ≡ pos v ∷ d → ⊥
 neg-pos {h} {v} {b} {d} e = let z : _≡_ {A = ℕ} 0 1 = cc in omega arith
 
-pub true-false : {b : Bool} → b ≡ true → b ≡ false → ⊥
-true-false {b} p q = let z : _≡_ {A = ℕ} 0 1 = cc in omega arith
-
 module _ (S : Setting) (ans : ℕ → Bool) (q : Queues) (k : ℕ) (e : Entry) (es : List Entry) (inv : Inv S ans q k e es) where
   -- a strand is taken from the queue
   pub case-take : (s : Strand) (r : List Strand) → e .active ≡ none → ((t : Strand) → List·Memᴰ t r → List·Memᴰ t (q (e .goal)))
@@ -98,7 +95,7 @@ module _ (S : Setting) (ans : ℕ → Bool) (q : Queues) (k : ℕ) (e : Entry) (
       let child : Child S ans (e .goal) k k s (popped (e .clock) b) = record {
         good = good-pop S (e .goal) (e .clock) s (pos h) b p (inv .fine .proved h t);
         time = λ x. inv .now;
-        keeps = λ v d l y n. absurd (true-false t (subst (λ w. ans w ≡ false) (sym (pos-inj (sym p ∙ l))) n));
+        keeps = λ v d l y n. absurd (true≢false (sym t ∙ subst (λ w. ans w ≡ false) (sym (pos-inj (sym p ∙ l))) n));
       } in
       let step = step-active S {ans = ans} {k = k} q e (entry-with e (some (popped (e .clock) b))) es s (popped (e .clock) b) a refl refl
       child (pop-within (pos h) b s p) in

@@ -9,11 +9,12 @@ use mathlib.Core.Option.{none, some}
 use mathlib.Core.List.{List, [], _∷_, _++_, List·Memᴰ, List·Memᴰ·head, List·Memᴰ·tail, List·Memᴰ·not-nil, List·Memᴰ·append-cases}
 use Rattle.promises.proofs.Plain.Model.{pos, Body, FalseBody, either}
 use Rattle.promises.proofs.Plain.Machine.{Strand, Entry, Queues, pick, put, awaited-goal, clear-next, clear, total}
-use Rattle.promises.proofs.Plain.Steps.{Setting, Holds, at-put, put-here, none-some}
+use Rattle.promises.proofs.Plain.Steps.{Setting, Holds, at-put, put-here}
 use Rattle.promises.proofs.Plain.Stack.{On, OnFrom, Waits, Place, SettledAt, Piled, settled-waits}
 use Rattle.promises.proofs.Plain.Cases.{Inv, top-new}
 use Rattle.promises.proofs.Plain.Pops.{act-on}
 use lib.ListN.{length, length-append}
+use Rattle.laws.proofs.Options.{no-such}
 
 pub total-mono : (n : ℕ) (f f' : ℕ → ℕ) → ((g : ℕ) → f' g ≤ f g) → total n f' ≤ total n f
 total-mono zero f f' h = omega arith
@@ -136,7 +137,7 @@ module _ (S : Setting) (ans : ℕ → Bool) (q : Queues) (k : ℕ) (e : Entry) (
   stuck : (u : ℕ) → Unfounded u → (s : Strand) → Holds q (e ∷ es) u s → Stuck Unfounded s
   unfolding Unfounded
   stuck u (inl p) s (inl m) = let z = subst (λ v. List·Memᴰ s (q v)) (sym p) m in stuck-of s (settled-waits S settled s z (late s z))
-  stuck u (inl p) s (inr (inl (x, y))) = absurd (none-some (sym idle ∙ y))
+  stuck u (inl p) s (inr (inl (x, y))) = absurd (no-such (sym idle ∙ y))
   stuck u (inl p) s (inr (inr x)) = absurd (settled .new (subst (λ v. On v es) (sym p) (act-on es u s x)))
   stuck u (inr m) s h = stuck-of s (settled .others u m s h)
 

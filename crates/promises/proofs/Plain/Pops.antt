@@ -3,19 +3,20 @@ use Prim.Native.Nat.{ℕ, _≤_, _<_, min}
 use native.Mathlib.Omega.{arith}
 use native.Mathlib.Decide.{decLe, ℕ-discrete}
 use mathlib.Core.Path.{_≡_, refl, sym, ap, subst, _∙_}
-use mathlib.Core.Bool.{Bool, true, false}
+use mathlib.Core.Bool.{Bool, true, false, true≢false}
 use mathlib.Core.Logic.{_⊎_, inl, inr}
 use mathlib.Core.Option.{none, some}
 use mathlib.Core.List.{List, [], _∷_, _++_, List·Memᴰ, List·Memᴰ·head, List·Memᴰ·tail, List·Memᴰ·not-nil, Memᴰ·append-left}
 use mathlib.Core.List.{Memᴰ·append-right, List·Memᴰ·append-cases, List·Memᴰ·cases-cons}
+use Rattle.laws.proofs.Options.{no-such, same-some}
 use Rattle.promises.proofs.Plain.Model.{Lit, pos, neg, Body, literal-goal, LevelBody, level-head, TrueBody, all-end, FalseBody}
 use Rattle.promises.proofs.Plain.Model.{either}
 use Rattle.promises.proofs.Plain.Machine.{Strand, Entry, Queues, pick, put, entry-with, with-mins, append, popped}
-use Rattle.promises.proofs.Plain.Steps.{Setting, Within, Fine, Child, fine-step, step-trans, Act, Holds, at-put, some-inj, none-some}
+use Rattle.promises.proofs.Plain.Steps.{Setting, Within, Fine, Child, fine-step, step-trans, Act, Holds, at-put}
 use Rattle.promises.proofs.Plain.Steps.{append-back, step-on, step-off, step-restore, step-active}
 use Rattle.promises.proofs.Plain.Stack.{On, Reach, Waits, Place, Calls, SettledAt, waits-kept, settled-kept, call-level, levels-fall}
 use Rattle.promises.proofs.Plain.Stack.{reach-on, on-weaken, waits-map, settled-waits, piled-answered}
-use Rattle.promises.proofs.Plain.Cases.{Inv, put-off, top-new, retop, pop-within, good-pop, neg-pos, true-false}
+use Rattle.promises.proofs.Plain.Cases.{Inv, put-off, top-new, retop, pop-within, good-pop, neg-pos}
 
 pub act-on : (es : List Entry) (u : ℕ) (s : Strand) → Act es u s → On u es
 act-on (e ∷ es) u s (inl p) = inl (p .0)
@@ -65,7 +66,7 @@ fine-answered S ans q k e es fine true-goal off = record {
 
     kept : (g : ℕ) (d : Dec (e .goal ≡ g)) → pick d true (ans g) ≡ false → (c : Body) → List·Memᴰ c (S .book g)
         → FalseBody (S .I) c ⊎ ((s : Strand) × (List·Memᴰ s (pick d [] (q g)) ⊎ Act es g s) × Within (s .lits) c)
-    kept g (yes p) a c m = absurd (true-false refl a)
+    kept g (yes p) a c m = absurd (true≢false a)
     kept g (no n) a c m = either inl (λ x. inr (x .0, keep g (x .0) n (x .1), x .2)) (fine .kept g a c m)
 
 module _ (S : Setting) (ans : ℕ → Bool) (q : Queues) (k : ℕ) (e : Entry) (es : List Entry) (inv : Inv S ans q k e es) where
@@ -85,7 +86,7 @@ module _ (S : Setting) (ans : ℕ → Bool) (q : Queues) (k : ℕ) (e : Entry) (
     where
       no-strand : (s : Strand) → Holds q (e ∷ es) (e .goal) s → ⊥
       no-strand s (inl m) = List·Memᴰ·not-nil (subst (List·Memᴰ s) p m)
-      no-strand s (inr (inl (x, o))) = none-some (sym a ∙ o)
+      no-strand s (inr (inl (x, o))) = no-such (sym a ∙ o)
       no-strand s (inr (inr x)) = top-off (act-on es (e .goal) s x)
 
 module _ (S : Setting) (ans : ℕ → Bool) (q : Queues) (k : ℕ) (e c : Entry) (es : List Entry) (inv : Inv S ans q k e (c ∷ es)) where
@@ -95,13 +96,13 @@ module _ (S : Setting) (ans : ℕ → Bool) (q : Queues) (k : ℕ) (e c : Entry)
   -- the caller's strand, its first literal
   pub call-names : (l : Lit) (s : Strand) (b : Body) → c .active ≡ some s → s .lits ≡ l ∷ b → literal-goal l ≡ e .goal
   call-names l s b a p = sym (same-lit (called .lit) (called .rest)
-      (sym (called .lits) ∙ ap (λ z. z .lits) (some-inj (sym (called .active) ∙ a)) ∙ p)) ∙ called .names
+      (sym (called .lits) ∙ ap (λ z. z .lits) (same-some (sym (called .active) ∙ a)) ∙ p)) ∙ called .names
     where
       same-lit : (x : Lit) (d : Body) → x ∷ d ≡ l ∷ b → literal-goal x ≡ literal-goal l
       same-lit x d o = let y : x ≡ l = cc in ap literal-goal y
 
   pub call-chosen : (s : Strand) → c .active ≡ some s → (s .chosen ≡ true) × (s .time ≤ c .clock)
-  call-chosen s a = subst (λ t. (t .chosen ≡ true) × (t .time ≤ c .clock)) (some-inj (sym (called .active) ∙ a))
+  call-chosen s a = subst (λ t. (t .chosen ≡ true) × (t .time ≤ c .clock)) (same-some (sym (called .active) ∙ a))
       (called .chosen, called .time)
 
   pub case-answered : (s : Strand) → e .active ≡ some s → s .lits ≡ [] → Inv S (put ans (e .goal) true) (put q (e .goal) []) k c es
@@ -239,7 +240,7 @@ module _ (S : Setting) (ans : ℕ → Bool) (q : Queues) (k : ℕ) (e c : Entry)
       own : (P : List ℕ) (u : ℕ) (x : Strand) → e .goal ≡ u → Holds q (e ∷ c ∷ es) u x → Waits ans (New P) x
       own P u x w (inl y) = let z = subst (λ v. List·Memᴰ x (q v)) (sym w) y in
           waits-map (from-upper P) (settled-waits S (inv .piled .1) x z (late x z))
-      own P u x w (inr (inl (y, z))) = absurd (none-some (sym a ∙ z))
+      own P u x w (inr (inl (y, z))) = absurd (no-such (sym a ∙ z))
       own P u x w (inr (inr y)) = absurd (inv .piled .1 .new (subst (λ v. On v (c ∷ es)) (sym w) (act-on (c ∷ es) u x y)))
 
       other : (P : List ℕ) → SettledAt S ans (Holds q (e ∷ c ∷ es)) q c es P → (u : ℕ) (x : Strand) → Holds q (e ∷ c ∷ es) u x

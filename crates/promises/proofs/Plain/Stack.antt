@@ -7,9 +7,10 @@ use mathlib.Core.Bool.{Bool, true, false}
 use mathlib.Core.Logic.{_⊎_, inl, inr}
 use mathlib.Core.Option.{none, some}
 use mathlib.Core.List.{List, [], _∷_, List·Memᴰ}
+use Rattle.laws.proofs.Options.{no-such, same-some}
 use Rattle.promises.proofs.Plain.Model.{Lit, pos, neg, Body, literal-goal, LevelLit, LevelBody, level-head}
 use Rattle.promises.proofs.Plain.Machine.{Strand, Entry, Queues, pick, put, find-clock}
-use Rattle.promises.proofs.Plain.Steps.{Setting, Good, Keeps, Step, Act, put-there, some-inj, none-some}
+use Rattle.promises.proofs.Plain.Steps.{Setting, Good, Keeps, Step, Act, put-there}
 
 -- u is on the stack
 abbrev pub On : ℕ → List Entry → Type 0
@@ -125,21 +126,21 @@ reach-on level m n (e ∷ es) (inr r) = let x = reach-on level m n es r in (x .0
 
 -- where the table of a selected literal is looked for
 pub found-on : (u : ℕ) (es : List Entry) (c : ℕ) → find-clock u es ≡ some c → OnFrom c u es
-found-on u [] c p = absurd (none-some p)
+found-on u [] c p = absurd (no-such p)
 found-on u (e ∷ es) c p = go (found-on u es c) (ℕ-discrete (e .goal) u) p
   where
     go : (find-clock u es ≡ some c → OnFrom c u es) → (d : Dec (e .goal ≡ u)) → pick d (some (e .clock)) (find-clock u es) ≡ some c
         → OnFrom c u (e ∷ es)
-    go r (yes o) x = inl (o, let y : e .clock ≡ c = some-inj x in omega arith)
+    go r (yes o) x = inl (o, let y : e .clock ≡ c = same-some x in omega arith)
     go r (no o) x = inr (r x)
 
 pub found-reach : (level : ℕ → ℕ) (n u : ℕ) (es : List Entry) (c : ℕ) → level u ≤ n → find-clock u es ≡ some c → Reach level c n es
-found-reach level n u [] c v p = absurd (none-some p)
+found-reach level n u [] c v p = absurd (no-such p)
 found-reach level n u (e ∷ es) c v p = go (found-reach level n u es c v) (ℕ-discrete (e .goal) u) p
   where
     go : (find-clock u es ≡ some c → Reach level c n es) → (d : Dec (e .goal ≡ u)) → pick d (some (e .clock)) (find-clock u es) ≡ some c
         → Reach level c n (e ∷ es)
-    go r (yes o) x = inl (let y : e .clock ≡ c = some-inj x in omega arith, let z : level (e .goal) ≡ level u = ap level o in omega arith)
+    go r (yes o) x = inl (let y : e .clock ≡ c = same-some x in omega arith, let z : level (e .goal) ≡ level u = ap level o in omega arith)
     go r (no o) x = inr (r x)
 
 pub found-below : (level : ℕ → ℕ) (n u : ℕ) (e : Entry) (es : List Entry) (c : ℕ) → level u ≤ n → c < e .clock
@@ -147,7 +148,7 @@ pub found-below : (level : ℕ → ℕ) (n u : ℕ) (e : Entry) (es : List Entry
 found-below level n u e es c v lt p = go (ℕ-discrete (e .goal) u) p
   where
     go : (d : Dec (e .goal ≡ u)) → pick d (some (e .clock)) (find-clock u es) ≡ some c → Reach level c n es
-    go (yes o) x = absurd (let y : e .clock ≡ c = some-inj x in omega arith)
+    go (yes o) x = absurd (let y : e .clock ≡ c = same-some x in omega arith)
     go (no o) x = found-reach level n u es c v x
 
 pub not-on : (u : ℕ) (es : List Entry) → find-clock u es ≡ none → On u es → ⊥
@@ -155,7 +156,7 @@ not-on u (e ∷ es) p o = go (not-on u es) (ℕ-discrete (e .goal) u) p o
   where
     go : (find-clock u es ≡ none → On u es → ⊥) → (d : Dec (e .goal ≡ u)) → pick d (some (e .clock)) (find-clock u es) ≡ none
         → On u (e ∷ es) → ⊥
-    go r (yes o) x a = none-some (sym x)
+    go r (yes o) x a = no-such (sym x)
     go r (no o) x (inl a) = o a
     go r (no o) x (inr a) = r x a
 

@@ -8,6 +8,7 @@ use mathlib.Core.Logic.{_⊎_, inl, inr}
 use mathlib.Core.Option.{Option, none, some}
 use mathlib.Core.List.{List, [], _∷_, _++_, List·Memᴰ, List·Memᴰ·head, Memᴰ·append-left, Memᴰ·append-right, List·Memᴰ·append-cases}
 use mathlib.Core.List.{List·Memᴰ·eq-of-singleton}
+use Rattle.laws.proofs.Options.{no-such, same-some}
 use Rattle.promises.proofs.Plain.Model.{Lit, pos, Body, Book, LevelBody, TrueBody, FalseBody, Blocked, either}
 use Rattle.promises.proofs.Plain.Machine.{Limits, Strand, Entry, Queues, pick, put, append, restore, all-back}
 
@@ -132,12 +133,6 @@ put-there f g u a o = go (ℕ-discrete g u)
     go (yes p) = absurd (o p)
     go (no n) = refl
 
-pub some-inj : {A : Type 0} {a b : A} → some a ≡ some b → a ≡ b
-some-inj {A} {a} {b} e = cc
-
-pub none-some : {A : Type 0} {a : A} → none ≡ some a → ⊥
-none-some {A} {a} e = let z : _≡_ {A = ℕ} 0 1 = cc in omega arith
-
 -- a strand more at the end of g's queue
 pub append-back : (q : Queues) (g : ℕ) (s : Strand) (u : ℕ) (t : Strand) (d : Dec (g ≡ u)) → List·Memᴰ t (pick d (q g ++ (s ∷ [])) (q u))
     → List·Memᴰ t (q u) ⊎ ((g ≡ u) × (s ≡ t))
@@ -162,7 +157,7 @@ module _ (S : Setting) {ans : ℕ → Bool} {k : ℕ} where
     where
       back : (g : ℕ) (s : Strand) → Holds q (e ∷ es) g s → Holds q es g s
       back g s (inl m) = inl m
-      back g s (inr (inl (p, o))) = absurd (none-some (sym a ∙ o))
+      back g s (inr (inl (p, o))) = absurd (no-such (sym a ∙ o))
       back g s (inr (inr x)) = inr x
 
   pub step-off : (q : Queues) (e : Entry) (es : List Entry) → e .active ≡ none → Step S ans (Holds q (e ∷ es)) k (Holds q es) k
@@ -170,7 +165,7 @@ module _ (S : Setting) {ans : ℕ → Bool} {k : ℕ} where
     where
       on : (g : ℕ) (s : Strand) → Holds q (e ∷ es) g s → Holds q es g s
       on g s (inl m) = inl m
-      on g s (inr (inl (p, o))) = absurd (none-some (sym a ∙ o))
+      on g s (inr (inl (p, o))) = absurd (no-such (sym a ∙ o))
       on g s (inr (inr x)) = inr x
 
   -- an entry gives its strand back and goes
@@ -185,7 +180,7 @@ module _ (S : Setting) {ans : ℕ → Bool} {k : ℕ} where
 
       on : (u : ℕ) (t : Strand) → Holds q (e ∷ es) u t → Holds (append q (e .goal) s) es u t
       on u t (inl m) = inl (append-on q (e .goal) s u t (ℕ-discrete (e .goal) u) m)
-      on u t (inr (inl (p, o))) = inl (append-new q (e .goal) s u t (ℕ-discrete (e .goal) u) p (some-inj (sym a ∙ o)))
+      on u t (inr (inl (p, o))) = inl (append-new q (e .goal) s u t (ℕ-discrete (e .goal) u) p (same-some (sym a ∙ o)))
       on u t (inr (inr x)) = inr x
 
   pub step-back : (q : Queues) (es : List Entry) → Step S ans (Holds q es) k (Holds (all-back q es) []) k
@@ -203,7 +198,7 @@ module _ (S : Setting) {ans : ℕ → Bool} {k : ℕ} where
       from u x (inr (inl (p, o))) = (
         s,
         inr (inl (sym g' ∙ p, a)),
-        subst (λ z. Child S ans u k k s z) (some-inj (sym a' ∙ o))
+        subst (λ z. Child S ans u k k s z) (same-some (sym a' ∙ o))
             (subst (λ v. Child S ans v k k s t) (sym g' ∙ p) c),
       )
       from u x (inr (inr y)) = (x, inr (inr y), same S u k x)
@@ -211,7 +206,7 @@ module _ (S : Setting) {ans : ℕ → Bool} {k : ℕ} where
       to : (u : ℕ) (x : Strand) → Holds q (e ∷ es) u x
           → FalseBody (S .I) (x .lits) ⊎ ((y : Strand) × Holds q (e' ∷ es) u y × Within (y .lits) (x .lits))
       to u x (inl m) = inr (x, inl m, λ l i. i)
-      to u x (inr (inl (p, o))) = inr (t, inr (inl (g' ∙ p, a')), subst (λ z. Within (t .lits) (z .lits)) (some-inj (sym a ∙ o)) w)
+      to u x (inr (inl (p, o))) = inr (t, inr (inl (g' ∙ p, a')), subst (λ z. Within (t .lits) (z .lits)) (same-some (sym a ∙ o)) w)
       to u x (inr (inr y)) = inr (x, inr (inr y), λ l i. i)
 
   -- the top goes, with a strand that is false
@@ -226,7 +221,7 @@ module _ (S : Setting) {ans : ℕ → Bool} {k : ℕ} where
       to : (u : ℕ) (x : Strand) → Holds q (e ∷ es) u x
           → FalseBody (S .I) (x .lits) ⊎ ((y : Strand) × Holds q es u y × Within (y .lits) (x .lits))
       to u x (inl m) = inr (x, inl m, λ l i. i)
-      to u x (inr (inl (p, o))) = inl (subst (λ z. FalseBody (S .I) (z .lits)) (some-inj (sym a ∙ o)) f)
+      to u x (inr (inl (p, o))) = inl (subst (λ z. FalseBody (S .I) (z .lits)) (same-some (sym a ∙ o)) f)
       to u x (inr (inr y)) = inr (x, inr y, λ l i. i)
 
   -- the top takes a strand from its queue
@@ -241,7 +236,7 @@ module _ (S : Setting) {ans : ℕ → Bool} {k : ℕ} where
       back u t (inl m) = inl (either (λ p. subst (λ v. List·Memᴰ t (q v)) (p .0) (less t (p .1))) (λ p. p .1)
           (at-put q (e .goal) u r t (ℕ-discrete (e .goal) u) m))
       back u t (inr (inl (p, o))) = inl (subst (λ v. List·Memᴰ t (q v)) (sym g' ∙ p)
-          (subst (λ z. List·Memᴰ z (q (e .goal))) (some-inj (sym a' ∙ o)) mem))
+          (subst (λ z. List·Memᴰ z (q (e .goal))) (same-some (sym a' ∙ o)) mem))
       back u t (inr (inr x)) = inr (inr x)
 
       split : (u : ℕ) (t : Strand) → Dec (e .goal ≡ u) → List·Memᴰ t (q u) → Holds (put q (e .goal) r) (e' ∷ es) u t
@@ -251,7 +246,7 @@ module _ (S : Setting) {ans : ℕ → Bool} {k : ℕ} where
 
       on : (u : ℕ) (t : Strand) → Holds q (e ∷ es) u t → Holds (put q (e .goal) r) (e' ∷ es) u t
       on u t (inl m) = split u t (ℕ-discrete (e .goal) u) m
-      on u t (inr (inl (p, o))) = absurd (none-some (sym a ∙ o))
+      on u t (inr (inl (p, o))) = absurd (no-such (sym a ∙ o))
       on u t (inr (inr x)) = inr (inr x)
 
   -- some queues lose strands that are false

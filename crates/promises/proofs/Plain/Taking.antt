@@ -8,8 +8,8 @@ use mathlib.Core.Option.{none, some}
 use mathlib.Core.List.{List, [], _∷_, _++_, List·Memᴰ, List·Memᴰ·head, List·Memᴰ·tail, List·Memᴰ·not-nil, Memᴰ·append-left}
 use mathlib.Core.List.{Memᴰ·append-right, List·Memᴰ·append-cases, List·Memᴰ·eq-of-singleton, List·Memᴰ·cases-cons}
 use lib.ListN.{length, length-append}
+use Rattle.laws.proofs.Options.{no-such, same-some}
 use Rattle.promises.proofs.Plain.Model.{either}
-use Rattle.promises.proofs.Plain.Steps.{some-inj, none-some}
 use Rattle.promises.proofs.Plain.Machine.{Strand, Queues, pick, put, take-at, take-from}
 
 -- what taking a strand from a queue does; pre has been passed over
@@ -40,12 +40,12 @@ taken-later pre xs x s r k = record {
 }
 
 pub taken : (c : ℕ) (pre q : List Strand) (s : Strand) (r : List Strand) → take-from c pre q ≡ some (s, r) → Taken pre q s r
-taken c pre [] s r p = absurd (none-some p)
+taken c pre [] s r p = absurd (no-such p)
 taken c pre (x ∷ xs) s r p = go (decLt (x .time) c) p (taken c (pre ++ (x ∷ [])) xs s r)
   where
     go : (d : Dec (x .time < c)) → take-at d x (xs ++ pre) (take-from c (pre ++ (x ∷ [])) xs) ≡ some (s, r)
         → (take-from c (pre ++ (x ∷ [])) xs ≡ some (s, r) → Taken (pre ++ (x ∷ [])) xs s r) → Taken pre (x ∷ xs) s r
-    go (yes o) e k = subst (λ (z : Strand × List Strand). Taken pre (x ∷ xs) (z .0) (z .1)) (some-inj e) (taken-here pre xs x)
+    go (yes o) e k = subst (λ (z : Strand × List Strand). Taken pre (x ∷ xs) (z .0) (z .1)) (same-some e) (taken-here pre xs x)
     go (no o) e k = taken-later pre xs x s r (k e)
 
 pub none-taken : (c : ℕ) (pre q : List Strand) → take-from c pre q ≡ none → (t : Strand) → List·Memᴰ t q → t .time < c → ⊥
@@ -54,7 +54,7 @@ none-taken c pre (x ∷ xs) p t m o = go (decLt (x .time) c) p (none-taken c (pr
   where
     go : (d : Dec (x .time < c)) → take-at d x (xs ++ pre) (take-from c (pre ++ (x ∷ [])) xs) ≡ none
         → (take-from c (pre ++ (x ∷ [])) xs ≡ none → (t : Strand) → List·Memᴰ t xs → t .time < c → ⊥) → (t ≡ x) ⊎ List·Memᴰ t xs → ⊥
-    go (yes l) e k i = none-some (sym e)
+    go (yes l) e k i = no-such (sym e)
     go (no l) e k (inl i) = l (subst (λ z. z .time < c) i o)
     go (no l) e k (inr i) = k e t i o
 

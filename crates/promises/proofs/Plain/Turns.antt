@@ -3,19 +3,20 @@ use Prim.Native.Nat.{ℕ, suc, _+_, _≤_, _<_, min}
 use native.Mathlib.Omega.{arith}
 use native.Mathlib.Decide.{decLt, decLe, ℕ-discrete}
 use mathlib.Core.Path.{_≡_, refl, sym, ap, subst, _∙_}
-use mathlib.Core.Bool.{Bool, true, false}
+use mathlib.Core.Bool.{Bool, true, false, true≢false}
 use mathlib.Core.Logic.{inl, inr}
 use mathlib.Core.Option.{Option, none, some}
 use mathlib.Core.List.{List, [], _∷_, _++_, List·Memᴰ, List·Memᴰ·head, List·Memᴰ·not-nil}
 use Rattle.promises.proofs.Plain.Model.{Lit, pos, neg, Body, literal-goal, either}
-use Rattle.promises.proofs.Plain.Steps.{Setting, Fine, Step, fine-step, step-trans, Holds, moved, put-here, some-inj, none-some}
+use Rattle.promises.proofs.Plain.Steps.{Setting, Fine, Step, fine-step, step-trans, Holds, moved, put-here}
 use Rattle.promises.proofs.Plain.Steps.{step-off, step-back, step-drop, step-less}
 use Rattle.promises.proofs.Plain.Stack.{nil-cons}
-use Rattle.promises.proofs.Plain.Cases.{Inv, remade, top-new, true-false, case-take, case-popped, case-park, case-no-cycle}
+use Rattle.promises.proofs.Plain.Cases.{Inv, remade, top-new, case-take, case-popped, case-park, case-no-cycle}
 use Rattle.promises.proofs.Plain.Cases.{case-push}
 use Rattle.promises.proofs.Plain.Pops.{top-pending, fine-answered, case-proved, case-unproved, case-answered, case-not, case-false}
 use Rattle.promises.proofs.Plain.Pops.{case-no-not, case-cycle, case-no-root}
 use lib.ListN.{length, length-append}
+use Rattle.laws.proofs.Options.{no-such, same-some}
 use Rattle.promises.proofs.Plain.Machine.{Strand, Entry, Queues, Forest, pick, put, with-queue, make, entry-with, append, popped}
 use Rattle.promises.proofs.Plain.Machine.{pursued, restore, all-back, take-from, find-clock, clear, total, Outcome, found}
 use Rattle.promises.proofs.Plain.Machine.{no-more-left, again, cut, clock-ended, noted, refused, negative-cycled, unselected}
@@ -137,7 +138,7 @@ module _ (S : Setting) (B L : ℕ → ℕ) where
   answering-ok : (b : Bool) (f : Forest) (e : Entry) (es : List Entry) (s : Strand) → Inv S (f .answered) (f .queue) (f .clock) e es
       → e .active ≡ some s → s .lits ≡ [] → f .answered (e .goal) ≡ b
       → ((u : ℕ) → Fits B L f (e ∷ es) u) → TurnOK S (root-of e es) B L (answering (S .limits) b f e es)
-  answering-ok true f e es s inv a p t few = absurd (true-false t (top-pending S (f .answered) (f .queue) (f .clock) e es inv))
+  answering-ok true f e es s inv a p t few = absurd (true≢false (sym t ∙ top-pending S (f .answered) (f .queue) (f .clock) e es inv))
   answering-ok false f e [] s inv a p t few =
       let proof = case-proved S (f .answered) (f .queue) (f .clock) e [] inv s a p in
       record {
@@ -224,7 +225,7 @@ module _ (S : Setting) (B L : ℕ → ℕ) where
       → ((u : ℕ) → Fits B L f (e ∷ c ∷ es) u) → TurnOK S (root-of c es) B L (empty-at (S .limits) b s f c es)
   empty-at-ok [] f e c es s inv a n a' p few =
       let k = inv .piled .2 in
-      absurd (nil-cons (sym p ∙ sym (ap (λ z. z .lits) (some-inj (sym (k .active) ∙ a'))) ∙ k .lits))
+      absurd (nil-cons (sym p ∙ sym (ap (λ z. z .lits) (same-some (sym (k .active) ∙ a'))) ∙ k .lits))
   empty-at-ok (pos h ∷ b) f e c es s inv a n a' p few = record {
     rest = rest-after S f e (c ∷ es) (f .made) (f .first) (f .queue) es inv
         (step-trans S (step-off S (f .queue) e (c ∷ es) a)
@@ -246,7 +247,7 @@ module _ (S : Setting) (B L : ℕ → ℕ) where
   empty-ok : (o : Option Strand) (f : Forest) (e c : Entry) (es : List Entry) → Inv S (f .answered) (f .queue) (f .clock) e (c ∷ es)
       → e .active ≡ none → f .queue (e .goal) ≡ [] → c .active ≡ o
       → ((u : ℕ) → Fits B L f (e ∷ c ∷ es) u) → TurnOK S (root-of c es) B L (empty (S .limits) o f c es)
-  empty-ok none f e c es inv a n a' few = absurd (none-some (sym a' ∙ inv .piled .2 .active))
+  empty-ok none f e c es inv a n a' few = absurd (no-such (sym a' ∙ inv .piled .2 .active))
   empty-ok (some s) f e c es inv a n a' few = empty-at-ok (s .lits) f e c es s inv a n a' refl few
 
   emptied-ok : (f : Forest) (e : Entry) (es : List Entry) → Inv S (f .answered) (f .queue) (f .clock) e es → e .active ≡ none
@@ -263,9 +264,9 @@ module _ (S : Setting) (B L : ℕ → ℕ) where
       → Inv S (f .answered) (f .queue) (f .clock) e es → e .active ≡ none → f .queue (e .goal) ≡ x ∷ xs → (q' : Queues) → o ≡ some q'
       → Less S (put (f .queue) (e .goal) []) q' → Less S (f .queue) (put (f .queue) (e .goal) [])
       → ((u : ℕ) → Fits B L f (e ∷ es) u) → TurnOK S (root-of e es) B L (cleared (S .limits) o f es)
-  cleared-ok none f e es x xs inv a n q' p l₁ l₂ few = absurd (none-some p)
+  cleared-ok none f e es x xs inv a n q' p l₁ l₂ few = absurd (no-such p)
   cleared-ok (some q) f e es x xs inv a n q' p l₁ l₂ few =
-      let l : Less S (put (f .queue) (e .goal) []) q = subst (λ z. Less S (put (f .queue) (e .goal) []) z) (sym (some-inj p)) l₁ in
+      let l : Less S (put (f .queue) (e .goal) []) q = subst (λ z. Less S (put (f .queue) (e .goal) []) z) (sym (same-some p)) l₁ in
       let m = less-trans S l₂ l in
       record {
         rest = rest-after S f e es (f .made) (f .first) q es inv
@@ -298,7 +299,7 @@ module _ (S : Setting) (B L : ℕ → ℕ) where
       → ((u : ℕ) → Fits B L f (e ∷ c ∷ es) u) → TurnOK S (root-of c es) B L (cycle-at (S .limits) b s f e c es)
   cycle-at-ok [] f e c es s inv a late a' p lt few =
       let k = inv .piled .2 in
-      absurd (nil-cons (sym p ∙ sym (ap (λ z. z .lits) (some-inj (sym (k .active) ∙ a'))) ∙ k .lits))
+      absurd (nil-cons (sym p ∙ sym (ap (λ z. z .lits) (same-some (sym (k .active) ∙ a'))) ∙ k .lits))
   cycle-at-ok (pos h ∷ b) f e c es s inv a late a' p lt few = record {
     inv = case-cycle S (f .answered) (f .queue) (f .clock) e c es inv s h b a late a' p lt;
     root = root-remade c (min (c .positive-min) (e .positive-min)) (min (c .negative-min) (e .negative-min)) none es;
@@ -311,7 +312,7 @@ module _ (S : Setting) (B L : ℕ → ℕ) where
       → e .active ≡ none → ((t : Strand) → List·Memᴰ t (f .queue (e .goal)) → t .time < e .clock → ⊥) → c .active ≡ o
       → e .positive-min < e .clock
       → ((u : ℕ) → Fits B L f (e ∷ c ∷ es) u) → TurnOK S (root-of c es) B L (cycle (S .limits) o f e c es)
-  cycle-ok none f e c es inv a late a' lt few = absurd (none-some (sym a' ∙ inv .piled .2 .active))
+  cycle-ok none f e c es inv a late a' lt few = absurd (no-such (sym a' ∙ inv .piled .2 .active))
   cycle-ok (some s) f e c es inv a late a' lt few = cycle-at-ok (s .lits) f e c es s inv a late a' refl lt few
 
   part-of-ok : (f : Forest) (e : Entry) (es : List Entry) → Inv S (f .answered) (f .queue) (f .clock) e es → e .active ≡ none

@@ -3,12 +3,12 @@ use Prim.Native.Nat.{ℕ, zero, suc, _+_, _≤_, _<_}
 use native.Mathlib.Omega.{arith}
 use native.Mathlib.Decide.{decLt}
 use mathlib.Core.Path.{_≡_, refl, sym, ap, subst, _∙_}
-use mathlib.Core.Bool.{Bool, true, false}
+use mathlib.Core.Bool.{Bool, true, false, false≢true}
 use mathlib.Core.Logic.{_⊎_, inl, inr}
 use mathlib.Core.List.{List, [], _∷_, List·Memᴰ, List·Memᴰ·head, List·Memᴰ·tail, List·Memᴰ·not-nil, List·Memᴰ·cases-cons, map}
 use Rattle.promises.proofs.Plain.Model.{Body, Book, either, In, Levelled, closed, unfounded}
 use Rattle.promises.proofs.Plain.Steps.{Setting, Good, Fine, fine-step, step-trans, Holds, moved, step-on, step-tick}
-use Rattle.promises.proofs.Plain.Cases.{Inv, true-false}
+use Rattle.promises.proofs.Plain.Cases.{Inv}
 use lib.ListN.{length}
 use Rattle.promises.proofs.Plain.Claim.{Reply, Plainly, Says, AllSay, agains, Inside, Demand}
 use Rattle.promises.proofs.Plain.Machine.{Limits, Strand, Entry, Forest, take-from, total, Outcome, found, no-more-left, again, cut}
@@ -255,8 +255,8 @@ initial-ok S = record {
   fine = record {
     good = λ g s h. from g s h (λ c m. record { inside = S .inside g c m; sound = S .closed g c m; levels = S .levelled g c m });
     timely = λ g s h. subst (λ z. z .time ≤ 0) (mem-map (S .book g) s (queued g s h) .2) (omega arith);
-    proved = λ g a. absurd (true-false a refl);
-    quiet = λ g a. absurd (true-false a refl);
+    proved = λ g a. absurd (false≢true a);
+    quiet = λ g a. absurd (false≢true a);
     kept = λ g a c m. inr (fresh c, inl (map-mem (S .book g) c m), λ l x. x);
   };
   bound = omega arith;
