@@ -16,7 +16,7 @@ use Rattle.control.specs.ClearStrandsAfterCycle.{
   cleared,
   lengths,
   live,
-  table-of,
+  awaited,
   met,
   taken,
   first-place,
@@ -52,13 +52,13 @@ unfolding lengths
 lengths-emptied zero t l h = absurd (omega arith)
 lengths-emptied (suc n) t l h = lengths-one n t l (eqb n t) refl (lengths-emptied n t l) h
 
-table-small : (w : ℕ) → table-of w < 64
+table-small : (w : ℕ) → awaited w < 64
 table-small w = mod-lt w (omega arith)
 
 -- as many fewer as the queue that is taken had
-pub live-taken : (w : ℕ) (c : Cleared) → live (taken (table-of w) c) + getD (c .len) (table-of w) 0 ≡ live c
+pub live-taken : (w : ℕ) (c : Cleared) → live (taken (awaited w) c) + getD (c .len) (awaited w) 0 ≡ live c
 live-taken w c =
-    let t = table-of w in
+    let t = awaited w in
     let a : live (taken t c) ≡ lengths 64 (set (c .len) t 0) = lengths-above 64 64 (joined (getD (c .len) 64 0) (getD (c .len) t 0))
     (set (c .len) t 0) (omega arith) in
     omega (arith, lengths-emptied 64 t (c .len) (table-small w))
@@ -100,19 +100,19 @@ module _ (waits : List ℕ) where
       step-falls (ltb (getD waits p 0) 128) go m p c d (f (getD waits p 0) c)
       (after-falls (d .«met_29») go m p d (each-falls go f m (getD (d .next) p 0) d))
 
-  entered-falls : (b : Bool) (go : Call) (w : ℕ) (c : Cleared) → Falling go → live (entered b go (table-of w) c) ≤ live c
+  entered-falls : (b : Bool) (go : Call) (w : ℕ) (c : Cleared) → Falling go → live (entered b go (awaited w) c) ≤ live c
   entered-falls true go w c f = omega arith
   entered-falls false go w c f = omega (
     arith,
     live-taken w c,
-    each-falls go f (getD (c .len) (table-of w) 0) (first-place (table-of w) c) (taken (table-of w) c),
+    each-falls go f (getD (c .len) (awaited w) 0) (first-place (awaited w) c) (taken (awaited w) c),
   )
 
   within-falls : (bound : ℕ) → Falling (clear-within waits bound)
   unfolding clear-within
   within-falls zero w c = omega arith
   within-falls (suc bound) w c =
-      entered-falls (eqb (getD (c .len) (table-of w) 0) 0) (clear-within waits bound) w c (within-falls bound)
+      entered-falls (eqb (getD (c .len) (awaited w) 0) 0) (clear-within waits bound) w c (within-falls bound)
 
   pub clear-falls : Falling (clear waits)
   clear-falls w c = within-falls (live c) w c
@@ -142,23 +142,23 @@ module _ (waits : List ℕ) where
       (after-same (d .«met_29») go go′ m p d
       (each-same go go′ k f agree m (getD (d .next) p 0) d (omega (arith, f (getD waits p 0) c))))
 
-  entered-same : (b : Bool) (go go′ : Call) (w : ℕ) (c : Cleared) → eqb (getD (c .len) (table-of w) 0) 0 ≡ b → Falling go
-      → ((k : ℕ) → k < live c → Agree k go go′) → entered b go (table-of w) c ≡ entered b go′ (table-of w) c
+  entered-same : (b : Bool) (go go′ : Call) (w : ℕ) (c : Cleared) → eqb (getD (c .len) (awaited w) 0) 0 ≡ b → Falling go
+      → ((k : ℕ) → k < live c → Agree k go go′) → entered b go (awaited w) c ≡ entered b go′ (awaited w) c
   entered-same true go go′ w c e f agree = refl
   entered-same false go go′ w c e f agree =
-      let t = table-of w in
+      let t = awaited w in
       let n : getD (c .len) t 0 ≡ 0 → ⊥ = eqb-false (getD (c .len) t 0) 0 e in
       each-same go go′ (live (taken t c)) f (agree (live (taken t c)) (omega (arith, live-taken w c)))
       (getD (c .len) t 0) (first-place t c) (taken t c) (omega arith)
 
   -- an empty queue, at any bound
-  within-empty : (b w : ℕ) (c : Cleared) → getD (c .len) (table-of w) 0 ≡ 0 → clear-within waits b w c ≡ c
+  within-empty : (b w : ℕ) (c : Cleared) → getD (c .len) (awaited w) 0 ≡ 0 → clear-within waits b w c ≡ c
   unfolding clear-within
   within-empty zero w c e = refl
   within-empty (suc b) w c e =
-      ap (λ (x : Bool). entered x (clear-within waits b) (table-of w) c) (eq-eqb (getD (c .len) (table-of w) 0) 0 e)
+      ap (λ (x : Bool). entered x (clear-within waits b) (awaited w) c) (eq-eqb (getD (c .len) (awaited w) 0) 0 e)
 
-  none-wait : (w : ℕ) (c : Cleared) → live c ≤ 0 → getD (c .len) (table-of w) 0 ≡ 0
+  none-wait : (w : ℕ) (c : Cleared) → live c ≤ 0 → getD (c .len) (awaited w) 0 ≡ 0
   none-wait w c h = omega (arith, live-taken w c)
 
   -- two bounds that are enough
@@ -167,25 +167,25 @@ module _ (waits : List ℕ) where
   within-same zero b′ w c h h′ = sym (within-empty b′ w c (none-wait w c h))
   within-same (suc b) zero w c h h′ = within-empty (suc b) w c (none-wait w c h′)
   within-same (suc b) (suc b′) w c h h′ =
-      entered-same (eqb (getD (c .len) (table-of w) 0) 0) (clear-within waits b) (clear-within waits b′) w c refl (within-falls b)
+      entered-same (eqb (getD (c .len) (awaited w) 0) 0) (clear-within waits b) (clear-within waits b′) w c refl (within-falls b)
       (λ k i v d j. within-same b b′ v d (omega arith) (omega arith))
 
   -- THE CALL: an empty queue is left, and of another the places are gone through when it is taken
-  pub clear-empty : (w : ℕ) (c : Cleared) → getD (c .len) (table-of w) 0 ≡ 0 → clear waits w c ≡ c
+  pub clear-empty : (w : ℕ) (c : Cleared) → getD (c .len) (awaited w) 0 ≡ 0 → clear waits w c ≡ c
   clear-empty w c e = within-empty (live c) w c e
 
-  entered-clear : (b w : ℕ) (c : Cleared) → live c ≡ b → (getD (c .len) (table-of w) 0 ≡ 0 → ⊥)
-      → clear-within waits b w c ≡ entered false (clear waits) (table-of w) c
+  entered-clear : (b w : ℕ) (c : Cleared) → live c ≡ b → (getD (c .len) (awaited w) 0 ≡ 0 → ⊥)
+      → clear-within waits b w c ≡ entered false (clear waits) (awaited w) c
   unfolding clear-within
   entered-clear zero w c e n = absurd (n (none-wait w c (omega arith)))
   entered-clear (suc b) w c e n =
-      let some = ne-eqb (getD (c .len) (table-of w) 0) 0 n in
-      ap (λ (x : Bool). entered x (clear-within waits b) (table-of w) c) some
+      let some = ne-eqb (getD (c .len) (awaited w) 0) 0 n in
+      ap (λ (x : Bool). entered x (clear-within waits b) (awaited w) c) some
       ∙ entered-same false (clear-within waits b) (clear waits) w c some (within-falls b)
       (λ k i v d j. within-same b (live d) v d (omega arith) (omega arith))
 
-  pub clear-some : (w : ℕ) (c : Cleared) → (getD (c .len) (table-of w) 0 ≡ 0 → ⊥)
-      → clear waits w c ≡ clear-each waits (clear waits) (getD (c .len) (table-of w) 0) (first-place (table-of w) c) (taken (table-of w) c)
+  pub clear-some : (w : ℕ) (c : Cleared) → (getD (c .len) (awaited w) 0 ≡ 0 → ⊥)
+      → clear waits w c ≡ clear-each waits (clear waits) (getD (c .len) (awaited w) 0) (first-place (awaited w) c) (taken (awaited w) c)
   clear-some w c n = entered-clear (live c) w c refl n
 
   -- THE LOOP: one place more, at the answers of its tests; m places are left
@@ -201,7 +201,8 @@ module _ (waits : List ℕ) where
     each-nothing (suc m) p c h k =
         ap (λ (x : Bool). step x go m p c (go (getD waits p 0) c)) (le-ltb (getD waits p 0) 128 k)
 
-    each-step : (m p : ℕ) (c : Cleared) → getD waits p 0 < 128 → (d : Cleared) → go (getD waits p 0) c ≡ d → (b : Bool) → d .«met_29» ≡ b
+    pub each-step : (m p : ℕ) (c : Cleared) → getD waits p 0 < 128 → (d : Cleared) → go (getD waits p 0) c ≡ d → (b : Bool)
+        → d .«met_29» ≡ b
         → clear-each waits go (suc m) p c ≡ after b go m p d
     unfolding clear-each
     each-step m p c k d e b f = ap (λ (x : Bool). step x go m p c (go (getD waits p 0) c)) (lt-ltb (getD waits p 0) 128 k)
@@ -220,29 +221,29 @@ module _ (waits : List ℕ) where
         each-step m p c k d e false f ∙ ap (λ (x : ℕ). clear-each waits go x (getD (d .next) p 0) d) n
 
 -- THE CODE takes a queue by `ring_move`: k is the table as an index, a the last place of its queue, p the first
-module _ (waits next tail len n′ t′ l′ : List ℕ) (w k a p : ℕ) (table : k ≡ table-of w) (some : getD len k 0 ≡ 0 → ⊥)
-    (last : a ≡ getD tail k 0) (first : p ≡ getD next a 0) (did : RingMove next tail len (table-of w) 64 n′ t′ l′) where
+module _ (waits next tail len n′ t′ l′ : List ℕ) (w k a p : ℕ) (table : k ≡ awaited w) (some : getD len k 0 ≡ 0 → ⊥)
+    (last : a ≡ getD tail k 0) (first : p ≡ getD next a 0) (did : RingMove next tail len (awaited w) 64 n′ t′ l′) where
   abbrev entry : Cleared
   entry = cleared false next tail len
 
-  moved : cleared false n′ t′ l′ ≡ taken (table-of w) entry
+  moved : cleared false n′ t′ l′ ≡ taken (awaited w) entry
   moved =
       let d = did .moves (λ e. omega (arith, table-small w)) in
       cc
 
-  found : getD len (table-of w) 0 ≡ 0 → ⊥
+  found : getD len (awaited w) 0 ≡ 0 → ⊥
   found e = some (ap (λ (x : ℕ). getD len x 0) table ∙ e)
 
   pub code-clears : clear waits w entry ≡ clear-each waits (clear waits) (getD len k 0) p (cleared false n′ t′ l′)
   code-clears =
-      let place : p ≡ first-place (table-of w) entry =
+      let place : p ≡ first-place (awaited w) entry =
       first ∙ ap (λ (x : ℕ). getD next x 0) (last ∙ ap (λ (x : ℕ). getD tail x 0) table) in
       clear-some waits w entry found
-      ∙ ap₂ (λ (m q : ℕ). clear-each waits (clear waits) m q (taken (table-of w) entry)) (ap (λ (x : ℕ). getD len x 0) (sym table))
+      ∙ ap₂ (λ (m q : ℕ). clear-each waits (clear waits) m q (taken (awaited w) entry)) (ap (λ (x : ℕ). getD len x 0) (sym table))
       (sym place)
       ∙ ap (clear-each waits (clear waits) (getD len k 0) p) (sym moved)
 
   pub code-falls : lengths 64 l′ < lengths 64 len
   code-falls =
-      let e : lengths 64 l′ ≡ live (taken (table-of w) entry) = ap live moved in
+      let e : lengths 64 l′ ≡ live (taken (awaited w) entry) = ap live moved in
       omega (arith, live-taken w entry, found)

@@ -43,10 +43,11 @@ use Rattle.control.specs.declared.decision.Decision.{Decision}
 use Rattle.control.specs.declared.on_subgoal_selected.Look.the-variants as looks
 use Rattle.control.specs.declared.on_subgoal_selected.Look.{Look}
 use Rattle.control.specs.Decision.{seen, copy-by, last-literal, meaning}
-use Rattle.control.specs.OnSubgoalSelected.{chosen, deselected, coinductive-by, coinductive, Selects, merge-not-by, merge-not}
-use Rattle.control.specs.OnSubgoalSelected.{merge-into-by, merge-into, merge-positive-by, merge-positive, merge-literal-by}
-use Rattle.control.specs.OnSubgoalSelected.{merge-literal, merge-answer-by, merge-answer, push-table, selected-deed, LookMeans}
-use Rattle.control.specs.OnSubgoalSelected.{holds-answer, all-are-coinductive, is-on-stack, is-to-push}
+use Rattle.control.specs.OnSubgoalSelected.{deselected, coinductive-by, coinductive, Selects, merge-not-by, merge-not, merge-into-by}
+use Rattle.control.specs.OnSubgoalSelected.{merge-into, merge-positive-by, merge-positive, merge-literal-by, merge-literal}
+use Rattle.control.specs.OnSubgoalSelected.{merge-answer-by, merge-answer, push-table, selected-deed, LookMeans, holds-answer}
+use Rattle.control.specs.OnSubgoalSelected.{all-are-coinductive, is-on-stack, is-to-push}
+use Rattle.control.specs.SelectSubgoal.{chosen}
 use Rattle.control.proofs.Seen.{kept-seen, next-answer-seen, chosen-means, last-removed-clause, some-left, flounder-clause}
 
 index-is : (s : Strand) (k : held.SelectedSubgoal) → Selects s k → k .subgoal-index ≡ next-subgoal-index (clause s)

@@ -17,8 +17,9 @@ use Rattle.strands.specs.Literals.{last-removed}
 use Rattle.strands.specs.Merging.{take-answer}
 use Rattle.strands.specs.View.{is-negative}
 use Rattle.control.specs.declared.decision.Decision.{Decision}
-use Rattle.control.specs.OnSubgoalSelected.{chosen, deselected, coinductive-by, goal-delayed, coinductive, merge-not-by, merge-not}
+use Rattle.control.specs.OnSubgoalSelected.{deselected, coinductive-by, goal-delayed, coinductive, merge-not-by, merge-not}
 use Rattle.control.specs.OnSubgoalSelected.{merge-into-by, merge-into, merge-positive-by, merge-positive}
+use Rattle.control.specs.SelectSubgoal.{chosen}
 
 module _ (s : Strand) (a : Answer) where
   -- An answer for a "not".

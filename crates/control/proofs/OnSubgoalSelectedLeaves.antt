@@ -27,9 +27,10 @@ use Rattle.control.specs.declared.decision.Deed.the-variants.{GoesOn}
 use Rattle.control.specs.declared.on_subgoal_selected.Look.the-variants as looks
 use Rattle.control.specs.declared.on_subgoal_selected.Look.{Look}
 use Rattle.control.specs.Decision.{SoundDecision, Leaves}
-use Rattle.control.specs.OnSubgoalSelected.{chosen, deselected, coinductive-by, goal-delayed, coinductive, merge-not-by}
-use Rattle.control.specs.OnSubgoalSelected.{merge-into-by, merge-into, merge-positive-by, merge-literal-by, merge-answer-by}
-use Rattle.control.specs.OnSubgoalSelected.{merge-answer, push-table, selected-deed}
+use Rattle.control.specs.OnSubgoalSelected.{deselected, coinductive-by, goal-delayed, coinductive, merge-not-by, merge-into-by}
+use Rattle.control.specs.OnSubgoalSelected.{merge-into, merge-positive-by, merge-literal-by, merge-answer-by, merge-answer}
+use Rattle.control.specs.OnSubgoalSelected.{push-table, selected-deed}
+use Rattle.control.specs.SelectSubgoal.{chosen}
 use Rattle.control.proofs.Decisions.{alone-sound, alone-leaves}
 use Rattle.control.proofs.Seen.{kept-nothing}
 

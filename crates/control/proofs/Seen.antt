@@ -28,7 +28,7 @@ use Rattle.strands.proofs.FlounderViews.{flounder-view}
 use Rattle.strands.proofs.LiteralCases.{count-is}
 use Rattle.strands.proofs.LiteralViews.{subgoal-at-view, last-removed-view}
 use Rattle.control.specs.Decision.{seen, last-literal}
-use Rattle.control.specs.OnSubgoalSelected.{literal-by, chosen}
+use Rattle.control.specs.SelectSubgoal.{chosen-by, chosen}
 
 -- Where nothing but the clause changes, what is selected stays.
 module _ (s r : Strand) (k : Kept s r) where
@@ -56,7 +56,7 @@ next-answer-seen time s k e h =
 
 -- The last literal.
 
-found-means : (f : Found) → meant (literal-by f) ≡ or no-literal (literal-of f)
+found-means : (f : Found) → meant (chosen-by f) ≡ or no-literal (literal-of f)
 found-means finds.Nothing = refl
 found-means (finds.There l) = refl
 

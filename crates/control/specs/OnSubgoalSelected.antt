@@ -9,7 +9,6 @@ use lib.ListN.{length, getElem?}
 use Rattle.definitions.specs.{TimeStamp}
 use Rattle.definitions.specs.Book.{goal-of}
 use Rattle.definitions.specs.Fitting.{answer-fits, is-trivial}
-use Rattle.definitions.specs.Slg.{next-subgoal-index}
 use Rattle.definitions.specs.Stack.{Stack, is-active, top-of-stack-from}
 use Rattle.definitions.specs.Strand as held
 use Rattle.definitions.specs.Table as tables
@@ -21,12 +20,10 @@ use Rattle.strands.specs.declared.Answer.{Answer}
 use Rattle.strands.specs.declared.Selected.the-variants as selection
 use Rattle.strands.specs.declared.Strand.{Strand}
 use Rattle.strands.specs.declared.delaying.Delayed.{Delayed}
-use Rattle.strands.specs.declared.literals.Found.the-variants.{Nothing, There}
-use Rattle.strands.specs.declared.literals.Found.{Found}
 use Rattle.strands.specs.Delaying.{delay-goals}
-use Rattle.strands.specs.Fields.{no-literal, with-selected, with-ambiguous, next-of}
+use Rattle.strands.specs.Fields.{with-selected, with-ambiguous, next-of}
 use Rattle.strands.specs.Floundering.{flounder}
-use Rattle.strands.specs.Literals.{subgoal-at, last-removed}
+use Rattle.strands.specs.Literals.{last-removed}
 use Rattle.strands.specs.Merging.{take-answer}
 use Rattle.strands.specs.View.{clause, selected, answer, is-negative}
 use Rattle.control.specs.declared.decision.Deed.the-variants.{Stop, GoesOn, GivesUp, Cycles, Pushes}
@@ -34,15 +31,7 @@ use Rattle.control.specs.declared.decision.Decision.{Decision}
 use Rattle.control.specs.declared.on_subgoal_selected.Look.the-variants as looks
 use Rattle.control.specs.declared.on_subgoal_selected.Look.{Look}
 use Rattle.control.specs.Decision.{decided}
-
--- The literal that is chosen, the last one.
-
-abbrev pub literal-by : Found → Literal
-literal-by Nothing = no-literal
-literal-by (There l) = l
-
-abbrev pub chosen : Strand → Literal
-chosen s = literal-by (subgoal-at s (next-subgoal-index (clause s)))
+use Rattle.control.specs.SelectSubgoal.{chosen}
 
 abbrev pub deselected : Strand → Strand
 deselected s = with-selected s selection.Nothing

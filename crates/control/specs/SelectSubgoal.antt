@@ -1,13 +1,26 @@
--- What each function of select_subgoal.rt leaves, in the order of the code, by clauses on its tests' answers.
-use Prim.Native.Nat.{ℕ, zero, suc, _+_, _*_, _-_, min}
+-- What each function of select_subgoal.rt leaves, in the order of the code, by clauses on its tests' answers; then what a choice means,
+-- what the lent numbers mean, and what is known of a choice.
+use Prim.Native.Nat.{ℕ, zero, suc, _+_, _*_, _-_, _≤_, _<_, min}
 use mathlib.Core.Bool.{Bool, true, false}
-use mathlib.Core.List.{List}
+use mathlib.Core.List.{List, [], _∷_}
+use mathlib.Core.Logic.{_⊎_}
+use mathlib.Core.Option.{none, some}
+use mathlib.Core.Path.{_≡_}
 use lib.Dec.{eqb, leb, ltb}
-use lib.ListN.{getD, set, replicate}
-use Rattle.definitions.specs.Book.{bit1, goal-of}
+use lib.ListN.{length, getD, getElem?, set, replicate}
+use Rattle.definitions.specs.{TimeStamp, ExClause}
+use Rattle.definitions.specs.Book.{Goal, bit1, goal-of}
 use Rattle.definitions.specs.Fitting.{gets-table}
 use Rattle.definitions.specs.Lists.{is-empty}
+use Rattle.definitions.specs.Logic as logic
 use Rattle.definitions.specs.Slg.{next-subgoal-index}
+use Rattle.definitions.specs.Stop.{Stops, stop, go}
+use Rattle.definitions.specs.Table.{Table}
+use Rattle.definitions.specs.Tables.{Forest, index-of}
+use Rattle.promises.proofs.Asserts.Lists.{All}
+use Rattle.promises.proofs.Asserts.Sound.{SoundClause}
+use Rattle.split.specs.Acts.{built, with-made}
+use Rattle.split.specs.Decide.{View, Picked, picking, table-of}
 use Rattle.book.specs.Access.{entry}
 use Rattle.book.specs.View.{meant}
 use Rattle.book.specs.declared.Literal.{Literal}
@@ -19,8 +32,9 @@ use Rattle.strands.specs.declared.literals.Found.{Found}
 use Rattle.strands.specs.Fields.{no-literal, with-selected, with-ambiguous}
 use Rattle.strands.specs.Floundering.{flounder, reconsider}
 use Rattle.strands.specs.Literals.{subgoal-at}
-use Rattle.strands.specs.View.{clause, is-negative}
-use Rattle.stores.specs.Numbers.{within, first-at, flag-at}
+use Rattle.strands.specs.View.{Sound, clause, is-negative}
+use Rattle.stores.specs.Numbers.{within, first-at, flag, flag-at}
+use Rattle.control.specs.Decision.{seen}
 use Rattle.control.specs.declared.select_subgoal.Made.{Made}
 use Rattle.control.specs.declared.select_subgoal.Selection.the-variants as selection
 use Rattle.control.specs.declared.select_subgoal.Selection.{Selection}
@@ -171,3 +185,101 @@ module _ (goal floundered : List ℕ) (count : ℕ) (goal-flags goal-len : List 
 
   abbrev pub select-subgoal : (live : ℕ) → Strand → Choice
   select-subgoal live s = select-from (passes-for s) (begun live s)
+
+-- WHAT A CHOICE MEANS.
+
+-- the first n goals noted, the last one first
+abbrev pub noted-down : (n : ℕ) → List ℕ → List ℕ
+noted-down zero l = []
+noted-down (suc n) l = getD l n 0 ∷ noted-down n l
+
+abbrev pub noted-goals : Made → List ℕ
+noted-goals m = noted-down (m .count) (m .goals)
+
+abbrev pub noted-view : Choice → View
+noted-view c = record { live = c .live; made = noted-goals (c .made) }
+
+-- of a strand that is pursued at this time
+module _ (time : TimeStamp) where
+  abbrev pub picks : logic.SubGoalSelection → Choice → Stops Picked
+  picks k c = go (picking k (seen time (c .strand)) (noted-view c))
+
+  abbrev pub choice-means-by : Selection → Choice → Stops Picked
+  choice-means-by selection.Again c = picks logic.NotSelected c
+  choice-means-by selection.Selected c = picks logic.Selected c
+  choice-means-by selection.NotSelected c = picks logic.NotSelected c
+  choice-means-by (selection.Stop n) c = stop n
+
+  abbrev pub choice-means : Choice → Stops Picked
+  choice-means c = choice-means-by (c .selection) c
+
+-- WHAT THE LENT NUMBERS MEAN: the forest's tables by number, and the goals of its book.
+pub record TablesMean (goal floundered : List ℕ) (count : ℕ) (goal-flags goal-len : List ℕ) (f : Forest) : Type 0 where
+  pub counted : length (f .tables) ≡ count
+  pub few : count ≤ 64
+  pub goals : (i : ℕ) (t : Table) → getElem? (f .tables) i ≡ some t → t .table-goal ≡ getD goal i 0
+  pub flags : (i : ℕ) (t : Table) → getElem? (f .tables) i ≡ some t → t .floundered ≡ flag (getD floundered i 0)
+  pub few-goals : length (f .book) ≤ 64
+  pub flagged : (g : ℕ) (x : Goal) → getElem? (f .book) g ≡ some x → x .floundered ≡ bit1 (getD goal-flags g 0)
+  pub clauses-counted : (g : ℕ) (x : Goal) → getElem? (f .book) g ≡ some x → length (x .clauses) ≡ getD goal-len g 0
+
+-- WHAT IS KNOWN of a choice once the loop is done. First of the goals noted.
+
+-- the forest with tables for them
+abbrev pub with-noted : Forest → Made → Forest
+with-noted f m = with-made f (noted-goals m)
+
+abbrev pub FlounderedGoal : Forest → ℕ → Type 0
+FlounderedGoal f g = built (f .book) g .floundered ≡ true
+
+-- each is the goal of no table that is made, and of none noted before it
+abbrev pub New : Forest → List ℕ → Type 0
+New f [] = Unit {0}
+New f (g ∷ made) = (index-of g (with-made f made .tables) ≡ none) × New f made
+
+-- all but the last one
+abbrev pub RestFloundered : Forest → List ℕ → Type 0
+RestFloundered f [] = Unit {0}
+RestFloundered f (g ∷ made) = All (FlounderedGoal f) made
+
+pub record Noted (f : Forest) (m : Made) : Type 0 where
+  pub long : length (m .goals) ≡ 8
+  pub few : m .count ≤ 8
+  pub named : All (λ g. g < length (f .book)) (noted-goals m)
+  pub new : New f (noted-goals m)
+  pub rest-floundered : RestFloundered f (noted-goals m)
+
+-- Then of the subgoal that a strand has selected: it is the last literal, its table is made or noted, and the answer's index is the one
+-- that it came with, or 0.
+pub record Awaits (f : Forest) (start : Selected) (m : Made) (literals index table answer : ℕ) : Type 0 where
+  pub last : suc index ≡ literals
+  pub there : table < length (f .tables) + m .count
+  pub came : (start ≡ Subgoal index table answer) ⊎ (answer ≡ 0)
+
+abbrev pub clause-of : Choice → ExClause
+clause-of c = clause (c .strand)
+
+abbrev pub literals : Choice → ℕ
+literals c = length (clause-of c .subgoals)
+
+-- the subgoal selected, whose table is not floundered
+pub record Ready (f : Forest) (start : Selected) (c : Choice) : Type 0 where
+  pub index : ℕ
+  pub table : ℕ
+  pub answer : ℕ
+  pub is-selected : c .strand .selected ≡ Subgoal index table answer
+  pub awaits : Awaits f start (c .made) (literals c) index table answer
+  pub unfloundered : table-of (with-noted f (c .made)) table .floundered ≡ false
+
+abbrev pub Outcome : Forest → (start : Selected) → Choice → Selection → Type 0
+Outcome f start c selection.Again = ⊥
+Outcome f start c selection.Selected = Ready f start c
+Outcome f start c selection.NotSelected = c .strand .selected ≡ Nothing
+Outcome f start c (selection.Stop n) = n ≡ 22
+
+-- the whole
+pub record Ended (f : Forest) (start : Selected) (c : Choice) : Type 0 where
+  pub sound : Sound (c .strand)
+  pub named : SoundClause (length (f .book)) (clause-of c)
+  pub noted : Noted f (c .made)
+  pub outcome : Outcome f start c (c .selection)

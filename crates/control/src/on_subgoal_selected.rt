@@ -4,6 +4,7 @@ use crate::decision::Decision;
 use crate::decision::Deed;
 use crate::decision::decide_on;
 use crate::decision::unwanted;
+use crate::select_subgoal::last_literal;
 use book::Literal;
 use book::fitting::answer_fits;
 use book::fitting::is_trivial;
@@ -14,14 +15,12 @@ use strands::fields::deselected;
 use strands::fields::made_ambiguous;
 use strands::fields::next_answer_strand;
 use strands::floundering::flounder_subgoal;
-use strands::literals::Found;
 use strands::literals::goal_of;
 use strands::literals::is_negative;
-use strands::literals::last_subgoal;
 use strands::literals::without_last;
 use strands::merging::take_answer;
 ghost use mathlib.Core.Path.{_≡_};
-ghost use Rattle.control.specs.OnSubgoalSelected.{chosen, merge-not, merge-into, merge-positive, merge-literal, merge-answer};
+ghost use Rattle.control.specs.OnSubgoalSelected.{merge-not, merge-into, merge-positive, merge-literal, merge-answer};
 ghost use Rattle.control.specs.OnSubgoalSelected.{coinductive, push-table, selected-deed};
 
 // What the selected table holds for the strand: the answer that it wants, by its place; a cycle of coinductive tables alone; the table is
@@ -31,21 +30,6 @@ pub enum Look {
     Coinductive,
     Cycle(u8),
     Push(u8),
-}
-
-// The literal that is chosen, the last one.
-pub fn last_literal(s: Strand) -> Literal
-    ensures { λ r. ⌜ r ≡ chosen s ⌝ }
-{
-    let found = last_subgoal(s);
-    match found {
-        Found::Nothing => Literal {
-            goal: 0,
-            kind: 0,
-            want: 0,
-        },
-        Found::There(l) => l,
-    }
 }
 
 // An answer for a "not": it fails, unless the answer is ambiguous.

@@ -48,7 +48,7 @@ pub struct Choice {
 }
 
 // The literal that is chosen: the last one.
-fn last_literal(s: Strand) -> Literal
+pub fn last_literal(s: Strand) -> Literal
     ensures { λ r. ⌜ r ≡ chosen s ⌝ }
 {
     let f = last_subgoal(s);

@@ -1,25 +1,29 @@
 -- Laws of "all of a list", of how often a number stands in a list, and of the two with `filter`, `++` and `set`: distinct is "at most once".
 use Prim.Native.Nat.{ℕ, zero, suc, _+_, _≤_, _<_}
 use native.Mathlib.Omega.{arith}
-use mathlib.Core.Path.{_≡_, refl, sym, ap, ap₂, _∙_}
+use mathlib.Core.Path.{_≡_, refl, sym, ap, ap₂, subst, _∙_}
 use mathlib.Core.Bool.{Bool, true, false, not}
 use mathlib.Core.List.{List, [], _∷_, _++_, map}
 use lib.ListN.{length, take, drop, getD, set}
 use lib.Seq.{getD-set-other, split-at}
 use lib.Dec.{eqb}
 use borrow.Author.Tests.{eq-eqb, ne-eqb, eqb-true, eqb-false}
-use Rattle.rings.specs.Lists.{stop, first-index, one, times}
+use Rattle.rings.specs.Lists.{stop, first-index, one, times, All}
 use Rattle.rings.proofs.Laws.{keep, filter, filter-count}
 
 pub true-false : {X : Type 0} (b : Bool) → b ≡ true → b ≡ false → X
 true-false true p q = absurd (eqb-false 0 0 q refl)
 true-false false p q = absurd (eqb-false 0 0 (sym p) refl)
 
-module _ {A : Type 0} where
-  abbrev pub All : (A → Type 0) → List A → Type 0
-  All P [] = Unit {0}
-  All P (x ∷ l) = P x × All P l
+-- what holds of t and of every other number holds of all
+pub is-or-not : (t : ℕ) (P : ℕ → Type 0) → P t → ((u : ℕ) → (u ≡ t → ⊥) → P u) → (u : ℕ) → P u
+is-or-not t P here there u = go (eqb u t) refl
+  where
+    go : (b : Bool) → eqb u t ≡ b → P u
+    go true e = subst P (sym (eqb-true u t e)) here
+    go false e = there u (eqb-false u t e)
 
+module _ {A : Type 0} where
   pub all-map : {P Q : A → Type 0} → ((x : A) → P x → Q x) → (l : List A) → All P l → All Q l
   all-map h [] a = tt
   all-map h (x ∷ l) a = (h x (a .0), all-map h l (a .1))

@@ -10,9 +10,8 @@ use lib.Dec.{eqb}
 use borrow.Author.Tests.{le-ltb, eq-eqb, ne-eqb}
 use Rattle.rings.specs.Lists.{times, Full}
 use Rattle.rings.specs.Rings.{joined-by, joined, walk, ring-of, RingMoved, moved-next, moved-tail, Chain, RingSound}
-use Rattle.rings.proofs.Counts.{times-append, pigeons}
+use Rattle.rings.proofs.Counts.{is-or-not, times-append, pigeons}
 use Rattle.rings.proofs.Walks.{chain-walk, chain-last, ring-frame, ring-splice}
-use Rattle.rings.proofs.RingViews.{any}
 use Rattle.rings.proofs.RingViews as views
 
 -- two queues have room together
@@ -120,8 +119,8 @@ module _ (next tail len : List ℕ) (top : ℕ) (sound : RingSound next tail len
 
     -- what holds of the three kinds of queue holds of all
     each : (P : ℕ → List ℕ → Type 0) → P g (q g ++ q f) → P f [] → ((u : ℕ) → (u ≡ g → ⊥) → (u ≡ f → ⊥) → P u (q u)) → (u : ℕ) → P u (ring-of n′ t′ l′ u)
-    each P pg pf pu = any g (λ u. P u (ring-of n′ t′ l′ u)) (rw ring-move-to pg)
-        (λ u a. any f (λ v. (v ≡ g → ⊥) → P v (ring-of n′ t′ l′ v)) (λ b. rw ring-move-from pf) (λ v b c. rw (ring-move-other v c b) (pu v c b)) u a)
+    each P pg pf pu = is-or-not g (λ u. P u (ring-of n′ t′ l′ u)) (rw ring-move-to pg)
+        (λ u a. is-or-not f (λ v. (v ≡ g → ⊥) → P v (ring-of n′ t′ l′ v)) (λ b. rw ring-move-from pf) (λ v b c. rw (ring-move-other v c b) (pu v c b)) u a)
 
     pub ring-move-sound : RingSound n′ t′ l′ top
     unfolding Rings

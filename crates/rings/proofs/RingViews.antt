@@ -1,7 +1,7 @@
 -- What taking and enqueueing do to the tables' queues, and that `RingSound` is kept: theorems over the models, no code in sight.
 use Prim.Native.Nat.{ℕ, zero, suc, _+_, _-_, _≤_, _<_}
 use native.Mathlib.Omega.{arith}
-use mathlib.Core.Path.{_≡_, refl, sym, ap, ap₂, subst, subst₃, _∙_}
+use mathlib.Core.Path.{_≡_, refl, sym, ap, ap₂, subst, _∙_}
 use mathlib.Core.Bool.{Bool, true, false}
 use mathlib.Core.List.{List, [], _∷_, _++_, map}
 use lib.ListN.{length, take, drop, getD, set, length-set, length-append, length-drop, replicate, length-replicate}
@@ -9,17 +9,9 @@ use lib.Seq.{getD-set-other, getD-set-same, length-take-le, split-at}
 use lib.Dec.{eqb, ltb}
 use borrow.Author.Tests.{ne-eqb, eqb-true, eqb-false, lt-ltb, ltb-true, ltb-false}
 use Rattle.rings.specs.Lists.{one, times, grown, turned, Full}
-use Rattle.rings.specs.Rings.{walk, end, ring-of, held-at, RingTookAt, Chain, RingSound, linked-at, linked, lengthened}
-use Rattle.rings.proofs.Counts.{map-append, map-away, times-append, times-self, times-out, pigeons}
-use Rattle.rings.proofs.Walks.{length-walk, chain-walk, chain-join, chain-front, chain-back, chain-last, chain-in, ring-frame, ring-turn, ring-append}
-
--- what holds of the changed queue of t and of every other queue holds of all
-pub any : (t : ℕ) (P : ℕ → Type 0) → P t → ((u : ℕ) → (u ≡ t → ⊥) → P u) → (u : ℕ) → P u
-any t P here there u = go (eqb u t) refl
-  where
-    go : (b : Bool) → eqb u t ≡ b → P u
-    go true e = subst P (sym (eqb-true u t e)) here
-    go false e = there u (eqb-false u t e)
+use Rattle.rings.specs.Rings.{walk, end, ring-of, held-at, unlinked, shortened, Chain, RingSound, linked-at, linked, lengthened}
+use Rattle.rings.proofs.Counts.{is-or-not, map-append, map-away, times-append, times-self, times-out, pigeons}
+use Rattle.rings.proofs.Walks.{length-walk, walk-at, chain-walk, chain-join, chain-front, chain-back, chain-last, chain-in, ring-frame, ring-turn, ring-append}
 
 -- THE START: every queue is empty, and no place was used
 none-at : (n t : ℕ) → _≡_ {A = ℕ} (getD (replicate n 0) t 0) 0
@@ -88,13 +80,17 @@ module _ (next tail len : List ℕ) (top : ℕ) (sound : RingSound next tail len
     rest = turned j (q t)
 
     abbrev next′ : List ℕ
-    next′ = set next b (getD next p 0)
+    next′ = unlinked next b
 
     abbrev tail′ : List ℕ
     tail′ = set tail t b
 
     abbrev len′ : List ℕ
-    len′ = set len t (getD len t 0 - 1)
+    len′ = shortened len t
+
+    -- the place that is taken is behind b
+    behind : getD next b 0 ≡ p
+    behind = sym (walk-at (getD len t 0) next (getD tail t 0) j (omega (arith, size t)))
 
     whole : Chain next (getD tail t 0) (take j (q t) ++ (p ∷ drop (suc j) (q t))) (getD tail t 0)
     whole = subst (λ (l : List ℕ). Chain next (getD tail t 0) l (getD tail t 0)) (split-at (q t) j 0 has) (sound .closed t)
@@ -112,7 +108,7 @@ module _ (next tail len : List ℕ) (top : ℕ) (sound : RingSound next tail len
     b-in = omega (arith, chain-in next p rest b round, counts b)
 
     ring : Chain next′ b rest b
-    ring = ring-turn next p b rest round (omega (arith, counts b, sound .once t b)) (λ h. omega (arith, below t b b-in, sound .long-next))
+    ring = rw behind (ring-turn next p b rest round (omega (arith, counts b, sound .once t b)) (λ h. omega (arith, below t b b-in, sound .long-next)))
 
     tail-t : getD tail′ t 0 ≡ b
     tail-t = getD-set-same tail t b 0 (omega (arith, sound .long-tail))
@@ -124,63 +120,46 @@ module _ (next tail len : List ℕ) (top : ℕ) (sound : RingSound next tail len
         let e : length rest ≡ getD len t 0 - 1 = omega (arith, length-append (drop (suc j) (q t)) (take j (q t)), size t) in
         getD-set-same len t (getD len t 0 - 1) 0 (omega (arith, sound .long-len)) ∙ sym e
 
-    ring-own : ring-of next′ tail′ len′ t ≡ rest
-    ring-own = ap₂ (λ (m a : ℕ). walk m next′ a) len-t tail-t ∙ chain-walk next′ b rest b ring
+    pub ring-unlink-own : ring-of next′ tail′ len′ t ≡ rest
+    ring-unlink-own = ap₂ (λ (m a : ℕ). walk m next′ a) len-t tail-t ∙ chain-walk next′ b rest b ring
 
     module _ (u : ℕ) (n : u ≡ t → ⊥) where
       other-tail : getD tail′ u 0 ≡ getD tail u 0
       other-tail = getD-set-other tail t u b 0 n
 
       other-ring : Chain next′ (getD tail u 0) (q u) (getD tail u 0)
-      other-ring = ring-frame next b (getD next p 0) (getD tail u 0) (q u) (sound .closed u) (sound .apart t u b n b-in)
+      other-ring = ring-frame next b (getD next (getD next b 0) 0) (getD tail u 0) (q u) (sound .closed u) (sound .apart t u b n b-in)
 
-      ring-other : ring-of next′ tail′ len′ u ≡ q u
-      ring-other =
+      pub ring-unlink-other : ring-of next′ tail′ len′ u ≡ q u
+      ring-unlink-other =
           ap₂ (λ (m a : ℕ). walk m next′ a) (getD-set-other len t u (getD len t 0 - 1) 0 n ∙ sym (size u)) other-tail
           ∙ chain-walk next′ (getD tail u 0) (q u) (getD tail u 0) other-ring
 
     fewer : (u x : ℕ) → times x (ring-of next′ tail′ len′ u) ≤ times x (q u)
-    fewer = any t (λ u. (x : ℕ) → times x (ring-of next′ tail′ len′ u) ≤ times x (q u))
-        (λ x. rw ring-own (omega (arith, counts x))) (λ u n x. rw (ring-other u n) (omega arith))
+    fewer = is-or-not t (λ u. (x : ℕ) → times x (ring-of next′ tail′ len′ u) ≤ times x (q u))
+        (λ x. rw ring-unlink-own (omega (arith, counts x))) (λ u n x. rw (ring-unlink-other u n) (omega arith))
 
-    ring-sound : RingSound next′ tail′ len′ top
-    ring-sound = record {
+    pub ring-unlink-sound : RingSound next′ tail′ len′ top
+    ring-unlink-sound = record {
       room = sound .room;
-      long-next = length-set next b (getD next p 0) ∙ sound .long-next;
+      long-next = length-set next b (getD next (getD next b 0) 0) ∙ sound .long-next;
       long-tail = length-set tail t b ∙ sound .long-tail;
       long-len = length-set len t (getD len t 0 - 1) ∙ sound .long-len;
-      closed = any t (λ u. Chain next′ (getD tail′ u 0) (ring-of next′ tail′ len′ u) (getD tail′ u 0))
-          (rw (ring-own, tail-t) ring) (λ u n. rw (ring-other u n, other-tail u n) (other-ring u n));
+      closed = is-or-not t (λ u. Chain next′ (getD tail′ u 0) (ring-of next′ tail′ len′ u) (getD tail′ u 0))
+          (rw (ring-unlink-own, tail-t) ring) (λ u n. rw (ring-unlink-other u n, other-tail u n) (other-ring u n));
       once = λ u x. omega (arith, fewer u x, sound .once u x);
       small = λ u x h. omega (arith, fewer u x, sound .small u x h);
       apart = λ u v x n h. omega (arith, fewer v x, sound .apart u v x n (omega (arith, fewer u x)));
     }
 
-    -- the same of what the code leaves
-    module _ (n′ t′ l′ : List ℕ) (r : ℕ) (did : RingTookAt next tail len t (q t) j b n′ t′ l′ r) where
-      moved : (P : List ℕ → List ℕ → List ℕ → Type 0) → P next′ tail′ len′ → P n′ t′ l′
-      moved P x = subst₃ P (sym (did .links has)) (sym (did .ends has)) (sym (did .size has)) x
+    pub ring-unlink-used : getD (ring-of next tail len t) j 0 < top
+    ring-unlink-used = below-top t p (omega (arith, counts p, times-self p))
 
-      pub ring-take-place : r ≡ getD (q t) j 0
-      ring-take-place = did .place has
-
-      pub ring-take-own : ring-of n′ t′ l′ t ≡ turned j (q t)
-      ring-take-own = moved (λ n a l. ring-of n a l t ≡ turned j (q t)) ring-own
-
-      pub ring-take-other : (u : ℕ) → (u ≡ t → ⊥) → ring-of n′ t′ l′ u ≡ q u
-      ring-take-other u e = moved (λ n a l. ring-of n a l u ≡ q u) (ring-other u e)
-
-      pub ring-take-sound : RingSound n′ t′ l′ top
-      ring-take-sound = moved (λ n a l. RingSound n a l top) ring-sound
-
-      pub ring-take-used : r < top
-      ring-take-used = below-top t r (rw ring-take-place (omega (arith, counts p, times-self p)))
-
-      -- the place that was taken waits nowhere
-      pub ring-take-out : (u : ℕ) → times r (ring-of n′ t′ l′ u) ≡ 0
-      ring-take-out = any t (λ u. times r (ring-of n′ t′ l′ u) ≡ 0)
-          (rw (ring-take-own, ring-take-place) (omega (arith, counts p, times-self p, sound .once t p)))
-          (λ u e. rw (ring-take-other u e, ring-take-place) (sound .apart t u p e (omega (arith, counts p, times-self p))))
+    -- the place that was taken waits nowhere
+    pub ring-unlink-out : (u : ℕ) → times p (ring-of next′ tail′ len′ u) ≡ 0
+    ring-unlink-out = is-or-not t (λ u. times p (ring-of next′ tail′ len′ u) ≡ 0)
+        (rw ring-unlink-own (omega (arith, counts p, times-self p, sound .once t p)))
+        (λ u e. rw (ring-unlink-other u e) (sound .apart t u p e (omega (arith, counts p, times-self p))))
 
   -- ENQUEUE a place that waits nowhere
   module _ (t p : ℕ) (fresh : (u : ℕ) → times p (q u) ≡ 0) (place : p < top) (table : t < 256) where
@@ -265,9 +244,9 @@ module _ (next tail len : List ℕ) (top : ℕ) (sound : RingSound next tail len
 
     -- where a place is in the queues after it: as before, and p behind t's
     apart-e : (u v x : ℕ) → (v ≡ u → ⊥) → 1 ≤ times x (ring-of next-e tail-e len-e u) → times x (ring-of next-e tail-e len-e v) ≡ 0
-    apart-e = any t (λ u. (v x : ℕ) → (v ≡ u → ⊥) → 1 ≤ times x (ring-of next-e tail-e len-e u) → times x (ring-of next-e tail-e len-e v) ≡ 0)
+    apart-e = is-or-not t (λ u. (v x : ℕ) → (v ≡ u → ⊥) → 1 ≤ times x (ring-of next-e tail-e len-e u) → times x (ring-of next-e tail-e len-e v) ≡ 0)
         (λ v x n h. rw (ring-enqueue-other v n) (new v x n (eqb x p) refl (rw ring-enqueue-own at h)))
-        (λ u m. any t (λ v. (x : ℕ) → (v ≡ u → ⊥) → 1 ≤ times x (ring-of next-e tail-e len-e u) → times x (ring-of next-e tail-e len-e v) ≡ 0)
+        (λ u m. is-or-not t (λ v. (x : ℕ) → (v ≡ u → ⊥) → 1 ≤ times x (ring-of next-e tail-e len-e u) → times x (ring-of next-e tail-e len-e v) ≡ 0)
         (λ x n h. rw ring-enqueue-own (old u x n (rw (ring-enqueue-other u m) at h)))
         (λ v k x n h. rw (ring-enqueue-other v k) (sound .apart u v x n (rw (ring-enqueue-other u m) at h))))
       where
@@ -286,11 +265,11 @@ module _ (next tail len : List ℕ) (top : ℕ) (sound : RingSound next tail len
       long-next = full-e;
       long-tail = length-set tail t p ∙ sound .long-tail;
       long-len = length-set len t (grown (ltb (getD len t 0) 256) (getD len t 0)) ∙ sound .long-len;
-      closed = any t (λ u. Chain next-e (getD tail-e u 0) (ring-of next-e tail-e len-e u) (getD tail-e u 0))
+      closed = is-or-not t (λ u. Chain next-e (getD tail-e u 0) (ring-of next-e tail-e len-e u) (getD tail-e u 0))
           (rw (ring-enqueue-own, tail-e-t) ring-e) (λ u n. rw (ring-enqueue-other u n, tail-e-u u n) (ring-e-u u n));
-      once = any t (λ u. (x : ℕ) → times x (ring-of next-e tail-e len-e u) ≤ 1)
+      once = is-or-not t (λ u. (x : ℕ) → times x (ring-of next-e tail-e len-e u) ≤ 1)
           (λ x. rw ring-enqueue-own (once-e x)) (λ u n x. rw (ring-enqueue-other u n) (sound .once u x));
-      small = any t (λ u. (x : ℕ) → top ≤ x → times x (ring-of next-e tail-e len-e u) ≡ 0)
+      small = is-or-not t (λ u. (x : ℕ) → top ≤ x → times x (ring-of next-e tail-e len-e u) ≡ 0)
           (λ x h. rw ring-enqueue-own (small-e x h)) (λ u n x h. rw (ring-enqueue-other u n) (sound .small u x h));
       apart = apart-e;
     }

@@ -1,19 +1,15 @@
--- Laws of walks along links: a search along a walk, chains, and what a write to one link does to a chain.
+-- Laws of walks along links: where links lead, chains, and what a write to one link does to a chain; and the ring functions at their tests' answers.
 use Prim.Native.Nat.{ℕ, zero, suc, _+_, _-_, _≤_, _<_}
-use native.Mathlib.Nat.{sub-zero}
-use native.Mathlib.Numerals.{add-one}
 use native.Mathlib.Omega.{arith}
 use mathlib.Core.Path.{_≡_, refl, sym, ap, ap₂, subst, _∙_}
 use mathlib.Core.Bool.{Bool, true, false}
 use mathlib.Core.List.{List, [], _∷_, _++_}
-use lib.ListN.{length, take, drop, getD, set, length-set}
-use lib.Seq.{getD-set-same, getD-set-other, set-getD, take-suc, getD-drop, drop-drop}
-use lib.Dec.{eqb}
-use borrow.Author.Tests.{eq-eqb, ne-eqb, lt-ltb, le-ltb, ltb-true, ltb-false}
-use Rattle.rings.specs.declared.Spot.{Spot}
-use Rattle.rings.specs.Lists.{first-index, one, times}
-use Rattle.rings.specs.Rings.{walk, end, Chain, Found, ring-of, RingTook, RingTookAt, RingMoved, moved-next, moved-tail, joined}
-use Rattle.rings.proofs.Laws.{first-index-here, first-index-past}
+use lib.ListN.{length, take, getD, set, length-set}
+use lib.Seq.{getD-set-same, getD-set-other, set-getD}
+use lib.Dec.{eqb, ltb}
+use borrow.Author.Tests.{eq-eqb, ne-eqb, lt-ltb, le-ltb}
+use Rattle.rings.specs.Lists.{one, times}
+use Rattle.rings.specs.Rings.{walk, end, Chain, ring-of, place-if, has-any, unlinked, shortened, popped-next, RingMoved, moved-next, moved-tail, joined}
 
 pub length-walk : (m : ℕ) (next : List ℕ) (a : ℕ) → length (walk m next a) ≡ m
 length-walk zero next a = refl
@@ -23,64 +19,25 @@ pub end-append : (a : ℕ) (l m : List ℕ) → end a (l ++ m) ≡ end (end a l)
 end-append a [] m = refl
 end-append a (x ∷ l) m = end-append x l m
 
--- the search along a walk: i steps are done, from a to b, and no place met so far passes the test
-pub record Walked (f : ℕ → Bool) (next : List ℕ) (m a i b : ℕ) : Type 0 where
-  pub fits : i ≤ m
-  pub left : drop i (walk m next a) ≡ walk (m - i) next b
-  pub ends : b ≡ end a (take i (walk m next a))
-  pub first : i + first-index f (drop i (walk m next a)) ≡ first-index f (walk m next a)
+-- one link on
+pub walk-step : (n : ℕ) (next : List ℕ) (a : ℕ) → 0 < n → walk n next a ≡ getD next a 0 ∷ walk (n - 1) next (getD next a 0)
+walk-step zero next a h = absurd (omega arith)
+walk-step (suc n) next a h = let e : n ≡ suc n - 1 = omega arith in ap (λ (k : ℕ). getD next a 0 ∷ walk k next (getD next a 0)) e
 
-pub walked-none : (f : ℕ → Bool) (next : List ℕ) (m a : ℕ) → Walked f next m a 0 a
-walked-none f next m a = record { fits = omega arith; left = rw (sub-zero m); ends = refl; first = omega arith }
+-- the place that n links lead to
+abbrev pub after : ℕ → List ℕ → ℕ → ℕ
+after zero next a = a
+after (suc n) next a = after n next (getD next a 0)
 
-module _ (f : ℕ → Bool) (next : List ℕ) (m a i b : ℕ) (w : Walked f next m a i b) where
-  module _ (h : i < m) where
-    here : drop i (walk m next a) ≡ getD next b 0 ∷ walk (m - (i + 1)) next (getD next b 0)
-    here =
-        let e : m - i ≡ suc (m - (i + 1)) = omega arith in
-        w .left ∙ ap (λ (k : ℕ). walk k next b) e
+pub after-step : (n : ℕ) (next : List ℕ) (a : ℕ) → 0 < n → after n next a ≡ after (n - 1) next (getD next a 0)
+after-step zero next a h = absurd (omega arith)
+after-step (suc n) next a h = let e : n ≡ suc n - 1 = omega arith in ap (λ (k : ℕ). after k next (getD next a 0)) e
 
-    behind : drop (i + 1) (walk m next a) ≡ walk (m - (i + 1)) next (getD next b 0)
-    behind = sym (drop-drop 1 i (walk m next a)) ∙ ap (drop 1) here
-
-    at-i : getD (walk m next a) i 0 ≡ getD next b 0
-    at-i =
-        let s : getD (drop i (walk m next a)) 0 0 ≡ getD (walk m next a) (i + 0) 0 = getD-drop i (walk m next a) 0 0 in
-        let z : i + 0 ≡ i = omega arith in
-        ap (λ (k : ℕ). getD (walk m next a) k 0) (sym z) ∙ sym s ∙ ap (λ (l : List ℕ). getD l 0 0) here
-
-    pub walked-here : f (getD next b 0) ≡ true → Found f (walk m next a) a (record { found = true; before = b })
-    walked-here e =
-        let s : first-index f (drop i (walk m next a)) ≡ 0 = rw here (first-index-here f (getD next b 0) (walk (m - (i + 1)) next (getD next b 0)) e) in
-        let j : i ≡ first-index f (walk m next a) = omega (arith, w .first) in
-        record {
-          is = sym (lt-ltb (first-index f (walk m next a)) (length (walk m next a)) (omega (arith, length-walk m next a)));
-          at = w .ends ∙ ap (λ (k : ℕ). end a (take k (walk m next a))) j;
-        }
-
-    pub walked-next : f (getD next b 0) ≡ false → Walked f next m a (i + 1) (getD next b 0)
-    walked-next e =
-        let s : first-index f (drop i (walk m next a)) ≡ suc (first-index f (drop (i + 1) (walk m next a))) =
-        rw (here, behind) (first-index-past f (getD next b 0) (walk (m - (i + 1)) next (getD next b 0)) e) in
-        let long : i < length (walk m next a) = omega (arith, length-walk m next a) in
-        let t : take (i + 1) (walk m next a) ≡ take i (walk m next a) ++ (getD next b 0 ∷ []) =
-        rw (add-one) (take-suc (walk m next a) i 0 long ∙ ap (λ (x : ℕ). take i (walk m next a) ++ (x ∷ [])) at-i) in
-        record {
-          fits = omega arith;
-          left = behind;
-          ends = sym (ap (end a) t ∙ end-append a (take i (walk m next a)) (getD next b 0 ∷ []));
-          first = omega (arith, w .first);
-        }
-
-  pub walked-over : m ≤ i → Found f (walk m next a) a (record { found = false; before = b })
-  walked-over h =
-      let n : m - i ≡ 0 = omega arith in
-      let s : first-index f (drop i (walk m next a)) ≡ 0 = ap (first-index f) (w .left ∙ ap (λ (k : ℕ). walk k next b) n) in
-      let j : i ≡ first-index f (walk m next a) = omega (arith, w .first) in
-      record {
-        is = sym (le-ltb (first-index f (walk m next a)) (length (walk m next a)) (omega (arith, length-walk m next a)));
-        at = w .ends ∙ ap (λ (k : ℕ). end a (take k (walk m next a))) j;
-      }
+-- the place at j is the one behind where j links lead
+pub walk-after : (m : ℕ) (next : List ℕ) (a j : ℕ) → j < m → getD (walk m next a) j 0 ≡ getD next (after j next a) 0
+walk-after zero next a j h = absurd (omega arith)
+walk-after (suc m) next a zero h = refl
+walk-after (suc m) next a (suc j) h = walk-after m next (getD next a 0) j (omega arith)
 
 -- CHAINS
 pub chain-walk : (next : List ℕ) (a : ℕ) (l : List ℕ) (b : ℕ) → Chain next a l b → walk (length l) next a ≡ l
@@ -145,43 +102,6 @@ walk-at zero next a j h = absurd (omega arith)
 walk-at (suc m) next a zero h = refl
 walk-at (suc m) next a (suc j) h = walk-at m next (getD next a 0) j (omega arith)
 
--- `ring_take` at the answers of `ring_find`
-module _ (next tail len : List ℕ) (t : ℕ) (f : ℕ → Bool) (s : Spot)
-    (found : Found f (ring-of next tail len t) (getD tail t 0) s) where
-  queue : List ℕ
-  queue = ring-of next tail len t
-
-  j : ℕ
-  j = first-index f (ring-of next tail len t)
-
-  pub ring-took : s .found ≡ true → (a p k : ℕ) → a ≡ s .before → p ≡ getD next a 0 → k ≡ getD len t 0 - 1
-      → RingTook next tail len t f (set next a (getD next p 0)) (set tail t (s .before)) (set len t k) p
-  unfolding queue j
-  ring-took e a p k ea ep ek =
-      let has : j < length queue = ltb-true j (length queue) (sym (found .is) ∙ e) in
-      let ab : a ≡ end (getD tail t 0) (take j queue) = ea ∙ found .at in
-      let pj : p ≡ getD queue j 0 =
-      ep ∙ ap (λ (x : ℕ). getD next x 0) ab ∙ sym (walk-at (getD len t 0) next (getD tail t 0) j (omega (arith, has, length-walk (getD len t 0) next (getD tail t 0)))) in
-      record {
-        none = λ h. absurd (omega arith);
-        place = λ h. pj;
-        links = λ h. ap₂ (λ (x y : ℕ). set next x (getD next y 0)) ab pj;
-        ends = λ h. ap (set tail t) (found .at);
-        size = λ h. ap (set len t) ek;
-      }
-
-  pub ring-none : s .found ≡ false → RingTook next tail len t f next tail len 256
-  unfolding queue j
-  ring-none e =
-      let no : length queue ≤ j = ltb-false j (length queue) (sym (found .is) ∙ e) in
-      record {
-        none = λ h. (refl, refl, refl, refl);
-        place = λ h. absurd (omega arith);
-        links = λ h. absurd (omega arith);
-        ends = λ h. absurd (omega arith);
-        size = λ h. absurd (omega arith);
-      }
-
 -- where a chain ends: at its start or in it
 pub chain-in : (next : List ℕ) (a : ℕ) (l : List ℕ) (b : ℕ) → Chain next a l b → 1 ≤ times b (a ∷ l)
 chain-in next a [] b c = omega (arith, ap one (eq-eqb b a (sym c)))
@@ -226,29 +146,41 @@ ring-moved next tail len f g x y s ex ey es = record {
   size = ap (set (set len f 0) g) es;
 }
 
+-- `ring_unlink`
+pub unlink-is : (next len : List ℕ) (t b p k : ℕ) → p ≡ getD next b 0 → k ≡ getD len t 0 - 1
+    → (set next b (getD next p 0) ≡ unlinked next b) × (set len t k ≡ shortened len t)
+unlink-is next len t b p k ep ek = (ap (λ (x : ℕ). set next b (getD next x 0)) ep, ap (set len t) ek)
+
 -- `ring_pop` at the test's answers
 module _ (next tail len : List ℕ) (t : ℕ) where
-  pub pop-none : getD len t 0 ≡ 0 → RingTookAt next tail len t (ring-of next tail len t) 0 (getD tail t 0) next tail len 256
-  pop-none e =
-      let no : length (ring-of next tail len t) ≡ 0 = length-walk (getD len t 0) next (getD tail t 0) ∙ e in
-      record {
-        none = λ h. (refl, refl, refl, refl);
-        place = λ h. absurd (omega arith);
-        links = λ h. absurd (omega arith);
-        ends = λ h. absurd (omega arith);
-        size = λ h. absurd (omega arith);
-      }
+  abbrev a : ℕ
+  a = getD tail t 0
 
-  pub pop-some : (getD len t 0 ≡ 0 → ⊥) → (a p k : ℕ) → a ≡ getD tail t 0 → p ≡ getD next a 0 → k ≡ getD len t 0 - 1
-      → RingTookAt next tail len t (ring-of next tail len t) 0 (getD tail t 0) (set next a (getD next p 0)) tail (set len t k) p
-  pop-some n a p k ea ep ek =
-      let l : length (ring-of next tail len t) ≡ getD len t 0 = length-walk (getD len t 0) next (getD tail t 0) in
-      let f : getD (ring-of next tail len t) 0 0 ≡ getD next (getD tail t 0) 0 = walk-at (getD len t 0) next (getD tail t 0) 0 (omega arith) in
-      let pf : p ≡ getD (ring-of next tail len t) 0 0 = ep ∙ ap (λ (x : ℕ). getD next x 0) ea ∙ sym f in
-      record {
-        none = λ h. absurd (omega arith);
-        place = λ h. pf;
-        links = λ h. ap₂ (λ (x y : ℕ). set next x (getD next y 0)) ea pf;
-        ends = λ h. sym (set-getD tail t 0);
-        size = λ h. ap (set len t) ek;
-      }
+  pub pop-none : getD len t 0 ≡ 0
+      → (256 ≡ place-if (has-any len t) (getD next a 0)) × (next ≡ popped-next (has-any len t) next a) × (len ≡ shortened len t)
+  pop-none e =
+      let b : has-any len t ≡ false = le-ltb 0 (getD len t 0) (omega arith) in
+      let z : getD len t 0 - 1 ≡ getD len t 0 = omega arith in (
+        sym (ap (λ (c : Bool). place-if c (getD next a 0)) b),
+        sym (ap (λ (c : Bool). popped-next c next a) b),
+        sym (ap (set len t) z ∙ set-getD len t 0),
+      )
+
+  pub pop-some : (getD len t 0 ≡ 0 → ⊥)
+      → (getD next a 0 ≡ place-if (has-any len t) (getD next a 0)) × (unlinked next a ≡ popped-next (has-any len t) next a)
+  pop-some n =
+      let b : has-any len t ≡ true = lt-ltb 0 (getD len t 0) (omega arith) in
+      (sym (ap (λ (c : Bool). place-if c (getD next a 0)) b), sym (ap (λ (c : Bool). popped-next c next a) b))
+
+-- `ring_at` at the test's answers
+module _ (next tail len : List ℕ) (t index : ℕ) where
+  abbrev at : ℕ
+  at = getD (ring-of next tail len t) index 0
+
+  pub at-none : getD len t 0 ≤ index → 256 ≡ place-if (ltb index (getD len t 0)) at
+  at-none h = sym (ap (λ (c : Bool). place-if c at) (le-ltb index (getD len t 0) h))
+
+  pub at-some : index < getD len t 0 → (p : ℕ) → p ≡ after index next (getD tail t 0) → getD next p 0 ≡ place-if (ltb index (getD len t 0)) at
+  at-some h p e =
+      ap (λ (x : ℕ). getD next x 0) e ∙ sym (walk-after (getD len t 0) next (getD tail t 0) index h)
+      ∙ sym (ap (λ (c : Bool). place-if c at) (lt-ltb index (getD len t 0) h))

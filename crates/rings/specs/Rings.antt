@@ -1,19 +1,11 @@
 -- What the rings mean: a table's queue is what a walk along the links from the table's last place meets, as many steps as the queue is long.
-use Prim.Native.Nat.{ℕ, zero, suc, _+_, _-_, _≤_, _<_}
+use Prim.Native.Nat.{ℕ, zero, suc, _+_, _-_, _≤_}
 use mathlib.Core.Path.{_≡_}
-use mathlib.Core.Bool.{Bool, true, false, not, _&&_}
+use mathlib.Core.Bool.{Bool, true, false}
 use mathlib.Core.List.{List, [], _∷_, map}
-use lib.ListN.{length, take, getD, set}
+use lib.ListN.{getD, set}
 use lib.Dec.{eqb, ltb}
-use Rattle.rings.specs.declared.Spot.{Spot}
-use Rattle.rings.specs.Lists.{first-index, times, grown, Full}
-
--- the place p may be taken at this clock, where the table wants complete answers or not
-abbrev pub eligible-at : (time ambiguous clock : ℕ) → (complete : Bool) → Bool
-eligible-at time ambiguous clock complete = ltb time clock && not (complete && not (eqb ambiguous 0))
-
-abbrev pub eligible : (time ambiguous : List ℕ) → (clock : ℕ) → (complete : Bool) → ℕ → Bool
-eligible time ambiguous clock complete p = eligible-at (getD time p 0) (getD ambiguous p 0) clock complete
+use Rattle.rings.specs.Lists.{times, grown, Full}
 
 abbrev pub walk : ℕ → List ℕ → ℕ → List ℕ
 walk zero next a = []
@@ -32,23 +24,29 @@ abbrev pub end : ℕ → List ℕ → ℕ
 end a [] = a
 end a (x ∷ l) = end x l
 
--- what ring_find finds in the walk l from a: whether a place is eligible, and the place before the first that is
-pub record Found (f : ℕ → Bool) (l : List ℕ) (a : ℕ) (r : Spot) : Type 0 where
-  pub is : r .found ≡ ltb (first-index f l) (length l)
-  pub at : r .before ≡ end a (take (first-index f l) l)
+-- the places of a store; as a place, none
+abbrev pub most-places : ℕ
+most-places = 256
 
--- what ring_take does: j is where the first eligible place stands in the queue l, and b the place before it
-pub record RingTookAt (next tail len : List ℕ) (t : ℕ) (l : List ℕ) (j b : ℕ) (next′ tail′ len′ : List ℕ) (r : ℕ) : Type 0 where
-  pub none : length l ≤ j → (r ≡ 256) × (next′ ≡ next) × (tail′ ≡ tail) × (len′ ≡ len)
-  pub place : j < length l → r ≡ getD l j 0
-  pub links : j < length l → next′ ≡ set next b (getD next (getD l j 0) 0)
-  pub ends : j < length l → tail′ ≡ set tail t b
-  pub size : j < length l → len′ ≡ set len t (getD len t 0 - 1)
+-- a place, or none
+abbrev pub place-if : Bool → ℕ → ℕ
+place-if true p = p
+place-if false p = most-places
 
-abbrev pub RingTook : (next tail len : List ℕ) → (t : ℕ) → (ℕ → Bool) → (next′ tail′ len′ : List ℕ) → ℕ → Type 0
-RingTook next tail len t f next′ tail′ len′ r =
-    RingTookAt next tail len t (ring-of next tail len t) (first-index f (ring-of next tail len t))
-    (end (getD tail t 0) (take (first-index f (ring-of next tail len t)) (ring-of next tail len t))) next′ tail′ len′ r
+abbrev pub has-any : List ℕ → ℕ → Bool
+has-any len t = ltb 0 (getD len t 0)
+
+-- `ring_unlink`: the place behind b is out of the links
+abbrev pub unlinked : List ℕ → ℕ → List ℕ
+unlinked next b = set next b (getD next (getD next b 0) 0)
+
+abbrev pub shortened : List ℕ → ℕ → List ℕ
+shortened len t = set len t (getD len t 0 - 1)
+
+-- `ring_pop`: the first place is behind the last, a
+abbrev pub popped-next : Bool → List ℕ → ℕ → List ℕ
+popped-next true next a = unlinked next a
+popped-next false next a = next
 
 abbrev pub linked-at : Bool → List ℕ → ℕ → ℕ → List ℕ
 linked-at true next last p = set next p p
@@ -104,8 +102,3 @@ pub record RingSound (next tail len : List ℕ) (top : ℕ) : Type 0 where
   pub once : (t p : ℕ) → times p (ring-of next tail len t) ≤ 1
   pub small : (t p : ℕ) → top ≤ p → times p (ring-of next tail len t) ≡ 0
   pub apart : (t u p : ℕ) → (u ≡ t → ⊥) → 1 ≤ times p (ring-of next tail len t) → times p (ring-of next tail len u) ≡ 0
-
--- the place at an index of a queue, or 256
-pub record PlaceAt (l : List ℕ) (index r : ℕ) : Type 0 where
-  pub there : index < length l → r ≡ getD l index 0
-  pub past : length l ≤ index → r ≡ 256

@@ -3,18 +3,14 @@
 // to turn the ring, so that the one behind it comes first (table.rs `dequeue_next_strand_that`); a whole queue goes behind another in
 // two writes, whatever their lengths. The free places of a store are such a queue too.
 ghost use mathlib.Core.Path.{_≡_};
-ghost use mathlib.Core.List.{List, [], _∷_, _++_};
-ghost use Prim.Native.Nat.{ℕ, _+_, _-_, _≤_, _<_};
-ghost use lib.ListN.{length, take, drop, getD, set};
+ghost use Prim.Native.Nat.{_-_, _<_};
+ghost use lib.ListN.{getD, set};
 ghost use lib.Dec.{ltb};
-ghost use Rattle.rings.specs.Lists.{first-index, grown};
-ghost use Rattle.rings.specs.Rings.{walk, ring-of, eligible-at, eligible, Found, RingTookAt, RingTook, linked, lengthened, joined, RingMove, PlaceAt};
+ghost use Rattle.rings.specs.Lists.{grown};
+ghost use Rattle.rings.specs.Rings.{ring-of, place-if, has-any, unlinked, shortened, popped-next, linked, lengthened, joined, RingMove};
 
-// Whether a search found an eligible place, and the place before it.
-pub struct Spot {
-    pub found: bool,
-    pub before: u8,
-}
+// A store's places are named by a byte; this number, which is no place, stands for none. It is `most-places` of `specs/Rings.antt`.
+pub const PLACES: usize = 256;
 
 fn wide(x: u8) -> usize
     ensures { λ r. ⌜ (r ≡ x) × (r < 256) ⌝ }
@@ -22,92 +18,45 @@ fn wide(x: u8) -> usize
     x as usize
 }
 
-fn may_take(time: u64, ambiguous: u8, clock: u64, complete: bool) -> bool
-    ensures { λ r. ⌜ r ≡ eligible-at time ambiguous clock complete ⌝ }
-{
-    if time >= clock {
-        return false;
-    }
-    if complete {
-        return ambiguous == 0;
-    }
-    true
-}
-
-// Looks along the links from a place, m steps, for the first place that may be taken: one that was pursued before the clock's time
-// and, where the table wants complete answers, isn't ambiguous (logic.rs `ensure_root_answer`).
-fn ring_find(
-    next: &[u8; 256],
-    from: u8,
-    m: u16,
-    time: &[u64; 256],
-    ambiguous: &[u8; 256],
-    clock: u64,
-    complete: bool,
-) -> Spot
-    ensures { λ r. ⌜ Found (eligible (now (time .entry)) (now (ambiguous .entry)) clock complete) (walk m (now (next .entry)) from) from r ⌝ }
-{
-    let mut prev = from;
-    let mut i: u16 = 0;
-    while i < m {
-        let p = next[wide(prev)];
-        let k = wide(p);
-        if may_take(time[k], ambiguous[k], clock, complete) {
-            return Spot {
-                found: true,
-                before: prev,
-            };
-        }
-        prev = p;
-        i = i + 1;
-    }
-    Spot {
-        found: false,
-        before: prev,
-    }
-}
-
-// Takes the first place of the table's queue that may be taken; 256 where there is none. Taking b from a, b, c leaves c, a.
-pub fn ring_take(
-    next: &mut [u8; 256],
-    tail: &mut [u8; 256],
-    len: &mut [u16; 256],
+// Takes the place behind `before` out of the table's queue, and turns the ring: what was behind it is first, and `before` last. Taking b
+// from a, b, c leaves c, a. It is for whoever looked along the queue to find a place there; a place of no queue is unlinked all the same.
+pub fn ring_unlink(
+    next: &mut [u8; PLACES],
+    tail: &mut [u8; PLACES],
+    len: &mut [u16; PLACES],
     table: u8,
-    time: &[u64; 256],
-    ambiguous: &[u8; 256],
-    clock: u64,
-    complete: bool,
+    before: u8,
 ) -> usize
-    ensures { λ r. ⌜ RingTook (now (next .entry)) (now (tail .entry)) (now (len .entry)) table
-        (eligible (now (time .entry)) (now (ambiguous .entry)) clock complete)
-        (now (next .exit)) (now (tail .exit)) (now (len .exit)) r ⌝ }
+    ensures { λ r. ⌜ (r ≡ getD (now (next .entry)) before 0)
+        × (now (next .exit) ≡ unlinked (now (next .entry)) before)
+        × (now (tail .exit) ≡ set (now (tail .entry)) table before)
+        × (now (len .exit) ≡ shortened (now (len .entry)) table) ⌝ }
 {
     let t = table as usize;
-    let m = len[t];
-    let from = tail[t];
-    let s = ring_find(next, from, m, time, ambiguous, clock, complete);
-    if s.found {
-        let a = wide(s.before);
-        let p = wide(next[a]);
-        let after = next[p];
-        next[a] = after;
-        tail[t] = s.before;
-        len[t] = less(m);
-        return p;
-    }
-    256
+    let a = before as usize;
+    let p = wide(next[a]);
+    let after = next[p];
+    next[a] = after;
+    tail[t] = before;
+    len[t] = less(len[t]);
+    p
 }
 
-// Takes the first place of the table's queue: where the table is that of the free places, this finds one.
-pub fn ring_pop(next: &mut [u8; 256], tail: &[u8; 256], len: &mut [u16; 256], table: u8) -> usize
-    ensures { λ r. ⌜ RingTookAt (now (next .entry)) (now (tail .entry)) (now (len .entry)) table
-        (ring-of (now (next .entry)) (now (tail .entry)) (now (len .entry)) table) 0 (getD (now (tail .entry)) table 0)
-        (now (next .exit)) (now (tail .entry)) (now (len .exit)) r ⌝ }
+// Takes the first place of the table's queue: where the table is that of the free places, this finds one. 256 where there is none.
+pub fn ring_pop(
+    next: &mut [u8; PLACES],
+    tail: &[u8; PLACES],
+    len: &mut [u16; PLACES],
+    table: u8,
+) -> usize
+    ensures { λ r. ⌜ (r ≡ place-if (has-any (now (len .entry)) table) (getD (now (next .entry)) (getD (now (tail .entry)) table 0) 0))
+        × (now (next .exit) ≡ popped-next (has-any (now (len .entry)) table) (now (next .entry)) (getD (now (tail .entry)) table 0))
+        × (now (len .exit) ≡ shortened (now (len .entry)) table) ⌝ }
 {
     let t = table as usize;
     let m = len[t];
     if m == 0 {
-        return 256;
+        return PLACES;
     }
     let a = wide(tail[t]);
     let p = wide(next[a]);
@@ -131,9 +80,9 @@ fn more(m: u16) -> u16
 
 // Puts a place at the end of the table's queue.
 pub fn ring_enqueue(
-    next: &mut [u8; 256],
-    tail: &mut [u8; 256],
-    len: &mut [u16; 256],
+    next: &mut [u8; PLACES],
+    tail: &mut [u8; PLACES],
+    len: &mut [u16; PLACES],
     table: u8,
     place: u8,
 )
@@ -170,7 +119,13 @@ fn added(k: u16, m: u16) -> u16
 }
 
 // Moves the whole queue of one table behind that of another: two links change, whatever their lengths. Free places are such a queue.
-pub fn ring_move(next: &mut [u8; 256], tail: &mut [u8; 256], len: &mut [u16; 256], from: u8, to: u8)
+pub fn ring_move(
+    next: &mut [u8; PLACES],
+    tail: &mut [u8; PLACES],
+    len: &mut [u16; PLACES],
+    from: u8,
+    to: u8,
+)
     ensures { λ _. ⌜ RingMove (now (next .entry)) (now (tail .entry)) (now (len .entry)) from to (now (next .exit)) (now (tail .exit)) (now (len .exit)) ⌝ }
 {
     let f = from as usize;
@@ -200,19 +155,25 @@ pub fn ring_move(next: &mut [u8; 256], tail: &mut [u8; 256], len: &mut [u16; 256
 }
 
 // The place at an index of the table's queue, counted from 0; 256 where the queue is shorter.
-pub fn ring_at(next: &[u8; 256], tail: &[u8; 256], len: &[u16; 256], table: u8, index: u16) -> usize
-    ensures { λ r. ⌜ PlaceAt (ring-of (now (next .entry)) (now (tail .entry)) (now (len .entry)) table) index r ⌝ }
+pub fn ring_at(
+    next: &[u8; PLACES],
+    tail: &[u8; PLACES],
+    len: &[u16; PLACES],
+    table: u8,
+    index: u16,
+) -> usize
+    ensures { λ r. ⌜ r ≡ place-if (ltb index (getD (now (len .entry)) table 0))
+        (getD (ring-of (now (next .entry)) (now (tail .entry)) (now (len .entry)) table) index 0) ⌝ }
 {
     let t = table as usize;
-    let m = len[t];
-    if index >= m {
-        return 256;
+    if index >= len[t] {
+        return PLACES;
     }
     let mut prev = tail[t];
-    let mut i: u16 = 0;
-    while i < index {
+    let mut left = index;
+    while left > 0 {
         prev = next[wide(prev)];
-        i = i + 1;
+        left = left - 1;
     }
     wide(next[wide(prev)])
 }

@@ -6,13 +6,16 @@ pub mod PlacesWaiting
 pub mod PlacesViews
 pub mod PlacesCases
 pub mod PlacesMoves
+pub mod PlacesSearch
+pub mod QueueCases
 pub mod QueueSound
 pub mod QueueViews
 pub mod QueueStores
-pub mod TableCases
+pub mod TableKeys
 pub mod TablePushCases
 pub mod TableViews
 pub mod TablePushViews
+pub mod TableFuture
 pub mod TablesCases
 pub mod TablesViews
 pub mod TablesSearch

@@ -12,8 +12,8 @@ use lib.Seq.{drop-cons}
 use lib.Dec.{ltb}
 use borrow.Author.Tests.{lt-ltb, le-ltb, ltb-true, ltb-false}
 use Rattle.definitions.specs.Lists.{push, position, rotate-left, total}
-use Rattle.rings.specs.Lists.{stop, first-index, times, turned}
-use Rattle.rings.proofs.Counts.{All, map-append, times-self}
+use Rattle.rings.specs.Lists.{stop, first-index, times, turned, All}
+use Rattle.rings.proofs.Counts.{map-append, times-self}
 use Rattle.book.specs.View.{span}
 use Rattle.book.proofs.Spans.{span-ext, span-snoc}
 
@@ -25,14 +25,21 @@ first-if false i = none
 abbrev pub later : Option ℕ → Option ℕ
 later o = elim o [ none ↦ none | some i ↦ some (suc i) ]
 
+pub ltb-suc : (i n : ℕ) → ltb (suc i) (suc n) ≡ ltb i n
+ltb-suc i n = go (ltb i n) refl
+  where
+    go : (b : Bool) → ltb i n ≡ b → ltb (suc i) (suc n) ≡ b
+    go true e = lt-ltb (suc i) (suc n) (omega (arith, ltb-true i n e))
+    go false e = le-ltb (suc i) (suc n) (omega (arith, ltb-false i n e))
+
 position-step : (b : Bool) (n i : ℕ) (o : Option ℕ) → o ≡ first-if (ltb i n) i
     → elim b [ true ↦ some 0 | false ↦ later o ] ≡ first-if (ltb (stop b i) (suc n)) (stop b i)
 position-step true n i o e = ap (λ (b : Bool). first-if b 0) (sym (lt-ltb 0 (suc n) (omega arith)))
-position-step false n i o e = ap later e ∙ go (ltb i n) refl
+position-step false n i o e = ap later e ∙ go (ltb i n) ∙ ap (λ (b : Bool). first-if b (suc i)) (sym (ltb-suc i n))
   where
-    go : (c : Bool) → ltb i n ≡ c → later (first-if (ltb i n) i) ≡ first-if (ltb (suc i) (suc n)) (suc i)
-    go true d = rw (d, lt-ltb (suc i) (suc n) (omega (arith, ltb-true i n d))) refl
-    go false d = rw (d, le-ltb (suc i) (suc n) (omega (arith, ltb-false i n d))) refl
+    go : (b : Bool) → later (first-if b i) ≡ first-if b (suc i)
+    go true = refl
+    go false = refl
 
 module _ {A : Type 0} where
   span-at-from : (f : ℕ → A) (s n i : ℕ) → i < n → getElem? (span f s n) i ≡ some (f (s + i))

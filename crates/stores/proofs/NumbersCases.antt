@@ -3,12 +3,12 @@
 use Prim.Native.Nat.{ℕ, suc, _+_, _-_, _≤_, _<_}
 use native.Mathlib.Omega.{arith}
 use native.Mathlib.Numerals.{add-one}
-use mathlib.Core.Path.{_≡_, sym, ap, _∙_}
+use mathlib.Core.Path.{_≡_, refl, sym, ap, _∙_}
 use mathlib.Core.Bool.{Bool, true, false, _&&_}
 use mathlib.Core.List.{List}
 use lib.ListN.{getD, set}
 use borrow.Author.Tests.{lt-ltb, le-ltb}
-use Rattle.stores.specs.Numbers.{flag, set-if, add-if, count-after, written-at, first-at, all-from, flag-at}
+use Rattle.stores.specs.Numbers.{flag, flag-number, set-if, add-if, count-after, written-at, first-at, all-from, flag-at}
 
 -- one more, and a write, where there is room
 pub depth-full : (d : ℕ) → 64 ≤ d → d ≡ count-after d
@@ -22,6 +22,10 @@ written-full d h x l = sym (ap (λ (b : Bool). set-if b d x l) (le-ltb d 64 h))
 
 pub written-more : (d : ℕ) → d < 64 → (x : ℕ) (l : List ℕ) → set l d x ≡ written-at d x l
 written-more d h x l = sym (ap (λ (b : Bool). set-if b d x l) (lt-ltb d 64 h))
+
+pub flag-of : (b : Bool) → flag (flag-number b) ≡ b
+flag-of true = refl
+flag-of false = refl
 
 -- `flag_at`
 pub flag-far : (t : ℕ) (l : List ℕ) → 64 ≤ t → false ≡ flag-at t l

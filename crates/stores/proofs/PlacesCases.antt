@@ -1,13 +1,14 @@
--- `take_place` at its tests' answers, and what its number says: 256 where exactly 256 places are in use. From `RingTookAt` of `ring_pop`.
+-- `take_place` at its tests' answers, and what its number says: 256 where exactly 256 places are in use. From the contract of `ring_pop`.
 use Prim.Native.Nat.{ℕ, _+_, _-_, _≤_, _<_}
 use native.Mathlib.Omega.{arith}
-use mathlib.Core.Path.{_≡_, refl}
+use mathlib.Core.Path.{_≡_, refl, sym, ap, ap₂, _∙_}
 use mathlib.Core.Bool.{Bool, true, false}
 use mathlib.Core.List.{List, _∷_}
 use lib.ListN.{length, getD}
 use lib.Dec.{ltb}
 use borrow.Author.Tests.{lt-ltb, le-ltb, ltb-true, ltb-false}
-use Rattle.rings.specs.Rings.{ring-of, RingTookAt}
+use Rattle.rings.specs.Rings.{place-if, has-any, shortened, popped-next}
+use Rattle.rings.proofs.Walks.{walk-at}
 use Rattle.stores.specs.declared.places.Places.{Places}
 use Rattle.stores.specs.Numbers.{free}
 use Rattle.stores.specs.Places.{ring, places, popped, fresh, freed-if, free-place-if, any-free, any-fresh, freed, free-place, TookPlace}
@@ -19,27 +20,22 @@ module _ (next tail len : List ℕ) (top : ℕ) where
   p = places next tail len top
 
   took-at : (a b : Bool) → any-free p ≡ a → any-fresh p ≡ b → (next′ len′ : List ℕ) (top′ r : ℕ)
-      → r ≡ free-place-if a b p → next′ ≡ freed-if a b p .next → tail ≡ freed-if a b p .tail → len′ ≡ freed-if a b p .len → top′ ≡ freed-if a b p .top
-      → TookPlace next tail len top next′ len′ top′ r
-  took-at a b ea eb next′ len′ top′ r er en et el em = record {
-    is = rw (ea, eb) er;
-    links = rw (ea, eb) en;
-    ends = rw (ea, eb) et;
-    size = rw (ea, eb) el;
-    mark = rw (ea, eb) em;
-  }
+      → r ≡ free-place-if a b p → places next′ tail len′ top′ ≡ freed-if a b p → TookPlace next tail len top next′ len′ top′ r
+  took-at a b ea eb next′ len′ top′ r er ep = record { is = rw (ea, eb) er; left = rw (ea, eb) ep }
 
-  pub took-free : 0 < getD len 64 0 → (next′ len′ : List ℕ) (r : ℕ)
-      → RingTookAt next tail len 64 (ring-of next tail len 64) 0 (getD tail 64 0) next′ tail len′ r → TookPlace next tail len top next′ len′ top r
-  took-free h next′ len′ r did =
-      let has : 0 < length (ring p free) = omega (arith, length-ring p free) in
-      took-at true (any-fresh p) (lt-ltb 0 (getD len 64 0) h) refl next′ len′ top r (did .place has) (did .links has) refl (did .size has) refl
+  pub took-free : 0 < getD len 64 0 → (next′ len′ : List ℕ) (r : ℕ) → r ≡ place-if (has-any len 64) (getD next (getD tail 64 0) 0)
+      → next′ ≡ popped-next (has-any len 64) next (getD tail 64 0) → len′ ≡ shortened len 64 → TookPlace next tail len top next′ len′ top r
+  took-free h next′ len′ r er en el =
+      let has : has-any len 64 ≡ true = lt-ltb 0 (getD len 64 0) h in
+      took-at true (any-fresh p) has refl next′ len′ top r
+      (er ∙ ap (λ (b : Bool). place-if b (getD next (getD tail 64 0) 0)) has ∙ sym (walk-at (getD len 64 0) next (getD tail 64 0) 0 h))
+      (ap₂ (λ (x y : List ℕ). places x tail y top) (en ∙ ap (λ (b : Bool). popped-next b next (getD tail 64 0)) has) el)
 
   pub took-fresh : getD len 64 0 ≤ 0 → top < 256 → TookPlace next tail len top next len (top + 1) top
-  took-fresh h k = took-at false true (le-ltb 0 (getD len 64 0) h) (lt-ltb top 256 k) next len (top + 1) top refl refl refl refl refl
+  took-fresh h k = took-at false true (le-ltb 0 (getD len 64 0) h) (lt-ltb top 256 k) next len (top + 1) top refl refl
 
   pub took-none : getD len 64 0 ≤ 0 → 256 ≤ top → TookPlace next tail len top next len top 256
-  took-none h k = took-at false false (le-ltb 0 (getD len 64 0) h) (le-ltb top 256 k) next len top 256 refl refl refl refl refl
+  took-none h k = took-at false false (le-ltb 0 (getD len 64 0) h) (le-ltb top 256 k) next len top 256 refl refl
 
 -- what `take_place` means under `SoundPlaces`
 -- a place is found, and held from now on: it is below 256, and no ring of a table has changed

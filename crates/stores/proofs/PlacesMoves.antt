@@ -3,19 +3,17 @@
 use Prim.Native.Nat.{ℕ, _+_, _≤_, _<_}
 use native.Mathlib.Omega.{arith}
 use mathlib.Core.Path.{_≡_, refl, ap, ap₂, _∙_}
-use mathlib.Core.Bool.{Bool, true, false}
 use mathlib.Core.List.{List, [], _++_}
-use lib.ListN.{length, getD, set, length-append}
-use borrow.Author.Tests.{ltb-true, ltb-false}
+use lib.ListN.{length, set, length-append}
 use Rattle.rings.specs.Lists.{times}
-use Rattle.rings.specs.Rings.{RingTook, RingMoved, linked, lengthened}
-use Rattle.rings.proofs.Counts.{times-append}
+use Rattle.rings.specs.Rings.{RingMoved, linked, lengthened}
+use Rattle.rings.proofs.Counts.{is-or-not, times-append}
 use Rattle.rings.proofs.RingMoves.{ring-move-to, ring-move-from, ring-move-other, ring-move-sound}
 use Rattle.stores.specs.declared.places.Places.{Places}
-use Rattle.stores.specs.Numbers.{free, place-if}
-use Rattle.stores.specs.Places.{ring, places, taken-at, taken-if, taken, taken-place, has-one, first-of, moved-to, enqueued, freed, free-place, TookPlace}
+use Rattle.stores.specs.Numbers.{free}
+use Rattle.stores.specs.Places.{ring, places, moved-to, enqueued, freed, free-place, TookPlace}
 use Rattle.stores.specs.Sound.{waiting, SoundPlaces}
-use Rattle.stores.proofs.PlacesWaiting.{is-or-not, waiting-one}
+use Rattle.stores.proofs.PlacesWaiting.{waiting-one}
 
 module _ (p : Places) (n : ℕ) (held : List ℕ) (t : ℕ) (h : t < n) (sound : SoundPlaces p n held) where
   abbrev p′ : Places
@@ -60,28 +58,8 @@ module _ (p : Places) (n : ℕ) (held : List ℕ) (t : ℕ) (h : t < n) (sound :
       }
 
 -- WHAT THE CODE LEAVES is what the models say
-places-is : (n n′ t t′ l l′ : List ℕ) (m m′ : ℕ) → n ≡ n′ → t ≡ t′ → l ≡ l′ → m ≡ m′ → places n t l m ≡ places n′ t′ l′ m′
+pub places-is : (n n′ t t′ l l′ : List ℕ) (m m′ : ℕ) → n ≡ n′ → t ≡ t′ → l ≡ l′ → m ≡ m′ → places n t l m ≡ places n′ t′ l′ m′
 places-is n n′ t t′ l l′ m m′ a b c d = cc
-
-pub taken-is : (p : Places) (test : ℕ → Bool) (t : ℕ) (n′ t′ l′ : List ℕ) (r : ℕ) → RingTook (p .next) (p .tail) (p .len) t test n′ t′ l′ r
-    → (places n′ t′ l′ (p .top) ≡ taken test t p) × (r ≡ taken-place test t p)
-taken-is p test t n′ t′ l′ r did = go (has-one test t p) refl
-  where
-    go : (b : Bool) → has-one test t p ≡ b → (places n′ t′ l′ (p .top) ≡ taken-if b t (first-of test t p) p) × (r ≡ place-if b (getD (ring p t) (first-of test t p) 0))
-    go true e =
-        let k : first-of test t p < length (ring p t) = ltb-true (first-of test t p) (length (ring p t)) e in (
-          places-is n′ (taken-at t (first-of test t p) p .next) t′ (taken-at t (first-of test t p) p .tail) l′ (taken-at t (first-of test t p) p .len) (p .top) (p .top)
-              (did .links k) (did .ends k) (did .size k) refl,
-          did .place k,
-        )
-    go false e =
-        let k = did .none (ltb-false (first-of test t p) (length (ring p t)) e) in
-        (places-is n′ (p .next) t′ (p .tail) l′ (p .len) (p .top) (p .top) (k .1) (k .2) (k .3) refl, k .0)
-
-pub freed-is : (p : Places) (n′ l′ : List ℕ) (m′ r : ℕ) → TookPlace (p .next) (p .tail) (p .len) (p .top) n′ l′ m′ r
-    → places n′ (p .tail) l′ m′ ≡ freed p
-freed-is p n′ l′ m′ r did =
-    places-is n′ (freed p .next) (p .tail) (freed p .tail) l′ (freed p .len) m′ (freed p .top) (did .links) (did .ends) (did .size) (did .mark)
 
 pub moved-is : (p : Places) (t g : ℕ) (n′ t′ l′ : List ℕ) → RingMoved (p .next) (p .tail) (p .len) t g n′ t′ l′ → places n′ t′ l′ (p .top) ≡ moved-to t g p
 moved-is p t g n′ t′ l′ did =
@@ -96,4 +74,4 @@ pub freed-enqueued-is : (p : Places) (t : ℕ) (n′ l′ : List ℕ) (m′ q : 
     → (n″ t″ l″ : List ℕ) → n″ ≡ linked n′ (p .tail) l′ t q → t″ ≡ set (p .tail) t q → l″ ≡ lengthened l′ t
     → places n″ t″ l″ m′ ≡ enqueued t (free-place p) (freed p)
 freed-enqueued-is p t n′ l′ m′ q took n″ t″ l″ en et el =
-    enqueued-is (places n′ (p .tail) l′ m′) t q n″ t″ l″ en et el ∙ ap₂ (λ (i : ℕ) (r : Places). enqueued t i r) (took .is) (freed-is p n′ l′ m′ q took)
+    enqueued-is (places n′ (p .tail) l′ m′) t q n″ t″ l″ en et el ∙ ap₂ (λ (i : ℕ) (r : Places). enqueued t i r) (took .is) (took .left)

@@ -10,16 +10,15 @@ use lib.Seq.{length-take-le, set-getD}
 use lib.Dec.{eqb}
 use borrow.Author.Tests.{eqb-true}
 use Rattle.rings.specs.Lists.{one, times, turned}
-use Rattle.rings.specs.Rings.{RingTookAt}
-use Rattle.rings.proofs.Counts.{times-append, times-self, times-out}
+use Rattle.rings.proofs.Counts.{is-or-not, times-append, times-self, times-out}
 use Rattle.rings.proofs.Walks.{length-walk}
-use Rattle.rings.proofs.RingViews.{ring-enqueue-own, ring-enqueue-other, ring-enqueue-sound, ring-take-own, ring-take-other, ring-take-sound, ring-take-out, ring-take-used, ring-fresh-top, ring-start, ring-start-sound}
+use Rattle.rings.proofs.RingViews.{ring-enqueue-own, ring-enqueue-other, ring-enqueue-sound, ring-unlink-own, ring-unlink-other, ring-unlink-sound, ring-unlink-out, ring-unlink-used, ring-fresh-top, ring-start, ring-start-sound}
 use Rattle.stores.specs.declared.places.Places.{Places}
 use Rattle.stores.specs.Numbers.{free}
-use Rattle.stores.specs.Places.{ring, enqueued, before, taken-at, popped, fresh, blank-places}
+use Rattle.stores.specs.Places.{ring, enqueued, taken-at, popped, fresh, blank-places}
 use Rattle.stores.specs.Sound.{waiting, SoundPlaces}
 use Rattle.stores.proofs.ListsAlike.{times-at}
-use Rattle.stores.proofs.PlacesWaiting.{is-or-not, waiting-same, waiting-one}
+use Rattle.stores.proofs.PlacesWaiting.{waiting-same, waiting-one}
 
 pub length-ring : (p : Places) (t : ℕ) → length (ring p t) ≡ getD (p .len) t 0
 length-ring p t = length-walk (getD (p .len) t 0) (p .next) (getD (p .tail) t 0)
@@ -92,26 +91,17 @@ module _ (p : Places) (n : ℕ) (held : List ℕ) (t j : ℕ) (sound : SoundPlac
   abbrev p′ : Places
   p′ = taken-at t j p
 
-  did : RingTookAt (p .next) (p .tail) (p .len) t (ring p t) j (before t j p) (p′ .next) (p′ .tail) (p′ .len) q
-  did = record {
-    none = λ h. absurd (omega arith);
-    place = λ h. refl;
-    links = λ h. refl;
-    ends = λ h. refl;
-    size = λ h. refl;
-  }
-
   pub taken-own : ring (taken-at t j p) t ≡ turned j (ring p t)
-  taken-own = ring-take-own (p .next) (p .tail) (p .len) (p .top) (sound .rings) t j there small (p′ .next) (p′ .tail) (p′ .len) q did
+  taken-own = ring-unlink-own (p .next) (p .tail) (p .len) (p .top) (sound .rings) t j there small
 
   pub taken-other : (u : ℕ) → (u ≡ t → ⊥) → ring (taken-at t j p) u ≡ ring p u
-  taken-other u d = ring-take-other (p .next) (p .tail) (p .len) (p .top) (sound .rings) t j there small (p′ .next) (p′ .tail) (p′ .len) q did u d
+  taken-other u d = ring-unlink-other (p .next) (p .tail) (p .len) (p .top) (sound .rings) t j there small u d
 
   pub taken-used : getD (ring p t) j 0 < p .top
-  taken-used = ring-take-used (p .next) (p .tail) (p .len) (p .top) (sound .rings) t j there small (p′ .next) (p′ .tail) (p′ .len) q did
+  taken-used = ring-unlink-used (p .next) (p .tail) (p .len) (p .top) (sound .rings) t j there small
 
   out : (u : ℕ) → times q (ring p′ u) ≡ 0
-  out = ring-take-out (p .next) (p .tail) (p .len) (p .top) (sound .rings) t j there small (p′ .next) (p′ .tail) (p′ .len) q did
+  out = ring-unlink-out (p .next) (p .tail) (p .len) (p .top) (sound .rings) t j there small
 
   shorter : length (ring p′ t) + 1 ≡ length (ring p t)
   shorter =
@@ -134,7 +124,7 @@ module _ (p : Places) (n : ℕ) (held : List ℕ) (t j : ℕ) (sound : SoundPlac
       → waiting p′ n + length (ring p′ free) + 1 ≡ waiting p n + length (ring p free)
       → SoundPlaces p′ n (q ∷ held)
   hold elsewhere count = record {
-    rings = ring-take-sound (p .next) (p .tail) (p .len) (p .top) (sound .rings) t j there small (p′ .next) (p′ .tail) (p′ .len) q did;
+    rings = ring-unlink-sound (p .next) (p .tail) (p .len) (p .top) (sound .rings) t j there small;
     few = sound .few;
     empty = λ u h k. taken-other u (elsewhere u h k) ∙ sound .empty u h k;
     apart = λ x u h. either x u (eqb x q) refl h;

@@ -2,7 +2,7 @@
 -- order, or for one table more. From the definition of `waiting`.
 use Prim.Native.Nat.{ℕ, zero, suc, _+_, _<_}
 use native.Mathlib.Omega.{arith}
-use mathlib.Core.Path.{_≡_, refl, sym, ap, subst, _∙_}
+use mathlib.Core.Path.{_≡_, refl, ap, _∙_}
 use mathlib.Core.Bool.{Bool, true, false}
 use mathlib.Core.List.{List}
 use lib.ListN.{length}
@@ -16,14 +16,6 @@ use Rattle.stores.specs.Places.{ring}
 use Rattle.stores.specs.Sound.{waiting, SoundPlaces}
 use Rattle.stores.proofs.ListsSpans.{span-push, total-push}
 use Rattle.stores.proofs.ListsAlike.{Alike, length-alike}
-
--- a number is t or it isn't
-pub is-or-not : (t : ℕ) (P : ℕ → Type 0) → P t → ((u : ℕ) → (u ≡ t → ⊥) → P u) → (u : ℕ) → P u
-is-or-not t P here there u = go (eqb u t) refl
-  where
-    go : (b : Bool) → eqb u t ≡ b → P u
-    go true e = subst P (sym (eqb-true u t e)) here
-    go false e = there u (eqb-false u t e)
 
 pub waiting-same : (p p′ : Places) (n : ℕ) → ((u : ℕ) → u < n → length (ring p′ u) ≡ length (ring p u)) → waiting p′ n ≡ waiting p n
 waiting-same p p′ zero h = refl

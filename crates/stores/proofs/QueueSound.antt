@@ -4,49 +4,37 @@ use native.Mathlib.Omega.{arith}
 use mathlib.Core.Path.{_≡_, refl, sym, ap, subst, _∙_}
 use mathlib.Core.Bool.{Bool, true, false}
 use mathlib.Core.List.{List, [], _∷_, _++_}
-use lib.ListN.{length, getD, set, length-set, replicate, length-replicate}
+use lib.ListN.{length, getD, set, length-set, length-replicate}
 use lib.Seq.{getD-set-same, getD-set-other}
 use lib.Dec.{eqb, ltb}
 use borrow.Author.Tests.{ltb-true, ltb-false}
 use Rattle.rings.specs.Lists.{one, times}
-use Rattle.rings.proofs.Counts.{times-append, times-self, times-out}
+use Rattle.rings.proofs.Counts.{is-or-not, times-append, times-self, times-out}
 use Rattle.strands.specs.declared.Strand.{Strand}
-use Rattle.strands.specs.View.{Sound}
+use Rattle.strands.specs.View.{view, Sound}
 use Rattle.stores.specs.declared.places.Places.{Places}
 use Rattle.stores.specs.declared.queue.Strands.{Strands}
 use Rattle.stores.specs.Numbers.{free, flag-number}
-use Rattle.stores.specs.Places.{ring, enqueued, taken-at, freed, free-place, moved-to, blank-places}
+use Rattle.stores.specs.Places.{ring, enqueued, taken-at, free-place, moved-to}
 use Rattle.stores.specs.View.{unread-strand}
-use Rattle.stores.specs.Sound.{SoundPlaces, InUse, SoundStrands}
-use Rattle.stores.specs.Queue.{with-places, written, enqueued-strand, given, cleared, freed-strands, Ready, BlankStrands}
+use Rattle.stores.specs.Sound.{SoundPlaces, InUse, Long, SoundStrands, Ready}
+use Rattle.stores.specs.Queue.{with-places, written, enqueued-strand, given, cleared, freed-strands, waits-of, wants-of, blank-strand, blank-strands}
 use Rattle.stores.proofs.ListsAlike.{Alike, times-at, times-cases}
-use Rattle.stores.proofs.PlacesWaiting.{is-or-not, sound-alike, sound-grown}
+use Rattle.stores.proofs.PlacesWaiting.{sound-alike, sound-grown}
 use Rattle.stores.proofs.PlacesViews.{enqueued-own, enqueued-other, enqueued-sound, given-sound, given-other, taken-own, taken-other, taken-sound, blank-places-sound}
 use Rattle.stores.proofs.PlacesCases.{freed-sound}
 use Rattle.stores.proofs.PlacesMoves.{moved-own, moved-other, moved-sound}
-
-in-use : (s : Strands) (p′ : Places) (q : ℕ) → InUse s q → InUse (with-places s p′) q
-in-use s p′ q u = record { sound = u .sound; time = u .time; ambiguous = u .ambiguous }
 
 -- other places, the same strands: what the rings must give
 with-sound : (s : Strands) (n : ℕ) (held held′ : List ℕ) (p′ : Places) → SoundStrands s n held → SoundPlaces p′ n held′
     → ((t q : ℕ) → t < n → 1 ≤ times q (ring p′ t) → InUse s q) → ((q : ℕ) → 1 ≤ times q held′ → InUse s q)
     → SoundStrands (with-places s p′) n held′
-with-sound s n held held′ p′ sound ps waits holds = record {
-  places = ps;
-  long = sound .long;
-  long-time = sound .long-time;
-  long-ambiguous = sound .long-ambiguous;
-  queued = λ t q h k. in-use s p′ q (waits t q h k);
-  in-hand = λ q k. in-use s p′ q (holds q k);
-}
+with-sound s n held held′ p′ sound ps waits holds = record { places = ps; long = sound .long; queued = waits; in-hand = holds }
 
 pub strands-alike : (s : Strands) (n : ℕ) (held held′ : List ℕ) → Alike held held′ → SoundStrands s n held → SoundStrands s n held′
 strands-alike s n held held′ a sound = record {
   places = sound-alike (s .places) n held held′ a (sound .places);
   long = sound .long;
-  long-time = sound .long-time;
-  long-ambiguous = sound .long-ambiguous;
   queued = sound .queued;
   in-hand = λ q k. sound .in-hand q (omega (arith, a q));
 }
@@ -56,8 +44,6 @@ pub strands-grown : (s : Strands) (n : ℕ) (held : List ℕ) → n < free → S
 strands-grown s n held room sound = record {
   places = sound-grown (s .places) n held room (sound .places);
   long = sound .long;
-  long-time = sound .long-time;
-  long-ambiguous = sound .long-ambiguous;
   queued = λ t q h k. go t q (ltb t n) refl h k;
   in-hand = sound .in-hand;
 }
@@ -74,38 +60,47 @@ module _ (s : Strands) (n : ℕ) (held : List ℕ) (q : ℕ) (ready : Ready s n 
   within : q < 256
   within = omega (arith, ready .places .used q here, ready .places .rings .room)
 
+  number-here : (l : List ℕ) (v : ℕ) → length l ≡ 256 → getD (set l q v) q 0 ≡ v
+  number-here l v long = getD-set-same l q v 0 (omega (arith, within))
+
   use-here : Sound x → InUse (written q x s) q
-  use-here sound =
-      let a : getD (set (s .strands) q x) q unread-strand ≡ x = getD-set-same (s .strands) q x unread-strand (omega (arith, within, ready .long)) in
-      let b : getD (set (s .time) q (x .«last_pursued_time»)) q 0 ≡ x .«last_pursued_time» =
-      getD-set-same (s .time) q (x .«last_pursued_time») 0 (omega (arith, within, ready .long-time)) in
-      let c : getD (set (s .ambiguous) q (flag-number (x .ambiguous))) q 0 ≡ flag-number (x .ambiguous) =
-      getD-set-same (s .ambiguous) q (flag-number (x .ambiguous)) 0 (omega (arith, within, ready .long-ambiguous)) in
-      record {
-        sound = subst Sound (sym a) sound;
-        time = b ∙ ap (λ (y : Strand). y .«last_pursued_time») (sym a);
-        ambiguous = c ∙ ap (λ (y : Strand). flag-number (y .ambiguous)) (sym a);
-      }
+  use-here sound = rw (
+    getD-set-same (s .strands) q x unread-strand (omega (arith, within, ready .long .long-strands)),
+    number-here (s .time) (view x .last-pursued-time) (ready .long .long-time),
+    number-here (s .ambiguous) (flag-number (view x .ex-clause .ambiguous)) (ready .long .long-ambiguous),
+    number-here (s .variant) (view x .ex-clause .subst .variant) (ready .long .long-variant),
+    number-here (s .waits) (waits-of (view x)) (ready .long .long-waits),
+    number-here (s .wants) (wants-of (view x)) (ready .long .long-wants),
+  ) (record { sound = sound; is-time = refl; is-ambiguous = refl; is-variant = refl; is-waits = refl; is-wants = refl })
 
   use-there : (u : ℕ) → (u ≡ q → ⊥) → InUse s u → InUse (written q x s) u
-  use-there u d i =
-      let a : getD (set (s .strands) q x) u unread-strand ≡ getD (s .strands) u unread-strand = getD-set-other (s .strands) q u x unread-strand d in
-      record {
-        sound = subst Sound (sym a) (i .sound);
-        time = getD-set-other (s .time) q u (x .«last_pursued_time») 0 d ∙ i .time ∙ ap (λ (y : Strand). y .«last_pursued_time») (sym a);
-        ambiguous = getD-set-other (s .ambiguous) q u (flag-number (x .ambiguous)) 0 d ∙ i .ambiguous ∙ ap (λ (y : Strand). flag-number (y .ambiguous)) (sym a);
-      }
+  use-there u d i = rw (
+    getD-set-other (s .strands) q u x unread-strand d,
+    getD-set-other (s .time) q u (view x .last-pursued-time) 0 d,
+    getD-set-other (s .ambiguous) q u (flag-number (view x .ex-clause .ambiguous)) 0 d,
+    getD-set-other (s .variant) q u (view x .ex-clause .subst .variant) 0 d,
+    getD-set-other (s .waits) q u (waits-of (view x)) 0 d,
+    getD-set-other (s .wants) q u (wants-of (view x)) 0 d,
+  ) i
 
   waits-away : (t u : ℕ) → 1 ≤ times u (ring (s .places) t) → u ≡ q → ⊥
   waits-away t u k e = omega (arith, k, ap (λ (y : ℕ). times y (ring (s .places) t)) e, ready .places .apart q t here)
+
+  long-written : Long (written q x s)
+  long-written = record {
+    long-strands = length-set (s .strands) q x ∙ ready .long .long-strands;
+    long-time = length-set (s .time) q (view x .last-pursued-time) ∙ ready .long .long-time;
+    long-ambiguous = length-set (s .ambiguous) q (flag-number (view x .ex-clause .ambiguous)) ∙ ready .long .long-ambiguous;
+    long-variant = length-set (s .variant) q (view x .ex-clause .subst .variant) ∙ ready .long .long-variant;
+    long-waits = length-set (s .waits) q (waits-of (view x)) ∙ ready .long .long-waits;
+    long-wants = length-set (s .wants) q (wants-of (view x)) ∙ ready .long .long-wants;
+  }
 
   -- a sound strand is written at a place that is ready for it
   pub written-sound : Sound x → SoundStrands (written q x s) n (q ∷ held)
   written-sound sound = record {
     places = ready .places;
-    long = length-set (s .strands) q x ∙ ready .long;
-    long-time = length-set (s .time) q (x .«last_pursued_time») ∙ ready .long-time;
-    long-ambiguous = length-set (s .ambiguous) q (flag-number (x .ambiguous)) ∙ ready .long-ambiguous;
+    long = long-written;
     queued = λ t u h k. use-there u (waits-away t u k) (ready .queued t u h k);
     in-hand = λ u k. is-or-not q (λ v. 1 ≤ times v (q ∷ held) → InUse (written q x s) v)
         (λ i. use-here sound)
@@ -117,8 +112,6 @@ pub held-ready : (s : Strands) (n : ℕ) (held : List ℕ) (q : ℕ) → SoundSt
 held-ready s n held q sound = record {
   places = sound .places;
   long = sound .long;
-  long-time = sound .long-time;
-  long-ambiguous = sound .long-ambiguous;
   queued = sound .queued;
   in-hand = λ u k. sound .in-hand u (omega arith);
 }
@@ -131,10 +124,8 @@ freed-ready s n held sound h =
     record {
       places = f .sound;
       long = sound .long;
-      long-time = sound .long-time;
-      long-ambiguous = sound .long-ambiguous;
-      queued = λ t u i k. in-use s (freed (s .places)) u (sound .queued t u i (subst (λ (l : List ℕ). 1 ≤ times u l) (f .same t i) k));
-      in-hand = λ u k. in-use s (freed (s .places)) u (sound .in-hand u k);
+      queued = λ t u i k. sound .queued t u i (subst (λ (l : List ℕ). 1 ≤ times u l) (f .same t i) k);
+      in-hand = sound .in-hand;
     }
 
 -- ENQUEUE
@@ -190,23 +181,18 @@ cleared-sound s n held t h sound =
     (λ v d a b. sound .queued v x a (rw (moved-other (s .places) n held t h (sound .places) v (λ e. omega (arith, sound .places .few)) d) at b)) u k i)
     (λ x k. sound .in-hand x k)
 
--- BLANK
-blank-strands-of : (l : List Strand) → length l ≡ 256 → BlankStrands (record { strands = l; time = replicate 256 0; ambiguous = replicate 256 0; places = blank-places })
-blank-strands-of l long = record {
-  places = refl;
-  time = refl;
-  ambiguous = refl;
-  sound = record {
-    places = blank-places-sound;
-    long = long;
+-- BLANK: no table has a strand
+pub blank-strands-sound : SoundStrands blank-strands 0 []
+blank-strands-sound = record {
+  places = blank-places-sound;
+  long = record {
+    long-strands = length-replicate 256 blank-strand;
     long-time = length-replicate {A = ℕ} 256 0;
     long-ambiguous = length-replicate {A = ℕ} 256 0;
-    queued = λ t q h k. absurd (omega arith);
-    in-hand = λ q k. absurd (omega arith);
+    long-variant = length-replicate {A = ℕ} 256 0;
+    long-waits = length-replicate {A = ℕ} 256 255;
+    long-wants = length-replicate {A = ℕ} 256 0;
   };
+  queued = λ t q h k. absurd (omega arith);
+  in-hand = λ q k. absurd (omega arith);
 }
-
-pub blank-strands : (x : Strand) (p : Places) → p ≡ blank-places → BlankStrands (record { strands = replicate 256 x; time = replicate 256 0; ambiguous = replicate 256 0; places = p })
-blank-strands x p e =
-    subst (λ (r : Places). BlankStrands (record { strands = replicate 256 x; time = replicate 256 0; ambiguous = replicate 256 0; places = r })) (sym e)
-    (blank-strands-of (replicate 256 x) (length-replicate 256 x))

@@ -8,19 +8,20 @@ use lib.ListN.{length, set, length-map, length-append}
 use Rattle.definitions.specs.Lists.{push, total}
 use Rattle.definitions.specs.Strand as said-strand
 use Rattle.definitions.specs.Table.{with-strands, enqueue-strand}
+use Rattle.rings.specs.Lists.{All}
 use Rattle.rings.specs.Rings.{linked, lengthened}
-use Rattle.rings.proofs.Counts.{All, times-self}
+use Rattle.rings.proofs.Counts.{times-self}
 use Rattle.strands.specs.declared.Strand.{Strand}
 use Rattle.strands.specs.View.{view, Sound}
 use Rattle.stores.specs.declared.places.Places.{Places}
 use Rattle.stores.specs.declared.queue.Strands.{Strands}
 use Rattle.stores.specs.declared.table.Answers.{Answers}
 use Rattle.stores.specs.declared.tables.Tables.{Tables}
-use Rattle.stores.specs.Places.{ring, places, enqueued, freed, free-place, TookPlace}
-use Rattle.stores.specs.View.{strand-at, held-table, tables}
-use Rattle.stores.specs.Sound.{waiting, SoundStrands}
 use Rattle.stores.specs.Numbers.{flag-number}
-use Rattle.stores.specs.Queue.{strands-of, written, freed-strands, stored, stored-each, Ready}
+use Rattle.stores.specs.Places.{ring, places, free-place, TookPlace}
+use Rattle.stores.specs.View.{strand-at, held-table, tables}
+use Rattle.stores.specs.Sound.{waiting, SoundStrands, Ready}
+use Rattle.stores.specs.Queue.{waits-of, wants-of, with-places, strands-of, written, freed-strands, stored, stored-each}
 use Rattle.stores.proofs.PlacesWaiting.{waiting-one, total-waiting}
 use Rattle.stores.proofs.PlacesCases.{freed-sound, freed-none, freed-room}
 use Rattle.stores.proofs.PlacesMoves.{freed-enqueued-is}
@@ -49,7 +50,7 @@ module _ (s : Strands) (n : ℕ) (held : List ℕ) (t : ℕ) (x : Strand) (h : t
   pub stored-own : strands-of (stored t x s) t ≡ push (strands-of s t) (view x)
   stored-own =
       enqueue-own (written q x (freed-strands s)) n held t q h (put .places)
-      ∙ ap₂ (λ (l : List said-strand.Strand) (y : said-strand.Strand). push l y) (before-enqueue t h) (written-here (freed-strands s) q x room (sound .long))
+      ∙ ap₂ (λ (l : List said-strand.Strand) (y : said-strand.Strand). push l y) (before-enqueue t h) (written-here (freed-strands s) q x room (sound .long .long-strands))
 
   pub stored-other : (u : ℕ) → u < n → (u ≡ t → ⊥) → strands-of (stored t x s) u ≡ strands-of s u
   stored-other u k d = enqueue-other (written q x (freed-strands s)) n held t q h (put .places) u d ∙ before-enqueue u k
@@ -115,11 +116,25 @@ pub a-place-is-found : (ts : Tables) (s : Strands) (a : Answers) (held : List �
     → total (λ t. length (t .strands)) (tables ts s a) + length held < 256 → free-place (s .places) < 256
 a-place-is-found ts s a held sound h = freed-room (s .places) (ts .count) held (sound .places) (omega (arith, queued-is ts s a))
 
--- WHAT THE OWNER'S STATEMENTS LEAVE: a place taken, enqueued and written with the numbers beside it
-pub stored-is : (s : Strands) (t : ℕ) (x : Strand) (n′ l′ : List ℕ) (m′ q : ℕ) → TookPlace (s .places .next) (s .places .tail) (s .places .len) (s .places .top) n′ l′ m′ q
-    → (n″ t″ l″ : List ℕ) → n″ ≡ linked n′ (s .places .tail) l′ t q → t″ ≡ set (s .places .tail) t q → l″ ≡ lengthened l′ t → (f : ℕ) → f ≡ flag-number (x .ambiguous)
-    → record { strands = set (s .strands) q x; time = set (s .time) q (x .«last_pursued_time»); ambiguous = set (s .ambiguous) q f; places = places n″ t″ l″ m′ } ≡ stored t x s
-stored-is s t x n′ l′ m′ q took n″ t″ l″ en et el f ef =
-    ap₂ (λ (g : ℕ) (r : Places). record { strands = set (s .strands) q x; time = set (s .time) q (x .«last_pursued_time»); ambiguous = set (s .ambiguous) q g; places = r }) ef
-    (freed-enqueued-is (s .places) t n′ l′ m′ q took n″ t″ l″ en et el)
-    ∙ ap (λ (i : ℕ). record { strands = set (s .strands) i x; time = set (s .time) i (x .«last_pursued_time»); ambiguous = set (s .ambiguous) i (flag-number (x .ambiguous)); places = enqueued t (free-place (s .places)) (freed (s .places)) }) (took .is)
+-- WHAT THE OWNER'S STATEMENTS LEAVE: a strand written with the numbers beside it
+pub written-is : (s : Strands) (q : ℕ) (x : Strand) (time ambiguous variant waits wants : List ℕ) → time ≡ set (s .time) q (view x .last-pursued-time)
+    → ambiguous ≡ set (s .ambiguous) q (flag-number (view x .ex-clause .ambiguous)) → variant ≡ set (s .variant) q (view x .ex-clause .subst .variant)
+    → waits ≡ set (s .waits) q (waits-of (view x)) → wants ≡ set (s .wants) q (wants-of (view x))
+    → record {
+      strands = set (s .strands) q x;
+      time = time;
+      ambiguous = ambiguous;
+      variant = variant;
+      waits = waits;
+      wants = wants;
+      places = s .places;
+    } ≡ written q x s
+written-is s q x time ambiguous variant waits wants et ea ev ew en = cc
+
+-- a place taken, enqueued and written with the numbers beside it
+pub stored-is : (s : Strands) (t : ℕ) (x : Strand) (n′ l′ : List ℕ) (m′ q : ℕ)
+    → TookPlace (s .places .next) (s .places .tail) (s .places .len) (s .places .top) n′ l′ m′ q
+    → (n″ t″ l″ : List ℕ) → n″ ≡ linked n′ (s .places .tail) l′ t q → t″ ≡ set (s .places .tail) t q → l″ ≡ lengthened l′ t
+    → with-places (written q x s) (places n″ t″ l″ m′) ≡ stored t x s
+stored-is s t x n′ l′ m′ q took n″ t″ l″ en et el =
+    ap₂ (λ (i : ℕ) (r : Places). with-places (written i x s) r) (took .is) (freed-enqueued-is (s .places) t n′ l′ m′ q took n″ t″ l″ en et el)

@@ -19,14 +19,16 @@ use Rattle.rings.specs.Lists.{first-index, times, turned}
 use Rattle.rings.proofs.Counts.{all-map, map-append, map-cong, absent-all}
 use Rattle.strands.specs.declared.Strand.{Strand}
 use Rattle.strands.specs.View.{view}
+use Rattle.rings.specs.Rings.{place-if}
 use Rattle.stores.specs.declared.queue.Strands.{Strands}
 use Rattle.stores.specs.declared.table.Answers.{Answers}
 use Rattle.stores.specs.declared.tables.Tables.{Tables}
 use Rattle.stores.specs.Places.{ring, taken-at, taken-if, free-place, first-of}
 use Rattle.stores.specs.View.{unread-strand, strand-at, mode, held-table, tables}
-use Rattle.stores.specs.Numbers.{flag, flag-number, place-if}
+use Rattle.stores.specs.Numbers.{flag}
 use Rattle.stores.specs.Sound.{SoundPlaces, InUse, SoundStrands}
 use Rattle.stores.specs.Queue.{with-places, strands-of, written, enqueued-strand, given, test-at, taken-strand, strand-place, any-strand, cleared, freed-strands}
+use Rattle.stores.proofs.NumbersCases.{flag-of}
 use Rattle.stores.proofs.ListsSpans.{span-same, span-set, first-if, position-is, first-map, first-cong, rotate-front, map-turned, map-at, all-times}
 use Rattle.stores.proofs.PlacesViews.{enqueued-own, enqueued-other, given-other, taken-own, taken-other}
 use Rattle.stores.proofs.PlacesCases.{freed-sound}
@@ -90,10 +92,6 @@ cleared-view ts a s held t h sound =
     ∙ ap (λ (l : List ℕ). set (tables ts s a) t (with-strands (held-table ts s a t) (map (strand-at s) l))) (moved-own (s .places) (ts .count) held t h sound)
 
 -- TAKE THE FIRST ELIGIBLE. The numbers beside the strands test as the strands do.
-flag-of : (b : Bool) → not (eqb (flag-number b) 0) ≡ b
-flag-of true = refl
-flag-of false = refl
-
 is-mode : (k : ℕ) → said.is-complete (mode k) ≡ flag k
 is-mode k = go (flag k)
   where
@@ -103,7 +101,7 @@ is-mode k = go (flag k)
 
 pub test-is : (s : Strands) (clock k q : ℕ) → InUse s q → test-at clock (flag k) s q ≡ turns.eligible clock (mode k) (strand-at s q)
 test-is s clock k q u =
-    ap₂ (λ (x y : ℕ). ltb x clock && not (flag k && not (eqb y 0))) (u .time) (u .ambiguous)
+    ap₂ (λ (x y : ℕ). ltb x clock && not (flag k && not (eqb y 0))) (u .is-time) (u .is-ambiguous)
     ∙ ap₂ (λ (b c : Bool). ltb (strand-at s q .last-pursued-time) clock && not (b && c)) (sym (is-mode k)) (flag-of (getD (s .strands) q unread-strand .ambiguous))
 
 module _ (ts : Tables) (a : Answers) (s : Strands) (held : List ℕ) (t clock : ℕ) (h : t < ts .count) (sound : SoundStrands s (ts .count) held) where

@@ -14,11 +14,12 @@ use borrow.Author.Tests.{lt-ltb, eq-eqb, ne-eqb, eqb-true, eqb-false}
 use Rattle.definitions.specs.Stop.{go, _>>=_, unwrap}
 use Rattle.definitions.specs.Stack.{StackEntry, with-active, no-caller, caller, pop-and-take-caller-strand, pop-and-borrow-caller-strand, active, active-count}
 use Rattle.definitions.specs.Strand as said-strand
+use Rattle.rings.specs.Rings.{place-if}
 use Rattle.stores.specs.declared.queue.Strands.{Strands}
 use Rattle.stores.specs.declared.stack.Stack.{Stack}
 use Rattle.stores.specs.View.{strand-at, active-strand-at, entry-at, entries, entered, active-places}
 use Rattle.stores.specs.Sound.{SoundStack}
-use Rattle.stores.specs.Numbers.{set-if, add-if, place-if}
+use Rattle.stores.specs.Numbers.{set-if, add-if}
 use Rattle.stores.specs.Stack.{has-caller, caller-place, caller-written, top-written, pushed, popped, caller-taken, activated}
 use Rattle.stores.proofs.StackCases.{some-caller, some-top}
 use Rattle.stores.proofs.StackViews.{entries-same}

@@ -7,7 +7,8 @@ use mathlib.Core.List.{List}
 use lib.ListN.{getD, set}
 use lib.Dec.{ltb}
 use borrow.Author.Tests.{lt-ltb, le-ltb, eq-eqb, ne-eqb}
-use Rattle.stores.specs.Numbers.{set-if, place-if}
+use Rattle.rings.specs.Rings.{place-if}
+use Rattle.stores.specs.Numbers.{set-if}
 use Rattle.stores.specs.Stack.{has-caller, has-top, caller-place, caller-written, top-written}
 
 -- whether there is a caller, or a top

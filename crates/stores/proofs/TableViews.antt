@@ -6,7 +6,7 @@ use mathlib.Core.Path.{_≡_, refl, sym, ap, ap₂, subst, _∙_}
 use mathlib.Core.Bool.{Bool, true, false}
 use mathlib.Core.Option.{none, some}
 use mathlib.Core.List.{List, [], _∷_, _++_, map}
-use lib.ListN.{length, getD, set, length-map, length-set, replicate, length-replicate}
+use lib.ListN.{length, getD, set, length-map, length-set, length-replicate}
 use lib.Seq.{getD-set-same, getD-set-other}
 use lib.Dec.{ltb}
 use borrow.Author.Tests.{lt-ltb, ne-eqb, ltb-true, ltb-false}
@@ -15,28 +15,26 @@ use Rattle.definitions.specs.Lists.{push, total}
 use Rattle.definitions.specs.Strand as said-strand
 use Rattle.definitions.specs.Table.{Table, with-answers, mark-floundered, answer, next-answer-index}
 use Rattle.rings.specs.Lists.{one, times}
-use Rattle.rings.specs.Rings.{PlaceAt}
-use Rattle.rings.proofs.Counts.{all-map, map-append, map-cong, absent-all, times-append, times-self}
+use Rattle.rings.specs.Rings.{place-if}
+use Rattle.rings.proofs.Counts.{is-or-not, all-map, map-append, map-cong, absent-all, times-append, times-self}
 use Rattle.rings.proofs.RingViews.{below-top}
 use Rattle.strands.specs.declared.Answer.{Answer}
-use Rattle.strands.specs.View.{SoundAnswer}
 use Rattle.strands.specs.View as view
 use Rattle.stores.specs.declared.queue.Strands.{Strands}
 use Rattle.stores.specs.declared.table.Answers.{Answers}
 use Rattle.stores.specs.declared.tables.Tables.{Tables}
-use Rattle.stores.specs.Numbers.{free, flag, set-if}
-use Rattle.stores.specs.Places.{ring, enqueued, freed, free-place, moved-to, blank-places}
+use Rattle.stores.specs.Numbers.{free, flag, flag-number, set-if}
+use Rattle.stores.specs.Places.{ring, enqueued, freed, free-place, moved-to}
 use Rattle.stores.specs.View.{unread-answer, answer-at, strand-at, held-table, tables}
-use Rattle.stores.specs.Sound.{waiting, SoundPlaces, SoundAnswers, SoundTables}
+use Rattle.stores.specs.Sound.{waiting, SoundPlaces, GoodAnswer, Stored, SoundAnswers, SoundTables}
 use Rattle.stores.specs.Queue.{strands-of, cleared}
-use Rattle.stores.specs.Table.{marked, answers-of, answer-stored, cleared-answers, BlankAnswers}
+use Rattle.stores.specs.Table.{marked, answers-of, answer-stored, cleared-answers, key-of, blank-answer, blank-answers}
 use Rattle.stores.proofs.ListsAlike.{times-at}
-use Rattle.stores.proofs.PlacesWaiting.{is-or-not, sound-grown, total-waiting}
+use Rattle.stores.proofs.PlacesWaiting.{sound-grown, total-waiting}
 use Rattle.stores.proofs.ListsSpans.{span-set, map-elem, map-elem-past}
 use Rattle.stores.proofs.PlacesViews.{length-ring, enqueued-own, enqueued-other, enqueued-sound, blank-places-sound}
 use Rattle.stores.proofs.PlacesCases.{Freed, freed-sound}
 use Rattle.stores.proofs.PlacesMoves.{moved-own, moved-other, moved-sound}
-use Rattle.stores.specs.declared.places.Places.{Places}
 
 -- THE LIST OF TABLES, when the answers of one change
 pub answers-changed : (ts : Tables) (s : Strands) (a a′ : Answers) (t : ℕ) → t < ts .count → ((u : ℕ) → u < ts .count → (u ≡ t → ⊥) → answers-of a′ u ≡ answers-of a u)
@@ -45,26 +43,31 @@ answers-changed ts s a a′ t h other =
     span-set (held-table ts s a) (held-table ts s a′) (ts .count) t h (λ u k d. ap (with-answers (held-table ts s a u)) (other u k d))
 
 -- LOOKUP: what stands at the place that `ring_at` finds
-module _ (ts : Tables) (s : Strands) (a : Answers) (t i r : ℕ) (found : PlaceAt (ring (a .places) t) i r) (sound : SoundPlaces (a .places) (ts .count) []) where
+module _ (ts : Tables) (s : Strands) (a : Answers) (t i r : ℕ)
+    (found : r ≡ place-if (ltb i (getD (a .places .len) t 0)) (getD (ring (a .places) t) i 0)) (sound : SoundPlaces (a .places) (ts .count) []) where
+  abbrev place : ℕ
+  place = getD (ring (a .places) t) i 0
+
+  by-index : (b : Bool) → ltb i (getD (a .places .len) t 0) ≡ b
+      → (r < 256 → answer (held-table ts s a t) i ≡ some (answer-at a r)) × (256 ≤ r → answer (held-table ts s a t) i ≡ none)
+  by-index true e =
+      let k : i < length (ring (a .places) t) = omega (arith, length-ring (a .places) t, ltb-true i (getD (a .places .len) t 0) e) in
+      let is : r ≡ place = found ∙ ap (λ (b : Bool). place-if b place) e in
+      let small : place < a .places .top =
+      below-top (a .places .next) (a .places .tail) (a .places .len) (a .places .top) (sound .rings) t place (times-at (ring (a .places) t) i k) in (
+        λ h. map-elem (answer-at a) (ring (a .places) t) i 0 k ∙ ap (λ (p : ℕ). some (answer-at a p)) (sym is),
+        λ h. absurd (omega (arith, sound .rings .room)),
+      )
+  by-index false e =
+      let k : length (ring (a .places) t) ≤ i = omega (arith, length-ring (a .places) t, ltb-false i (getD (a .places .len) t 0) e) in
+      let is : r ≡ 256 = found ∙ ap (λ (b : Bool). place-if b place) e in
+      (λ h. absurd (omega arith), λ h. map-elem-past (answer-at a) (ring (a .places) t) i k)
+
   pub answer-there : r < 256 → answer (held-table ts s a t) i ≡ some (answer-at a r)
-  answer-there h = go (ltb i (length (ring (a .places) t))) refl
-    where
-      go : (b : Bool) → ltb i (length (ring (a .places) t)) ≡ b → answer (held-table ts s a t) i ≡ some (answer-at a r)
-      go true e =
-          let k : i < length (ring (a .places) t) = ltb-true i (length (ring (a .places) t)) e in
-          map-elem (answer-at a) (ring (a .places) t) i 0 k ∙ ap (λ (q : ℕ). some (answer-at a q)) (sym (found .there k))
-      go false e = absurd (omega (arith, found .past (ltb-false i (length (ring (a .places) t)) e)))
+  answer-there = by-index (ltb i (getD (a .places .len) t 0)) refl .0
 
   pub answer-past : 256 ≤ r → answer (held-table ts s a t) i ≡ none
-  answer-past h = go (ltb i (length (ring (a .places) t))) refl
-    where
-      go : (b : Bool) → ltb i (length (ring (a .places) t)) ≡ b → answer (held-table ts s a t) i ≡ none
-      go true e =
-          let k : i < length (ring (a .places) t) = ltb-true i (length (ring (a .places) t)) e in
-          let q : getD (ring (a .places) t) i 0 < a .places .top =
-          below-top (a .places .next) (a .places .tail) (a .places .len) (a .places .top) (sound .rings) t (getD (ring (a .places) t) i 0) (times-at (ring (a .places) t) i k) in
-          absurd (omega (arith, found .there k, sound .rings .room))
-      go false e = map-elem-past (answer-at a) (ring (a .places) t) i (ltb-false i (length (ring (a .places) t)) e)
+  answer-past = by-index (ltb i (getD (a .places .len) t 0)) refl .1
 
 -- HOW MANY: of a table, and of all
 pub answer-count-is : (ts : Tables) (s : Strands) (a : Answers) (t : ℕ) → next-answer-index (held-table ts s a t) ≡ getD (a .places .len) t 0
@@ -81,12 +84,13 @@ answers-grown a n room sound = record {
   stored = λ t q h k. go t q (ltb t n) refl h k;
 }
   where
-    go : (t q : ℕ) (b : Bool) → ltb t n ≡ b → t < suc n → 1 ≤ times q (ring (a .places) t) → SoundAnswer (getD (a .answers) q unread-answer)
+    go : (t q : ℕ) (b : Bool) → ltb t n ≡ b → t < suc n → 1 ≤ times q (ring (a .places) t) → Stored a q
     go t q true e h k = sound .stored t q (ltb-true t n e) k
     go t q false e h k = absurd (omega (arith, ap (times q) (sound .places .empty t (ltb-false t n e) (λ d. omega arith))))
 
 -- A NEW ANSWER
-module _ (a : Answers) (n t : ℕ) (x : Answer) (h : t < n) (sound : SoundAnswers a n) (good : SoundAnswer x) (room : free-place (a .places) < 256) where
+module _ (a : Answers) (n t : ℕ) (x : Answer) (h : t < n) (sound : SoundAnswers a n) (good : GoodAnswer x)
+    (room : free-place (a .places) < 256) where
   abbrev q : ℕ
   q = free-place (a .places)
 
@@ -107,7 +111,7 @@ module _ (a : Answers) (n t : ℕ) (x : Answer) (h : t < n) (sound : SoundAnswer
   apart u k = sym (ap (times q) (f .same u k)) ∙ f .sound .apart q u (omega (arith, times-self q))
 
   here : getD (set (a .answers) q x) q unread-answer ≡ x
-  here = getD-set-same (a .answers) q x unread-answer (omega (arith, sound .long))
+  here = getD-set-same (a .answers) q x unread-answer (omega (arith, sound .long .long-answers))
 
   away : (u : ℕ) → (u ≡ q → ⊥) → getD (set (a .answers) q x) u unread-answer ≡ getD (a .answers) u unread-answer
   away u d = getD-set-other (a .answers) q u x unread-answer d
@@ -124,17 +128,40 @@ module _ (a : Answers) (n t : ℕ) (x : Answer) (h : t < n) (sound : SoundAnswer
   pub stored-answer-other : (u : ℕ) → u < n → (u ≡ t → ⊥) → answers-of (answer-stored t x a) u ≡ answers-of a u
   stored-answer-other u k d = ap (map (answer-at (answer-stored t x a))) (other u k d) ∙ kept u k
 
+  number-here : (l : List ℕ) (v : ℕ) → length l ≡ 256 → getD (set l q v) q 0 ≡ v
+  number-here l v long = getD-set-same l q v 0 (omega arith)
+
+  stored-here : Stored (answer-stored t x a) q
+  stored-here = rw (
+    here,
+    number-here (a .variant) (view.answer x .variant) (sound .long .long-variant),
+    number-here (a .key) (key-of (view.answer x .delayed-subgoals)) (sound .long .long-key),
+    number-here (a .ambiguous) (flag-number (view.answer x .ambiguous)) (sound .long .long-ambiguous),
+  ) (record { good = good; is-variant = refl; is-key = refl; is-ambiguous = refl })
+
+  stored-away : (u : ℕ) → (u ≡ q → ⊥) → Stored a u → Stored (answer-stored t x a) u
+  stored-away u d i = rw (
+    away u d,
+    getD-set-other (a .variant) q u (view.answer x .variant) 0 d,
+    getD-set-other (a .key) q u (key-of (view.answer x .delayed-subgoals)) 0 d,
+    getD-set-other (a .ambiguous) q u (flag-number (view.answer x .ambiguous)) 0 d,
+  ) i
+
   pub stored-answer-sound : SoundAnswers (answer-stored t x a) n
   stored-answer-sound = record {
     places = enqueued-sound (freed (a .places)) n [] q t h (f .sound);
-    long = length-set (a .answers) q x ∙ sound .long;
-    stored = λ u y k i. is-or-not q (λ z. 1 ≤ times z (ring (enqueued t q (freed (a .places))) u) → SoundAnswer (getD (set (a .answers) q x) z unread-answer))
-        (λ j. subst SoundAnswer (sym here) good)
-        (λ z d j. subst SoundAnswer (sym (away z d)) (old u z k d j)) y i;
+    long = record {
+      long-answers = length-set (a .answers) q x ∙ sound .long .long-answers;
+      long-variant = length-set (a .variant) q (view.answer x .variant) ∙ sound .long .long-variant;
+      long-key = length-set (a .key) q (key-of (view.answer x .delayed-subgoals)) ∙ sound .long .long-key;
+      long-ambiguous = length-set (a .ambiguous) q (flag-number (view.answer x .ambiguous)) ∙ sound .long .long-ambiguous;
+    };
+    stored = λ u y k i. is-or-not q (λ z. 1 ≤ times z (ring (enqueued t q (freed (a .places))) u) → Stored (answer-stored t x a) z)
+        (λ j. stored-here) (λ z d j. stored-away z d (old u z k d j)) y i;
   }
     where
-      old : (u z : ℕ) → u < n → (z ≡ q → ⊥) → 1 ≤ times z (ring (enqueued t q (freed (a .places))) u) → SoundAnswer (getD (a .answers) z unread-answer)
-      old u z k d j = is-or-not t (λ v. v < n → 1 ≤ times z (ring (enqueued t q (freed (a .places))) v) → SoundAnswer (getD (a .answers) z unread-answer))
+      old : (u z : ℕ) → u < n → (z ≡ q → ⊥) → 1 ≤ times z (ring (enqueued t q (freed (a .places))) u) → Stored a z
+      old u z k d j = is-or-not t (λ v. v < n → 1 ≤ times z (ring (enqueued t q (freed (a .places))) v) → Stored a z)
           (λ i c. sound .stored t z h (omega (arith, ap (times z) own, times-append z (ring (a .places) t) (q ∷ []), absent)))
           (λ v e i c. sound .stored v z i (subst (λ (l : List ℕ). 1 ≤ times z l) (other v i e) c)) u k j
         where
@@ -152,7 +179,7 @@ pub cleared-answers-sound : (a : Answers) (n t : ℕ) → t < n → SoundAnswers
 cleared-answers-sound a n t h sound = record {
   places = moved-sound (a .places) n [] t h (sound .places);
   long = sound .long;
-  stored = λ u q k i. is-or-not t (λ v. v < n → 1 ≤ times q (ring (moved-to t free (a .places)) v) → SoundAnswer (getD (a .answers) q unread-answer))
+  stored = λ u q k i. is-or-not t (λ v. v < n → 1 ≤ times q (ring (moved-to t free (a .places)) v) → Stored a q)
       (λ j c. absurd (omega (arith, ap (times q) (moved-own (a .places) n [] t h (sound .places)))))
       (λ v d j c. sound .stored v q j (subst (λ (l : List ℕ). 1 ≤ times q l) (moved-other (a .places) n [] t h (sound .places) v (λ e. omega (arith, sound .places .few)) d) c)) u k i;
 }
@@ -193,17 +220,15 @@ module _ (ts : Tables) (s : Strands) (a : Answers) (held : List ℕ) (t : ℕ) (
       (getD-set-same (ts .floundered) t 1 0 (omega (arith, sound .few, sound .long-floundered)))
       (ap (map (answer-at a)) (moved-own (a .places) (ts .count) [] t h rs)) (ap (map (strand-at s)) (moved-own (s .places) (ts .count) held t h ss)))
 
--- BLANK
-blank-answers-of : (l : List Answer) → length l ≡ 256 → BlankAnswers (record { answers = l; places = blank-places })
-blank-answers-of l long = record {
-  places = refl;
-  sound = record {
-    places = blank-places-sound;
-    long = long;
-    stored = λ t q h k. absurd (omega arith);
+-- BLANK: no table has an answer
+pub blank-answers-sound : SoundAnswers blank-answers 0
+blank-answers-sound = record {
+  places = blank-places-sound;
+  long = record {
+    long-answers = length-replicate 256 blank-answer;
+    long-variant = length-replicate {A = ℕ} 256 0;
+    long-key = length-replicate {A = ℕ} 256 0;
+    long-ambiguous = length-replicate {A = ℕ} 256 0;
   };
+  stored = λ t q h k. absurd (omega arith);
 }
-
-pub blank-answers : (x : Answer) (p : Places) → p ≡ blank-places → BlankAnswers (record { answers = replicate 256 x; places = p })
-blank-answers x p e =
-    subst (λ (r : Places). BlankAnswers (record { answers = replicate 256 x; places = r })) (sym e) (blank-answers-of (replicate 256 x) (length-replicate 256 x))

@@ -11,7 +11,7 @@ use Rattle.definitions.specs.Lists.{push}
 use Rattle.definitions.specs.Strand as said-strand
 use Rattle.definitions.specs.Table.{Table, new, with-strands}
 use Rattle.definitions.specs.Tables.{insert-table}
-use Rattle.rings.proofs.Counts.{All}
+use Rattle.rings.specs.Lists.{All}
 use Rattle.strands.specs.declared.Strand.{Strand}
 use Rattle.strands.specs.View.{view, Sound}
 use Rattle.stores.specs.declared.queue.Strands.{Strands}

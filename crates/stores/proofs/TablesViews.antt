@@ -24,11 +24,8 @@ use Rattle.stores.specs.Numbers.{flag, flag-number, set-if, add-if, flag
 use Rattle.stores.specs.View.{mode, held-table, tables, strand-at, answer-at}
 use Rattle.stores.specs.Sound.{SoundTables}
 use Rattle.stores.specs.Tables.{table-goal-at, inserted, moded, blank-tables}
+use Rattle.stores.proofs.NumbersCases.{flag-of}
 use Rattle.stores.proofs.ListsSpans.{span-at, span-past, span-same, span-set, span-push}
-
-pub flag-of : (b : Bool) → flag (flag-number b) ≡ b
-flag-of true = refl
-flag-of false = refl
 
 -- the tables that are made, and no other
 pub table-there : (ts : Tables) (s : Strands) (a : Answers) (t : ℕ) → t < ts .count → getElem? (tables ts s a) t ≡ some (held-table ts s a t)

@@ -1,22 +1,65 @@
--- What the operations on the strand store do, as functions on the record, and when a place waits for a strand.
-use Prim.Native.Nat.{ℕ, _<_, _≤_}
+-- What the operations on the strand store do, as functions on the record, and the numbers that stand beside a strand.
+use Prim.Native.Nat.{ℕ, _+_}
 use mathlib.Core.Path.{_≡_}
-use mathlib.Core.Bool.{Bool}
+use mathlib.Core.Bool.{Bool, true, false, not, _&&_}
+use mathlib.Core.Option.{Option, none, some}
 use mathlib.Core.List.{List, [], _∷_, map}
-use lib.ListN.{length, set, replicate}
+use lib.ListN.{getD, set, replicate, getElem?}
+use lib.Dec.{eqb, ltb}
+use Rattle.definitions.specs.Book as books
 use Rattle.definitions.specs.Strand as held
-use Rattle.rings.specs.Lists.{times}
-use Rattle.rings.specs.Rings.{eligible}
+use Rattle.book.specs.declared.Literal.{Literal}
+use Rattle.rings.specs.Rings.{most-places}
+use Rattle.strands.specs.declared.Floundered.{Floundered}
+use Rattle.strands.specs.declared.Selected.the-variants.{Nothing}
 use Rattle.strands.specs.declared.Strand.{Strand}
+use Rattle.strands.specs.View.{view, is-negative}
 use Rattle.stores.specs.declared.places.Places.{Places}
 use Rattle.stores.specs.declared.queue.Strands.{Strands}
-use Rattle.stores.specs.Numbers.{free, flag-number}
-use Rattle.stores.specs.Places.{ring, enqueued, taken, taken-place, has-one, freed, free-place, moved-to, blank-places}
+use Rattle.stores.specs.declared.queue.Spot.{Spot}
+use Rattle.stores.specs.Numbers.{most-tables, most-literals, waits-not, waits-nothing, free, flag-number}
+use Rattle.stores.specs.Places.{places, ring, enqueued, taken, taken-place, has-one, freed, free-place, moved-to, blank-places}
 use Rattle.stores.specs.View.{strand-at}
-use Rattle.stores.specs.Sound.{SoundPlaces, InUse, SoundStrands}
 
+-- THE NUMBERS BESIDE A STRAND
+-- a "not", and no positive literal
+abbrev pub is-not : Option books.Literal → Bool
+is-not none = false
+is-not (some l) = is-negative l
+
+-- a table, and its sign; nothing for a table that can't be
+abbrev pub waits-on : (can-be negative : Bool) → (table : ℕ) → ℕ
+waits-on true true t = t + waits-not
+waits-on true false t = t
+waits-on false negative t = waits-nothing
+
+-- what the strand waits on: the table that it has selected, and the selected literal's sign; or nothing
+abbrev pub waits-for : List books.Literal → Option held.SelectedSubgoal → ℕ
+waits-for l none = waits-nothing
+waits-for l (some w) = waits-on (ltb (w .subgoal-table) most-tables) (is-not (getElem? l (w .subgoal-index))) (w .subgoal-table)
+
+abbrev pub waits-of : held.Strand → ℕ
+waits-of s = waits-for (s .ex-clause .subgoals) (s .selected-subgoal)
+
+-- the answer index that it has selected; 0 where nothing is selected
+abbrev pub wants-for : Option held.SelectedSubgoal → ℕ
+wants-for none = 0
+wants-for (some w) = w .answer-index
+
+abbrev pub wants-of : held.Strand → ℕ
+wants-of s = wants-for (s .selected-subgoal)
+
+-- THE MODELS on the record
 abbrev pub with-places : Strands → Places → Strands
-with-places s p = record { strands = s .strands; time = s .time; ambiguous = s .ambiguous; places = p }
+with-places s p = record {
+  strands = s .strands;
+  time = s .time;
+  ambiguous = s .ambiguous;
+  variant = s .variant;
+  waits = s .waits;
+  wants = s .wants;
+  places = p;
+}
 
 -- the strands of table t's queue
 abbrev pub strands-of : Strands → (t : ℕ) → List held.Strand
@@ -24,7 +67,15 @@ strands-of s t = map (strand-at s) (ring (s .places) t)
 
 -- a strand is written at a place, with its numbers beside it
 abbrev pub written : (q : ℕ) → Strand → Strands → Strands
-written q x s = record { strands = set (s .strands) q x; time = set (s .time) q (x .«last_pursued_time»); ambiguous = set (s .ambiguous) q (flag-number (x .ambiguous)); places = s .places }
+written q x s = record {
+  strands = set (s .strands) q x;
+  time = set (s .time) q (view x .last-pursued-time);
+  ambiguous = set (s .ambiguous) q (flag-number (view x .ex-clause .ambiguous));
+  variant = set (s .variant) q (view x .ex-clause .subst .variant);
+  waits = set (s .waits) q (waits-of (view x));
+  wants = set (s .wants) q (wants-of (view x));
+  places = s .places;
+}
 
 -- `enqueue_strand`: the strand at a held place goes to the end of table t's queue
 abbrev pub enqueued-strand : (t q : ℕ) → Strands → Strands
@@ -34,7 +85,29 @@ enqueued-strand t q s = with-places s (enqueued t q (s .places))
 abbrev pub given : (q : ℕ) → Strands → Strands
 given q s = enqueued-strand free q s
 
--- the test of `ring_take`
+-- what SLG calls eligible: pursued before the clock's time and, where the table wants complete answers, not ambiguous (logic.rs
+-- `ensure_root_answer`)
+abbrev pub eligible-at : (time ambiguous clock : ℕ) → (complete : Bool) → Bool
+eligible-at time ambiguous clock complete = ltb time clock && not (complete && not (eqb ambiguous 0))
+
+abbrev pub eligible : (time ambiguous : List ℕ) → (clock : ℕ) → (complete : Bool) → ℕ → Bool
+eligible time ambiguous clock complete p = eligible-at (getD time p 0) (getD ambiguous p 0) clock complete
+
+-- `find_strand`: the first of a list of places that passes the test, and the place before it, where a is before the list
+abbrev pub spot-if : Bool → (a x : ℕ) → Spot → Spot
+spot-if true a x s = record { found = true; before = a; place = x }
+spot-if false a x s = s
+
+abbrev pub spot-from : (ℕ → Bool) → ℕ → List ℕ → Spot
+spot-from test a [] = record { found = false; before = a; place = 0 }
+spot-from test a (x ∷ l) = spot-if (test x) a x (spot-from test x l)
+
+-- `take_strand`: what it gives, and what it leaves, wherever the places that were never used begin
+pub record TookStrand (test : ℕ → Bool) (t : ℕ) (next tail len next′ tail′ len′ : List ℕ) (r : ℕ) : Type 0 where
+  pub is : r ≡ taken-place test t (places next tail len 0)
+  pub left : (top : ℕ) → places next′ tail′ len′ top ≡ taken test t (places next tail len top)
+
+-- the test of `find_strand`
 abbrev pub test-at : (clock : ℕ) → (complete : Bool) → Strands → ℕ → Bool
 test-at clock complete s q = eligible (s .time) (s .ambiguous) clock complete q
 
@@ -42,7 +115,7 @@ test-at clock complete s q = eligible (s .time) (s .ambiguous) clock complete q
 abbrev pub taken-strand : (clock : ℕ) → (complete : Bool) → (t : ℕ) → Strands → Strands
 taken-strand clock complete t s = with-places s (taken (test-at clock complete s) t (s .places))
 
--- its place, or 256
+-- its place, or none
 abbrev pub strand-place : (clock : ℕ) → (complete : Bool) → (t : ℕ) → Strands → ℕ
 strand-place clock complete t s = taken-place (test-at clock complete s) t (s .places)
 
@@ -66,18 +139,36 @@ abbrev pub stored-each : (t : ℕ) → List Strand → Strands → Strands
 stored-each t [] s = s
 stored-each t (x ∷ xs) s = stored-each t xs (stored t x s)
 
--- Place q is held, besides those in `held`, and what stands there is nobody's yet.
-pub record Ready (s : Strands) (n : ℕ) (held : List ℕ) (q : ℕ) : Type 0 where
-  pub places : SoundPlaces (s .places) n (q ∷ held)
-  pub long : length (s .strands) ≡ 256
-  pub long-time : length (s .time) ≡ 256
-  pub long-ambiguous : length (s .ambiguous) ≡ 256
-  pub queued : (t u : ℕ) → t < n → 1 ≤ times u (ring (s .places) t) → InUse s u
-  pub in-hand : (u : ℕ) → 1 ≤ times u held → InUse s u
+-- BLANK: all zero, with nothing selected
+abbrev pub blank-literal : Literal
+blank-literal = record { goal = 0; kind = 0; want = 0 }
 
--- every place is free, and no table has a strand
-pub record BlankStrands (s : Strands) : Type 0 where
-  pub places : s .places ≡ blank-places
-  pub time : s .time ≡ replicate 256 0
-  pub ambiguous : s .ambiguous ≡ replicate 256 0
-  pub sound : SoundStrands s 0 []
+abbrev pub blank-floundered : Floundered
+blank-floundered = record { literal = blank-literal; time = 0 }
+
+abbrev pub blank-strand : Strand
+blank-strand = record {
+  «last_pursued_time» = 0;
+  variant = 0;
+  outsized = false;
+  ambiguous = false;
+  «answer_time» = 0;
+  «literal_count» = 0;
+  «floundered_count» = 0;
+  «delayed_count» = 0;
+  literals = replicate most-literals blank-literal;
+  floundered = replicate most-literals blank-floundered;
+  delayed = replicate most-literals 0;
+  selected = Nothing;
+}
+
+abbrev pub blank-strands : Strands
+blank-strands = record {
+  strands = replicate most-places blank-strand;
+  time = replicate most-places 0;
+  ambiguous = replicate most-places 0;
+  variant = replicate most-places 0;
+  waits = replicate most-places waits-nothing;
+  wants = replicate most-places 0;
+  places = blank-places;
+}

@@ -1,19 +1,23 @@
 -- When the stores are sound: all that an operation rests on.
 use Prim.Native.Nat.{ℕ, zero, suc, _+_, _≤_, _<_}
 use mathlib.Core.Path.{_≡_}
-use mathlib.Core.List.{List, []}
+use mathlib.Core.List.{List, [], _∷_}
 use lib.ListN.{length, getD}
-use Rattle.rings.specs.Lists.{times}
-use Rattle.rings.specs.Rings.{RingSound}
-use Rattle.strands.specs.View.{Sound, SoundAnswer}
+use Rattle.rings.specs.Lists.{times, All}
+use Rattle.rings.specs.Rings.{most-places, RingSound}
+use Rattle.strands.specs.declared.Strand.{Strand}
+use Rattle.strands.specs.declared.Answer.{Answer}
+use Rattle.strands.specs.View.{view, answer, Sound, SoundAnswer}
 use Rattle.stores.specs.declared.places.Places.{Places}
 use Rattle.stores.specs.declared.queue.Strands.{Strands}
 use Rattle.stores.specs.declared.table.Answers.{Answers}
 use Rattle.stores.specs.declared.tables.Tables.{Tables}
 use Rattle.stores.specs.declared.stack.Stack.{Stack}
-use Rattle.stores.specs.Numbers.{free, flag-number}
+use Rattle.stores.specs.Numbers.{most-tables, most-entries, most-goals, free, flag-number}
 use Rattle.stores.specs.Places.{ring}
 use Rattle.stores.specs.View.{unread-strand, unread-answer}
+use Rattle.stores.specs.Queue.{waits-of, wants-of}
+use Rattle.stores.specs.Table.{key-of}
 
 -- the lengths of the first n rings together
 abbrev pub waiting : Places → ℕ → ℕ
@@ -32,37 +36,83 @@ pub record SoundPlaces (p : Places) (n : ℕ) (held : List ℕ) : Type 0 where
   pub all : waiting p n + length (ring p free) + length held ≡ p .top
 
 -- a strand that is in use: it is sound, and the numbers beside it are its own
-pub record InUse (s : Strands) (q : ℕ) : Type 0 where
-  pub sound : Sound (getD (s .strands) q unread-strand)
-  pub time : getD (s .time) q 0 ≡ getD (s .strands) q unread-strand .«last_pursued_time»
-  pub ambiguous : getD (s .ambiguous) q 0 ≡ flag-number (getD (s .strands) q unread-strand .ambiguous)
+pub record OwnNumbers (x : Strand) (time ambiguous variant waits wants : ℕ) : Type 0 where
+  pub sound : Sound x
+  pub is-time : time ≡ view x .last-pursued-time
+  pub is-ambiguous : ambiguous ≡ flag-number (view x .ex-clause .ambiguous)
+  pub is-variant : variant ≡ view x .ex-clause .subst .variant
+  pub is-waits : waits ≡ waits-of (view x)
+  pub is-wants : wants ≡ wants-of (view x)
+
+abbrev pub InUse : Strands → (q : ℕ) → Type 0
+InUse s q = OwnNumbers (getD (s .strands) q unread-strand) (getD (s .time) q 0) (getD (s .ambiguous) q 0) (getD (s .variant) q 0)
+    (getD (s .waits) q 0) (getD (s .wants) q 0)
+
+-- the arrays of the strand store
+pub record LongStrands (strands : List Strand) (time ambiguous variant waits wants : List ℕ) : Type 0 where
+  pub long-strands : length strands ≡ most-places
+  pub long-time : length time ≡ most-places
+  pub long-ambiguous : length ambiguous ≡ most-places
+  pub long-variant : length variant ≡ most-places
+  pub long-waits : length waits ≡ most-places
+  pub long-wants : length wants ≡ most-places
+
+abbrev pub Long : Strands → Type 0
+Long s = LongStrands (s .strands) (s .time) (s .ambiguous) (s .variant) (s .waits) (s .wants)
 
 pub record SoundStrands (s : Strands) (n : ℕ) (held : List ℕ) : Type 0 where
   pub places : SoundPlaces (s .places) n held
-  pub long : length (s .strands) ≡ 256
-  pub long-time : length (s .time) ≡ 256
-  pub long-ambiguous : length (s .ambiguous) ≡ 256
+  pub long : Long s
   pub queued : (t q : ℕ) → t < n → 1 ≤ times q (ring (s .places) t) → InUse s q
   pub in-hand : (q : ℕ) → 1 ≤ times q held → InUse s q
+
+-- Place q is held, besides those in `held`, and what stands there is nobody's yet.
+pub record Ready (s : Strands) (n : ℕ) (held : List ℕ) (q : ℕ) : Type 0 where
+  pub places : SoundPlaces (s .places) n (q ∷ held)
+  pub long : Long s
+  pub queued : (t u : ℕ) → t < n → 1 ≤ times u (ring (s .places) t) → InUse s u
+  pub in-hand : (u : ℕ) → 1 ≤ times u held → InUse s u
+
+-- an answer that may be stored: it is sound, and what it delays are goals that a book can have, so that its key is its own
+pub record GoodAnswer (x : Answer) : Type 0 where
+  pub sound : SoundAnswer x
+  pub goals : All (λ g. g < most-goals) (answer x .delayed-subgoals)
+
+-- one that is stored: the numbers beside it are its own
+pub record OwnAnswerNumbers (x : Answer) (variant key ambiguous : ℕ) : Type 0 where
+  pub good : GoodAnswer x
+  pub is-variant : variant ≡ answer x .variant
+  pub is-key : key ≡ key-of (answer x .delayed-subgoals)
+  pub is-ambiguous : ambiguous ≡ flag-number (answer x .ambiguous)
+
+abbrev pub Stored : Answers → (q : ℕ) → Type 0
+Stored a q = OwnAnswerNumbers (getD (a .answers) q unread-answer) (getD (a .variant) q 0) (getD (a .key) q 0) (getD (a .ambiguous) q 0)
+
+-- the arrays of the answers
+pub record LongAnswers (answers : List Answer) (variant key ambiguous : List ℕ) : Type 0 where
+  pub long-answers : length answers ≡ most-places
+  pub long-variant : length variant ≡ most-places
+  pub long-key : length key ≡ most-places
+  pub long-ambiguous : length ambiguous ≡ most-places
 
 -- no answer is in hand
 pub record SoundAnswers (a : Answers) (n : ℕ) : Type 0 where
   pub places : SoundPlaces (a .places) n []
-  pub long : length (a .answers) ≡ 256
-  pub stored : (t q : ℕ) → t < n → 1 ≤ times q (ring (a .places) t) → SoundAnswer (getD (a .answers) q unread-answer)
+  pub long : LongAnswers (a .answers) (a .variant) (a .key) (a .ambiguous)
+  pub stored : (t q : ℕ) → t < n → 1 ≤ times q (ring (a .places) t) → Stored a q
 
 pub record SoundTables (ts : Tables) : Type 0 where
-  pub few : ts .count ≤ 64
-  pub long-goal : length (ts .goal) ≡ 64
-  pub long-coinductive : length (ts .coinductive) ≡ 64
-  pub long-floundered : length (ts .floundered) ≡ 64
-  pub long-complete : length (ts .complete) ≡ 64
+  pub few : ts .count ≤ most-tables
+  pub long-goal : length (ts .goal) ≡ most-tables
+  pub long-coinductive : length (ts .coinductive) ≡ most-tables
+  pub long-floundered : length (ts .floundered) ≡ most-tables
+  pub long-complete : length (ts .complete) ≡ most-tables
 
 pub record SoundStack (k : Stack) : Type 0 where
-  pub few : k .depth ≤ 64
-  pub long-table : length (k .table) ≡ 64
-  pub long-clock : length (k .clock) ≡ 64
-  pub long-positive : length (k .positive) ≡ 64
-  pub long-negative : length (k .negative) ≡ 64
-  pub long-active : length (k .active) ≡ 64
-  pub places : (i : ℕ) → i < k .depth → getD (k .active) i 0 ≤ 256
+  pub few : k .depth ≤ most-entries
+  pub long-table : length (k .table) ≡ most-entries
+  pub long-clock : length (k .clock) ≡ most-entries
+  pub long-positive : length (k .positive) ≡ most-entries
+  pub long-negative : length (k .negative) ≡ most-entries
+  pub long-active : length (k .active) ≡ most-entries
+  pub places : (i : ℕ) → i < k .depth → getD (k .active) i 0 ≤ most-places

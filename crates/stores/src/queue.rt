@@ -1,28 +1,264 @@
-// table.rs, the queue of strands: the strands stand at the places of a table's ring in the order in which they wait. `[Strand; 256]` is
-// written by whoever owns it.
+// table.rs, the queue of strands: the strands stand at the places of a table's ring in the order in which they wait. `[Strand; PLACES]` is
+// written by whoever owns it. What is read of a strand without the strand itself stands beside it in arrays of numbers, which can be lent.
+use crate::numbers::MOST_LITERALS;
+use crate::numbers::MOST_TABLES;
+use crate::numbers::WAITS_NOT;
+use crate::numbers::WAITS_NOTHING;
+use crate::numbers::flag_of;
 use crate::places::Places;
 use crate::places::blank_places;
+use crate::places::find_number;
+use book::Literal;
+use rings::PLACES;
+use rings::ring_unlink;
+use strands::Floundered;
+use strands::Selected;
 use strands::Strand;
-use strands::making::blank;
-ghost use Rattle.stores.specs.Queue.{BlankStrands};
+use strands::literals::is_negative;
+ghost use mathlib.Core.Path.{_≡_};
+ghost use mathlib.Core.Bool.{false};
+ghost use mathlib.Core.List.{map};
+ghost use Prim.Native.Nat.{_<_};
+ghost use lib.ListN.{take, getD, set, getElem?};
+ghost use lib.Dec.{ltb};
+ghost use Rattle.book.specs.View.{meant};
+ghost use Rattle.rings.specs.Rings.{most-places, ring-of};
+ghost use Rattle.strands.specs.View.{view};
+ghost use Rattle.stores.specs.Numbers.{most-tables, flag-number};
+ghost use Rattle.stores.specs.Places.{numbered, found-in};
+ghost use Rattle.stores.specs.Queue.{is-not, waits-on, waits-of, wants-of, eligible-at, eligible, spot-from, TookStrand, blank-strands};
 
-// The strands by place. What the choice of the next strand reads of each is kept beside them in arrays of numbers, which can be lent.
+// The strands by place, and the numbers beside them: `waits` is what a strand waits on and `wants` the answer index that it wants.
 pub struct Strands {
-    pub strands: [Strand; 256],
-    pub time: [u64; 256],
-    pub ambiguous: [u8; 256],
+    pub strands: [Strand; PLACES],
+    pub time: [u64; PLACES],
+    pub ambiguous: [u8; PLACES],
+    pub variant: [u16; PLACES],
+    pub waits: [u8; PLACES],
+    pub wants: [u16; PLACES],
     pub places: Places,
 }
 
+// Every place is free, and what stands there is blank.
 pub fn blank_strands() -> Strands
-    ensures { λ r. ⌜ BlankStrands r ⌝ }
+    ensures { λ r. ⌜ r ≡ blank-strands ⌝ }
 {
-    let b = blank();
+    let l = Literal {
+        goal: 0,
+        kind: 0,
+        want: 0,
+    };
+    let f = Floundered {
+        literal: l,
+        time: 0,
+    };
+    let b = Strand {
+        last_pursued_time: 0,
+        variant: 0,
+        outsized: false,
+        ambiguous: false,
+        answer_time: 0,
+        literal_count: 0,
+        floundered_count: 0,
+        delayed_count: 0,
+        literals: [l; MOST_LITERALS],
+        floundered: [f; MOST_LITERALS],
+        delayed: [0; MOST_LITERALS],
+        selected: Selected::Nothing,
+    };
     let p = blank_places();
     Strands {
-        strands: [b; 256],
-        time: [0; 256],
-        ambiguous: [0; 256],
+        strands: [b; PLACES],
+        time: [0; PLACES],
+        ambiguous: [0; PLACES],
+        variant: [0; PLACES],
+        waits: [WAITS_NOTHING; PLACES],
+        wants: [0; PLACES],
         places: p,
     }
+}
+
+// Whether the literal at an index of the first `count` is a "not".
+fn is_not(literals: [Literal; MOST_LITERALS], count: u8, index: u8) -> bool
+    ensures { λ r. ⌜ r ≡ is-not (getElem? (map meant (take count literals)) index) ⌝ }
+{
+    if index >= count {
+        return false;
+    }
+    let i = index as usize;
+    if i >= MOST_LITERALS {
+        return false;
+    }
+    is_negative(literals[i])
+}
+
+fn waits_on(table: u8, negative: bool) -> u8
+    ensures { λ r. ⌜ r ≡ waits-on (ltb table most-tables) negative table ⌝ }
+{
+    let t = table as usize;
+    if t >= MOST_TABLES {
+        return WAITS_NOTHING;
+    }
+    if negative {
+        return table + WAITS_NOT;
+    }
+    table
+}
+
+// What a strand waits on: the table that it has selected, 64 added where the selected literal is a "not"; 255 where nothing is selected.
+pub fn waits_of(s: Strand) -> u8
+    ensures { λ r. ⌜ r ≡ waits-of (view s) ⌝ }
+{
+    let k = s.selected;
+    match k {
+        Selected::Nothing => WAITS_NOTHING,
+        Selected::Subgoal {
+            index,
+            table,
+            answer: _,
+        } => {
+            let l = s.literals;
+            let negative = is_not(l, s.literal_count, index);
+            waits_on(table, negative)
+        }
+    }
+}
+
+// The answer index that a strand has selected; 0 where nothing is.
+pub fn wants_of(s: Strand) -> u16
+    ensures { λ r. ⌜ r ≡ wants-of (view s) ⌝ }
+{
+    let k = s.selected;
+    match k {
+        Selected::Nothing => 0,
+        Selected::Subgoal {
+            index: _,
+            table: _,
+            answer,
+        } => answer,
+    }
+}
+
+// The numbers beside the strand x, at its place.
+pub fn number_strand(
+    time: &mut [u64; PLACES],
+    ambiguous: &mut [u8; PLACES],
+    variant: &mut [u16; PLACES],
+    waits: &mut [u8; PLACES],
+    wants: &mut [u16; PLACES],
+    q: u8,
+    x: Strand,
+)
+    ensures { λ _. ⌜ (now (time .exit) ≡ set (now (time .entry)) q (view x .last-pursued-time))
+        × (now (ambiguous .exit) ≡ set (now (ambiguous .entry)) q (flag-number (view x .ex-clause .ambiguous)))
+        × (now (variant .exit) ≡ set (now (variant .entry)) q (view x .ex-clause .subst .variant))
+        × (now (waits .exit) ≡ set (now (waits .entry)) q (waits-of (view x)))
+        × (now (wants .exit) ≡ set (now (wants .entry)) q (wants-of (view x))) ⌝ }
+{
+    let k = q as usize;
+    time[k] = x.last_pursued_time;
+    ambiguous[k] = flag_of(x.ambiguous);
+    variant[k] = x.variant;
+    waits[k] = waits_of(x);
+    wants[k] = wants_of(x);
+}
+
+// Where looking along a queue came to: whether a strand is eligible, its place, and the place before it in the ring.
+pub struct Spot {
+    pub found: bool,
+    pub before: u8,
+    pub place: u8,
+}
+
+fn wide(x: u8) -> usize
+    ensures { λ r. ⌜ (r ≡ x) × (r < 256) ⌝ }
+{
+    x as usize
+}
+
+fn may_take(time: u64, ambiguous: u8, clock: u64, complete: bool) -> bool
+    ensures { λ r. ⌜ r ≡ eligible-at time ambiguous clock complete ⌝ }
+{
+    if time >= clock {
+        return false;
+    }
+    if complete {
+        return ambiguous == 0;
+    }
+    true
+}
+
+// The search of `dequeue_next_strand_that`: the first strand of the table's queue that is eligible, one that was pursued before the
+// clock's time and, where the table wants complete answers, isn't ambiguous (logic.rs `ensure_root_answer`). It only looks: `ring_unlink`
+// takes what was found.
+pub fn find_strand(
+    next: &[u8; PLACES],
+    tail: &[u8; PLACES],
+    len: &[u16; PLACES],
+    t: u8,
+    time: &[u64; PLACES],
+    ambiguous: &[u8; PLACES],
+    clock: u64,
+    complete: bool,
+) -> Spot
+    ensures { λ r. ⌜ r ≡ spot-from (eligible (now (time .entry)) (now (ambiguous .entry)) clock complete)
+        (getD (now (tail .entry)) t 0) (ring-of (now (next .entry)) (now (tail .entry)) (now (len .entry)) t) ⌝ }
+{
+    let mut prev = tail[t as usize];
+    let mut left = len[t as usize];
+    while left > 0 {
+        let p = next[wide(prev)];
+        let k = wide(p);
+        if may_take(time[k], ambiguous[k], clock, complete) {
+            return Spot {
+                found: true,
+                before: prev,
+                place: p,
+            };
+        }
+        prev = p;
+        left = left - 1;
+    }
+    Spot {
+        found: false,
+        before: prev,
+        place: 0,
+    }
+}
+
+// `dequeue_next_strand_that`: the place of the first eligible strand, which is in no queue from now on; 256 where there is none.
+pub fn take_strand(
+    next: &mut [u8; PLACES],
+    tail: &mut [u8; PLACES],
+    len: &mut [u16; PLACES],
+    t: u8,
+    time: &[u64; PLACES],
+    ambiguous: &[u8; PLACES],
+    clock: u64,
+    complete: bool,
+) -> usize
+    ensures { λ r. ⌜ TookStrand (eligible (now (time .entry)) (now (ambiguous .entry)) clock complete) t
+        (now (next .entry)) (now (tail .entry)) (now (len .entry)) (now (next .exit)) (now (tail .exit)) (now (len .exit)) r ⌝ }
+{
+    let s = find_strand(next, tail, len, t, time, ambiguous, clock, complete);
+    if s.found {
+        return ring_unlink(next, tail, len, t, s.before);
+    }
+    PLACES
+}
+
+// The test of `any_future_answer` over the queue. No key is looked for, and the times stand in for keys.
+pub fn any_strand(
+    next: &[u8; PLACES],
+    tail: &[u8; PLACES],
+    len: &[u16; PLACES],
+    t: u8,
+    variant: &[u16; PLACES],
+    v: u16,
+    time: &[u64; PLACES],
+) -> bool
+    ensures { λ r. ⌜ r ≡ ltb (found-in (numbered false (now (variant .entry)) v (now (time .entry)) 0)
+        (ring-of (now (next .entry)) (now (tail .entry)) (now (len .entry)) t)) most-places ⌝ }
+{
+    find_number(next, tail, len, t, 0, variant, v, time, 0, false) < PLACES
 }

@@ -1,13 +1,14 @@
 // Runs one operation of the stores many times, for a clock outside: how many arguments there are names it. With none it only says so.
 use rings::ring_at;
 use rings::ring_enqueue;
-use rings::ring_take;
 use stores::places::Places;
 use stores::places::blank_places;
 use stores::places::take_place;
 use stores::queue::blank_strands;
+use stores::queue::take_strand;
 use stores::table::PushAnswer;
 use stores::table::blank_answers;
+use stores::table::number_answer;
 use stores::table::push_answer;
 use strands::Answer;
 use strands::answers::blank_answer;
@@ -69,7 +70,7 @@ fn queue(live: usize, turns: usize) -> usize {
     let mut last: usize = 0;
     let mut i: usize = 0;
     while i < turns {
-        let q = ring_take(
+        let q = take_strand(
             &mut next,
             &mut tail,
             &mut len,
@@ -97,7 +98,7 @@ fn search(live: usize, turns: usize) -> usize {
     let mut last: usize = 0;
     let mut i: usize = 0;
     while i < turns {
-        last = ring_take(
+        last = take_strand(
             &mut next,
             &mut tail,
             &mut len,
@@ -125,7 +126,7 @@ fn turns_of(live: usize, turns: usize) -> u64 {
     let mut last: u64 = 0;
     let mut i: usize = 0;
     while i < turns {
-        let q = ring_take(
+        let q = take_strand(
             &mut next,
             &mut tail,
             &mut len,
@@ -191,6 +192,9 @@ fn place_of(o: PushAnswer) -> usize
 fn pushes(live: u16, turns: usize) -> usize {
     let a = blank_answers();
     let mut answers = a.answers;
+    let mut variant = a.variant;
+    let mut key = a.key;
+    let mut ambiguous = a.ambiguous;
     let p = a.places;
     let mut next = p.next;
     let mut tail = p.tail;
@@ -200,11 +204,23 @@ fn pushes(live: u16, turns: usize) -> usize {
     let mut n: u16 = 0;
     let mut i: usize = 0;
     while i < turns {
-        let x = answer(n);
-        last = place_of(push_answer(answers, &mut next, &mut tail, &mut len, &mut top, 0, x));
-        answers[last] = x;
-        n = following(n, live);
         i = i + 1;
+        let x = answer(n);
+        last = place_of(push_answer(
+            &mut next,
+            &mut tail,
+            &mut len,
+            &mut top,
+            0,
+            &variant,
+            &key,
+            &ambiguous,
+            x,
+        ));
+        let k = small(last);
+        answers[k as usize] = x;
+        number_answer(&mut variant, &mut key, &mut ambiguous, k, x);
+        n = following(n, live);
     }
     last
 }

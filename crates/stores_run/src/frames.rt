@@ -40,7 +40,7 @@ fn nine(strand: Strand) -> Over {
 }
 
 // Eight delayed goals and not nine.
-pub fn delays() {
+pub(crate) fn delays() {
     let d = nine(blank());
     let s = d.strand;
     line(b"delayed goals", s.delayed_count as usize);
@@ -82,7 +82,7 @@ fn pushed(k: Stack) -> Stack {
 }
 
 // 64 entries and not 65; the entry nearest the bottom is found.
-pub fn entries() {
+pub(crate) fn entries() {
     let k = pushed(blank_stack());
     let table = k.table;
     let mut active = k.active;
@@ -150,7 +150,7 @@ fn made(ts: Tables) -> Tables {
 }
 
 // 64 tables and not 65, found by their goals.
-pub fn goals() {
+pub(crate) fn goals() {
     let ts = made(blank_tables());
     let goal = ts.goal;
     let complete = ts.complete;

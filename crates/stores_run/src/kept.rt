@@ -8,10 +8,14 @@ use stores::table::PushAnswer;
 use stores::table::answer_count;
 use stores::table::any_answer;
 use stores::table::blank_answers;
+use stores::table::number_answer;
 use stores::table::push_answer;
 use strands::Answer;
 use strands::answers::blank_answer;
+ghost use mathlib.Core.Path.{_≡_};
 ghost use Prim.Native.Nat.{_≤_};
+ghost use Rattle.stores.specs.Table.{written-answer};
+ghost use Rattle.stores_run.specs.Owner.{kept-by, Keeps};
 
 // What a push came to: 0 for a repeat, the number of a stop, or 100 for a new answer.
 struct Kept {
@@ -19,14 +23,48 @@ struct Kept {
     answers: Answers,
 }
 
-fn keep(a: Answers, t: u8, x: Answer) -> Kept {
+// An answer at a place, with the numbers beside it.
+fn write(a: Answers, q: u8, x: Answer) -> Answers
+    ensures { λ r. ⌜ r ≡ written-answer q x a ⌝ }
+{
+    let mut answers = a.answers;
+    let mut variant = a.variant;
+    let mut key = a.key;
+    let mut ambiguous = a.ambiguous;
+    answers[q as usize] = x;
+    number_answer(&mut variant, &mut key, &mut ambiguous, q, x);
+    let places = a.places;
+    Answers {
+        answers,
+        variant,
+        key,
+        ambiguous,
+        places,
+    }
+}
+
+fn keep(a: Answers, t: u8, x: Answer) -> Kept
+    ensures { λ r. ⌜ Keeps a t x r ⌝ }
+{
     let p = a.places;
     let mut next = p.next;
     let mut tail = p.tail;
     let mut len = p.len;
     let mut top = p.top;
-    let stored = a.answers;
-    let o = push_answer(stored, &mut next, &mut tail, &mut len, &mut top, t, x);
+    let variant = a.variant;
+    let key = a.key;
+    let ambiguous = a.ambiguous;
+    let o = push_answer(
+        &mut next,
+        &mut tail,
+        &mut len,
+        &mut top,
+        t,
+        &variant,
+        &key,
+        &ambiguous,
+        x,
+    );
     let places = Places {
         next,
         tail,
@@ -35,18 +73,23 @@ fn keep(a: Answers, t: u8, x: Answer) -> Kept {
     };
     let mut r = a;
     r.places = places;
+    done(r, o, x)
+}
+
+fn done(a: Answers, o: PushAnswer, x: Answer) -> Kept
+    ensures { λ r. ⌜ r ≡ kept-by a x o ⌝ }
+{
     match o {
         PushAnswer::Repeat => Kept {
             what: 0,
-            answers: r,
+            answers: a,
         },
         PushAnswer::Stop(n) => Kept {
             what: n,
-            answers: r,
+            answers: a,
         },
         PushAnswer::New(q) => {
-            let k = q as usize;
-            r.answers[k] = x;
+            let r = write(a, q, x);
             Kept {
                 what: 100,
                 answers: r,
@@ -75,7 +118,7 @@ fn count(a: Answers, t: u8) -> usize {
     n as usize
 }
 
-pub fn outcomes() {
+pub(crate) fn outcomes() {
     let a = keep(blank_answers(), 2, answer(7, 0, false));
     line(b"new", a.what as usize);
     let b = keep(a.answers, 2, answer(7, 0, false));
@@ -98,8 +141,9 @@ fn future(a: Answers, from: usize, variant: u16) -> usize {
     let next = p.next;
     let tail = p.tail;
     let len = p.len;
-    let stored = a.answers;
-    one(any_answer(stored, &next, &tail, &len, 2, from, variant))
+    let variants = a.variant;
+    let key = a.key;
+    one(any_answer(&next, &tail, &len, 2, from, &variants, variant, &key))
 }
 
 fn is_new(what: u8) -> usize
@@ -135,7 +179,7 @@ fn fill(a: Answers) -> Filled {
     }
 }
 
-pub fn limit() {
+pub(crate) fn limit() {
     let f = fill(blank_answers());
     line(b"answers of 257:", f.count);
     line(b"the last", f.last as usize);

@@ -5,15 +5,17 @@ use crate::words::one;
 use rings::ring_at;
 use rings::ring_enqueue;
 use rings::ring_move;
-use rings::ring_take;
-use stores::numbers::flag_of;
 use stores::places::Places;
 use stores::places::in_use;
 use stores::places::take_place;
 use stores::queue::Strands;
 use stores::queue::blank_strands;
+use stores::queue::number_strand;
+use stores::queue::take_strand;
 use strands::Strand;
 use strands::making::blank;
+ghost use mathlib.Core.Path.{_≡_};
+ghost use Rattle.stores.specs.Queue.{written};
 ghost use Rattle.stores_run.specs.Owner.{Puts, Takes, Clears};
 
 struct Placed {
@@ -24,6 +26,38 @@ struct Placed {
 struct Took {
     place: usize,
     strands: Strands,
+}
+
+// A strand at a place, with the numbers beside it.
+fn write(s: Strands, q: u8, x: Strand) -> Strands
+    ensures { λ r. ⌜ r ≡ written q x s ⌝ }
+{
+    let mut strands = s.strands;
+    let mut time = s.time;
+    let mut ambiguous = s.ambiguous;
+    let mut variant = s.variant;
+    let mut waits = s.waits;
+    let mut wants = s.wants;
+    strands[q as usize] = x;
+    number_strand(
+        &mut time,
+        &mut ambiguous,
+        &mut variant,
+        &mut waits,
+        &mut wants,
+        q,
+        x,
+    );
+    let places = s.places;
+    Strands {
+        strands,
+        time,
+        ambiguous,
+        variant,
+        waits,
+        wants,
+        places,
+    }
 }
 
 // A new strand at the end of a table's queue: a place is taken, written and enqueued.
@@ -43,10 +77,7 @@ fn put(s: Strands, t: u8, x: Strand) -> Placed
         };
     }
     ring_enqueue(&mut next, &mut tail, &mut len, t, q as u8);
-    let mut r = s;
-    r.strands[q] = x;
-    r.time[q] = x.last_pursued_time;
-    r.ambiguous[q] = flag_of(x.ambiguous);
+    let mut r = write(s, q as u8, x);
     let places = Places {
         next,
         tail,
@@ -70,7 +101,7 @@ fn take(s: Strands, t: u8, clock: u64) -> Took
     let mut len = p.len;
     let time = s.time;
     let ambiguous = s.ambiguous;
-    let q = ring_take(
+    let q = take_strand(
         &mut next,
         &mut tail,
         &mut len,
@@ -153,7 +184,7 @@ fn show(s: Strands, t: u8) {
 }
 
 // Strands 1 2 3, of which 2 may be taken first: it leaves 3 1.
-pub fn rotation() {
+pub(crate) fn rotation() {
     let a = put(blank_strands(), 5, strand(1, 9));
     let b = put(a.strands, 5, strand(2, 1));
     let c = put(b.strands, 5, strand(3, 9));
@@ -190,7 +221,7 @@ fn fill(s: Strands) -> Filled {
 }
 
 // 256 strands and not 257; the places of a queue that is cleared are used again.
-pub fn limit() {
+pub(crate) fn limit() {
     let f = fill(blank_strands());
     line(b"strands of 300:", f.count);
     line(b"in use", used(f.strands));

@@ -226,7 +226,7 @@ chooses n others zero f s sf ss free room = absurd (none-left (s .selected-subgo
     none-left (some selected) w r = let z = w .at-literal in omega arith
 chooses n others (suc p) f s sf ss free room = a-pass n others p (chooses n others p) f s sf ss free room
 
-lates-few : (x : ExClause) → lates x ≤ length (x .floundered-subgoals)
+pub lates-few : (x : ExClause) → lates x ≤ length (x .floundered-subgoals)
 lates-few x = go′ (x .floundered-subgoals)
   where
     one : (b : Bool) → elim b [ true ↦ 1 | false ↦ 0 ] ≤ 1

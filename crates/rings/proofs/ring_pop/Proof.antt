@@ -1,68 +1,61 @@
-use Rattle.rings.proofs.Walks.{pop-none, pop-some}
+-- `ring_pop` meets its contract: the place behind the last is unlinked, where there is one.
+use Prim.Native.Nat.{ℕ}
+use mathlib.Core.Path.{_≡_, ap, _∙_}
+use lib.ListN.{getD}
+use Rattle.rings.proofs.Walks.{unlink-is, pop-none, pop-some}
 use borrow.Author.Needs.{needs}
 use Rattle.rings.proofs.ring_pop.Statement.{statement}
 use Rattle.rings.proofs.ring_pop.Tie as tie
-use Rattle.rings.proofs.ring_pop.Reads as reads
-use Rattle.rings.proofs.ring_pop.Lts as lts
-use Rattle.rings.proofs.less.Reads as less-reads
-use Rattle.rings.proofs.wide.Reads as wide-reads
 
--- src/lib.rt:225:13
 mul-m : tie.Need-mul-m
 mul-m c = search needs
 
--- src/lib.rt:225:13
 element-copy-out-m : tie.Need-element-copy-out-m
 element-copy-out-m c = search needs
 
--- src/lib.rt:227:9
 returns : tie.Need-returns
 returns c =
     let a = c .before .before .args in
     pop-none (a .next .now) (a .tail .now) (a .len .now) (a .table) (c .if1 .taken)
 
--- src/lib.rt:229:18
 element-copy-out-wide : tie.Need-element-copy-out-wide
 element-copy-out-wide c = search needs
 
--- src/lib.rt:229:9
 wide-requires : tie.Need-wide-requires
 wide-requires c κs = search needs
 
--- src/lib.rt:230:18
 element-copy-out-wide-2 : tie.Need-element-copy-out-wide-2
 element-copy-out-wide-2 c = search needs
 
--- src/lib.rt:230:9
 wide-requires-2 : tie.Need-wide-requires-2
 wide-requires-2 c κs = search needs
 
--- src/lib.rt:231:17
 element-copy-out-after : tie.Need-element-copy-out-after
 element-copy-out-after c = search needs
 
--- src/lib.rt:232:5
 element-write-next : tie.Need-element-write-next
 element-write-next c = search needs
 
--- src/lib.rt:233:14
 less-requires : tie.Need-less-requires
 less-requires c κs = search needs
 
--- src/lib.rt:233:5
 mul-len : tie.Need-mul-len
 mul-len c = search needs
 
--- src/lib.rt:233:5
 element-write-len : tie.Need-element-write-len
 element-write-len c = search needs
 
--- src/lib.rt:219:1
 returns-2 : tie.Need-returns-2
 returns-2 c =
-    let a = c .before .before .before .before .before .before .before .before .args in
-    pop-some (a .next .now) (a .tail .now) (a .len .now) (a .table) (c .before .before .before .before .before .before .if1 .left)
-    (c .before .before .before .before .wide .result) (c .before .before .wide2 .result) (c .less .result) (c .before .before .before .before .wide .ensures .0) (c .before .before .wide2 .ensures .0) (c .less .ensures)
+    let w2 = c .before .before in
+    let w = w2 .before .before in
+    let test = w .before .before in
+    let a = test .before .before .args in
+    let last : w .wide .result ≡ getD (a .tail .now) (a .table) 0 = w .wide .ensures .0 in
+    let first : w2 .wide2 .result ≡ getD (a .next .now) (getD (a .tail .now) (a .table) 0) 0 = w2 .wide2 .ensures .0 ∙ ap (λ (x : ℕ). getD (a .next .now) x 0) last in
+    let some = pop-some (a .next .now) (a .tail .now) (a .len .now) (a .table) (test .if1 .left) in
+    let is = unlink-is (a .next .now) (a .len .now) (a .table) (getD (a .tail .now) (a .table) 0) (w2 .wide2 .result) (c .less .result) first (c .less .ensures) in
+    (first ∙ some .0, rw last (is .0 ∙ some .1), is .1)
 
 pub ring-pop-spec : {M : Type 1} → statement M
 ring-pop-spec =

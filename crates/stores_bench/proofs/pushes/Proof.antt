@@ -1,24 +1,23 @@
 -- `pushes` is safe and ends: its loop counts up to a number.
 use Prim.Native.Nat.{_≤_, _-_}
-use mathlib.Core.Path.{_≡_}
-use lib.ListN.{length}
 use borrow.Author.Needs.{needs}
 use Rattle.stores_bench.proofs.pushes.Statement.{statement}
 use Rattle.stores_bench.proofs.pushes.Tie as tie
 
 abbrev Inv-loop : tie.InvT-loop
-Inv-loop live turns answers₀ next₀ tail₀ len₀ top₀ last₀ n₀ i₀ answers next tail len top last n i =
-    (i ≤ turns) × (length answers ≡ 256)
+Inv-loop live turns answers₀ variant₀ key₀ ambiguous₀ next₀ tail₀ len₀ top₀ last₀ n₀ i₀ answers variant key ambiguous next tail len top last n i = i ≤ turns
 
 abbrev μ-loop : tie.MeasureT-loop
-μ-loop live turns answers₀ next₀ tail₀ len₀ top₀ last₀ n₀ i₀ answers next tail len top last n i =
-    turns - i
+μ-loop live turns answers₀ variant₀ key₀ ambiguous₀ next₀ tail₀ len₀ top₀ last₀ n₀ i₀ answers variant key ambiguous next tail len top last n i = turns - i
 
 blank-answers-requires : tie.Need-blank-answers-requires Inv-loop μ-loop
 blank-answers-requires c κs = search needs
 
 loop-holds : tie.Need-loop-holds Inv-loop μ-loop
 loop-holds c = search needs
+
+add-i : tie.Need-add-i Inv-loop μ-loop
+add-i c = search needs
 
 answer-requires : tie.Need-answer-requires Inv-loop μ-loop
 answer-requires c κs = search needs
@@ -29,17 +28,23 @@ push-answer-requires c κs = search needs
 place-of-requires : tie.Need-place-of-requires Inv-loop μ-loop
 place-of-requires c κs = search needs
 
+small-requires : tie.Need-small-requires Inv-loop μ-loop
+small-requires c κs = search needs
+
+cast-answers : tie.Need-cast-answers Inv-loop μ-loop
+cast-answers c = search needs
+
 mul-answers : tie.Need-mul-answers Inv-loop μ-loop
 mul-answers c = search needs
 
 array-set-from-answers : tie.Need-array-set-from-answers Inv-loop μ-loop
 array-set-from-answers c = search needs
 
+number-answer-requires : tie.Need-number-answer-requires Inv-loop μ-loop
+number-answer-requires c κs = search needs
+
 following-requires : tie.Need-following-requires Inv-loop μ-loop
 following-requires c κs = search needs
-
-add-i : tie.Need-add-i Inv-loop μ-loop
-add-i c = search needs
 
 loop-less : tie.Need-loop-less Inv-loop μ-loop
 loop-less c = search needs
@@ -58,13 +63,16 @@ pushes-spec =
     μ-loop
     blank-answers-requires
     loop-holds
+    add-i
     answer-requires
     push-answer-requires
     place-of-requires
+    small-requires
+    cast-answers
     mul-answers
     array-set-from-answers
+    number-answer-requires
     following-requires
-    add-i
     loop-less
     loop-again
     returns)

@@ -18,8 +18,8 @@ filled-requires c κs = search needs
 loop-holds : tie.Need-loop-holds Inv-loop μ-loop
 loop-holds c = search needs
 
-ring-take-requires : tie.Need-ring-take-requires Inv-loop μ-loop
-ring-take-requires c κs = search needs
+take-strand-requires : tie.Need-take-strand-requires Inv-loop μ-loop
+take-strand-requires c κs = search needs
 
 small-requires : tie.Need-small-requires Inv-loop μ-loop
 small-requires c κs = search needs
@@ -47,7 +47,7 @@ queue-spec =
     μ-loop
     filled-requires
     loop-holds
-    ring-take-requires
+    take-strand-requires
     small-requires
     ring-enqueue-requires
     add-i

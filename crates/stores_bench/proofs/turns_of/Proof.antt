@@ -3,6 +3,7 @@ use Prim.Native.Nat.{_≤_, _-_}
 use mathlib.Core.Path.{_≡_}
 use lib.ListN.{length}
 use borrow.Author.Needs.{needs}
+use Rattle.strands.proofs.Lists.{length-mapped}
 use Rattle.stores_bench.proofs.turns_of.Statement.{statement}
 use Rattle.stores_bench.proofs.turns_of.Tie as tie
 
@@ -21,10 +22,10 @@ filled-requires : tie.Need-filled-requires Inv-loop μ-loop
 filled-requires c κs = search needs
 
 loop-holds : tie.Need-loop-holds Inv-loop μ-loop
-loop-holds c = search needs
+loop-holds c = (search needs, search (length-mapped, needs))
 
-ring-take-requires : tie.Need-ring-take-requires Inv-loop μ-loop
-ring-take-requires c κs = search needs
+take-strand-requires : tie.Need-take-strand-requires Inv-loop μ-loop
+take-strand-requires c κs = search needs
 
 small-requires : tie.Need-small-requires Inv-loop μ-loop
 small-requires c κs = search needs
@@ -71,7 +72,7 @@ turns-of-spec =
     blank-strands-requires
     filled-requires
     loop-holds
-    ring-take-requires
+    take-strand-requires
     small-requires
     cast-x
     mul-x

@@ -8,30 +8,31 @@ use Rattle.stores.proofs.table.push_answer.Tie as tie
 find-answer-requires : tie.Need-find-answer-requires
 find-answer-requires c κs = search needs
 
-mul-b : tie.Need-mul-b
-mul-b c = search needs
-
-array-copy-out-b : tie.Need-array-copy-out-b
-array-copy-out-b c = search needs
+element-copy-out-repeated : tie.Need-element-copy-out-repeated
+element-copy-out-repeated c = search needs
 
 repeated-requires : tie.Need-repeated-requires
 repeated-requires c κs = search needs
 
 returns : tie.Need-returns
 returns c =
-    let a = c .before .before .before .before .before .before .before .args in
-    let f = c .before .before .before .find-answer in
-    push-found (a .t1) (a .next .now) (a .tail .now) (a .len .now) (a .top .now) (a .t) (a .x) (f .result) (f .ensures) (search needs) (c .repeated .result) (c .repeated .ensures)
+    let f = c .before .before .before in
+    let a = f .before .before .before .before .args in
+    push-found (a .variant .now) (a .key .now) (a .ambiguous .now) (a .next .now) (a .tail .now) (a .len .now) (a .top .now) (a .t) (a .x)
+    (f .find-answer .result) (f .find-answer .ensures) (search needs) (c .repeated .result) (c .repeated .ensures)
 
 take-place-requires : tie.Need-take-place-requires
 take-place-requires c κs = search needs
 
 returns-2 : tie.Need-returns-2
 returns-2 c =
-    let a = c .before .before .before .before .before .before .before .before .before .before .before .args in
-    let f = c .before .before .before .before .before .before .before .find-answer in
-    let p = c .before .take-place in
-    push-full (a .t1) (a .next .now) (a .tail .now) (a .len .now) (a .top .now) (a .t) (a .x) (f .result) (f .ensures) (search needs) (p .last .0) (p .last .1 .1 .0) (p .last .1 .1 .1 .0) (p .result) (p .ensures) (search needs)
+    let p = c .before in
+    let f = p .before .before .before .before .before .before in
+    let a = f .before .before .before .before .args in
+    push-full (a .variant .now) (a .key .now) (a .ambiguous .now) (a .next .now) (a .tail .now) (a .len .now) (a .top .now) (a .t) (a .x)
+    (f .find-answer .result) (f .find-answer .ensures) (search needs)
+    (p .take-place .last .0) (p .take-place .last .1 .1 .0) (p .take-place .last .1 .1 .1 .0)
+    (p .take-place .result) (p .take-place .ensures) (search needs)
 
 cast-k : tie.Need-cast-k
 cast-k c = search needs
@@ -41,19 +42,22 @@ ring-enqueue-requires c κs = search needs
 
 returns-3 : tie.Need-returns-3
 returns-3 c =
-    let a = c .before .before .before .before .before .before .before .before .before .before .before .before .before .before .before .args in
-    let f = c .before .before .before .before .before .before .before .before .before .before .before .find-answer in
-    let p = c .before .before .before .before .before .take-place in
     let e = c .ring-enqueue in
-    push-new (a .t1) (a .next .now) (a .tail .now) (a .len .now) (a .top .now) (a .t) (a .x) (f .result) (f .ensures) (search needs) (p .last .0) (p .last .1 .1 .0) (p .last .1 .1 .1 .0) (p .result) (p .ensures) (search needs) (p .result) refl (e .last .0) (e .last .1 .0) (e .last .1 .1 .0) (e .ensures .0) (e .ensures .1) (e .ensures .2)
+    let p = c .before .before .before .before .before in
+    let f = p .before .before .before .before .before .before in
+    let a = f .before .before .before .before .args in
+    push-new (a .variant .now) (a .key .now) (a .ambiguous .now) (a .next .now) (a .tail .now) (a .len .now) (a .top .now) (a .t) (a .x)
+    (f .find-answer .result) (f .find-answer .ensures) (search needs)
+    (p .take-place .last .0) (p .take-place .last .1 .1 .0) (p .take-place .last .1 .1 .1 .0)
+    (p .take-place .result) (p .take-place .ensures) (search needs)
+    (p .take-place .result) refl (e .last .0) (e .last .1 .0) (e .last .1 .1 .0) (e .ensures .0) (e .ensures .1) (e .ensures .2)
 
 pub push-answer-spec : {M : Type 1} → statement M
 push-answer-spec =
     tie.close
     (tie.spec
     find-answer-requires
-    mul-b
-    array-copy-out-b
+    element-copy-out-repeated
     repeated-requires
     returns
     take-place-requires

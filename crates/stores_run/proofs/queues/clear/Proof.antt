@@ -9,7 +9,8 @@ ring-move-requires c κs = search needs
 
 returns : tie.Need-returns
 returns c =
-    let a = c .before .before .before .before .before .before .before .before .args in
+    let lent = c .before .before .before .before in
+    let a = lent .before .before .before .before .args in
     let r = c .ring-move in
     clear-of (a .s) (a .t) (r .last .0) (r .last .1 .0) (r .last .1 .1 .0) (r .ensures)
 

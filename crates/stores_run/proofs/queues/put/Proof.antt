@@ -9,9 +9,12 @@ take-place-requires c κs = search needs
 
 returns : tie.Need-returns
 returns c =
-    let a = c .before .before .before .before .before .before .before .before .before .before .args in
-    let p = c .before .take-place in
-    put-none (a .s) (a .t) (a .x) (p .last .0) (p .last .1 .1 .0) (p .last .1 .1 .1 .0) (p .result) (p .ensures) (search needs)
+    let p = c .before in
+    let lent = p .before .before .before .before in
+    let copied = lent .before .before .before in
+    let a = copied .before .before .args in
+    let l = p .take-place .last in
+    put-none (a .s) (a .t) (a .x) (l .0) (l .1 .1 .0) (l .1 .1 .1 .0) (p .take-place .result) (p .take-place .ensures) (search needs)
 
 cast-ring-enqueue : tie.Need-cast-ring-enqueue
 cast-ring-enqueue c = search needs
@@ -19,31 +22,23 @@ cast-ring-enqueue c = search needs
 ring-enqueue-requires : tie.Need-ring-enqueue-requires
 ring-enqueue-requires c κs = search needs
 
-mul-x : tie.Need-mul-x
-mul-x c = search needs
+cast-write : tie.Need-cast-write
+cast-write c = search needs
 
-element-set-from-x : tie.Need-element-set-from-x
-element-set-from-x c = search needs
-
-mul-r : tie.Need-mul-r
-mul-r c = search needs
-
-element-write-r : tie.Need-element-write-r
-element-write-r c = search needs
-
-flag-of-requires : tie.Need-flag-of-requires
-flag-of-requires c κs = search needs
-
-element-write-r-2 : tie.Need-element-write-r-2
-element-write-r-2 c = search needs
+write-requires : tie.Need-write-requires
+write-requires c κs = search needs
 
 returns-2 : tie.Need-returns-2
 returns-2 c =
-    let a = c .before .before .before .before .before .before .before .before .before .before .before .before .before .before .before .args in
-    let p = c .before .before .before .before .before .before .take-place in
     let e = c .before .ring-enqueue in
-    put-some (a .s) (a .t) (a .x) (p .last .0) (p .last .1 .1 .0) (p .last .1 .1 .1 .0) (p .result) (p .ensures) (search needs)
-    (e .last .0) (e .last .1 .0) (e .last .1 .1 .0) (e .ensures .0) (e .ensures .1) (e .ensures .2) (c .flag-of .result) (c .flag-of .ensures)
+    let test = c .before .before .before .before .before in
+    let p = test .before in
+    let lent = p .before .before .before .before in
+    let copied = lent .before .before .before in
+    let a = copied .before .before .args in
+    let l = p .take-place .last in
+    put-some (a .s) (a .t) (a .x) (l .0) (l .1 .1 .0) (l .1 .1 .1 .0) (p .take-place .result) (p .take-place .ensures) (search needs)
+    (c .write .result) (c .write .ensures) (e .last .0) (e .last .1 .0) (e .last .1 .1 .0) (e .ensures .0) (e .ensures .1) (e .ensures .2)
 
 pub put-spec : {M : Type 1} → statement M
 put-spec =
@@ -53,10 +48,6 @@ put-spec =
     returns
     cast-ring-enqueue
     ring-enqueue-requires
-    mul-x
-    element-set-from-x
-    mul-r
-    element-write-r
-    flag-of-requires
-    element-write-r-2
+    cast-write
+    write-requires
     returns-2)
