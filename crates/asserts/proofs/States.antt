@@ -14,10 +14,10 @@ use Rattle.definitions.specs.Stack.{StackEntry, Stack, with-active, active}
 use Rattle.definitions.specs.Logic.{SolveState, RootSearchFail, continue, unwind-stack, unwound, enqueue-at-top, activate}
 use Rattle.definitions.specs.Turn.{fail}
 use Rattle.definitions.specs.Forest.{is-invalid}
-use Rattle.promises.proofs.Asserts.Safe.{Safe, goes, after}
-use Rattle.promises.proofs.Asserts.Sound.{SoundStrand, SoundStack, SoundState}
-use Rattle.promises.proofs.Asserts.Keeping.{grows-above, active-grows, Kept, enqueue-kept, queued-enqueue, searching-kept}
-use Rattle.promises.proofs.Asserts.Unwinding.{Left, Flows, searching-ended, searching-waits, unwinds, ended-kept, left-top}
+use Rattle.asserts.proofs.Safe.{Safe, goes, after}
+use Rattle.asserts.proofs.Sound.{SoundStrand, SoundStack, SoundState}
+use Rattle.asserts.proofs.Keeping.{grows-above, active-grows, Kept, enqueue-kept, queued-enqueue, searching-kept}
+use Rattle.asserts.proofs.Unwinding.{Left, Flows, searching-ended, searching-waits, unwinds, ended-kept, left-top}
 
 -- a state with an entry on top
 abbrev pub state : Forest → StackEntry → Stack → SolveState

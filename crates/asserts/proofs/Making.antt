@@ -20,9 +20,9 @@ use Rattle.laws.proofs.Lists.{last-one, at-place, at-push}
 use Rattle.laws.proofs.Options.{no-such, same-some}
 use Rattle.laws.proofs.All.{All, end, more, all-at, all-map}
 use Rattle.laws.proofs.Totals.{total-append}
-use Rattle.promises.proofs.Asserts.Safe.{Safe, goes, after, known, guard, by-bool, by-option, unwraps}
-use Rattle.promises.proofs.Asserts.Sound.{AsGoal, Named, SoundStrand, SoundTable, SoundForest}
-use Rattle.promises.proofs.Asserts.Keeping.{Steady, grows-push, grows-above, steady-same, table-grows, Kept, kept-same}
+use Rattle.asserts.proofs.Safe.{Safe, goes, after, known, guard, by-bool, by-option, unwraps}
+use Rattle.asserts.proofs.Sound.{AsGoal, Named, SoundStrand, SoundTable, SoundForest}
+use Rattle.asserts.proofs.Keeping.{Steady, grows-push, grows-above, steady-same, table-grows, Kept, kept-same}
 
 -- a table just built
 pub record Fresh (n goal : ℕ) (book : Book) (t : Table) : Type 0 where

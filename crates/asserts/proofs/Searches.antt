@@ -22,12 +22,12 @@ use Rattle.laws.proofs.Lists.{at-place, place-under, no-place}
 use Rattle.laws.proofs.Options.{same-some, case-option}
 use Rattle.laws.proofs.All.{end}
 use Rattle.laws.proofs.Bools.{case-bool}
-use Rattle.promises.proofs.Asserts.Safe.{NotZero, case-stops, case-safe, stop-go}
-use Rattle.promises.proofs.Asserts.Safe.{unwrapped, unwraps}
-use Rattle.promises.proofs.Asserts.Sound.{Reached, SoundForest, Rooted, SoundState}
-use Rattle.promises.proofs.Asserts.Keeping.{grows-same, steady-same, Kept, ticks, table-is}
-use Rattle.promises.proofs.Asserts.Unwinding.{Ended, ended-kept, Left, Flows}
-use Rattle.promises.proofs.Asserts.Turns.{turn-keeps, state-left, state-kept, state-forest}
+use Rattle.asserts.proofs.Safe.{NotZero, case-stops, case-safe, stop-go}
+use Rattle.asserts.proofs.Safe.{unwrapped, unwraps}
+use Rattle.asserts.proofs.Sound.{Reached, SoundForest, Rooted, SoundState}
+use Rattle.asserts.proofs.Keeping.{grows-same, steady-same, Kept, ticks, table-is}
+use Rattle.asserts.proofs.Unwinding.{Ended, ended-kept, Left, Flows}
+use Rattle.asserts.proofs.Turns.{turn-keeps, state-left, state-kept, state-forest}
 
 -- no assert
 abbrev pub Fine : Ending → Type 0

@@ -11,10 +11,10 @@ use Rattle.definitions.specs.Tables.{Forest, with-tables, queued}
 use Rattle.definitions.specs.Turn.{clear-each, clear-strands-after-cycle}
 use Rattle.laws.proofs.All.{All, end, all-first, all-rest, all-map}
 use Rattle.laws.proofs.Totals.{total-set}
-use Rattle.promises.proofs.Asserts.Safe.{Safe, stops, goes, after, weaker, known, by-option}
-use Rattle.promises.proofs.Asserts.Sound.{Awaits, Selects, SoundStrand, SoundForest}
-use Rattle.promises.proofs.Asserts.Keeping.{grows-above, strand-grows, Kept, kept-same, kept-trans, strands-kept, table-is}
-use Rattle.promises.proofs.Asserts.Keeping.{change-is, table-sound}
+use Rattle.asserts.proofs.Safe.{Safe, stops, goes, after, weaker, known, by-option}
+use Rattle.asserts.proofs.Sound.{Awaits, Selects, SoundStrand, SoundForest}
+use Rattle.asserts.proofs.Keeping.{grows-above, strand-grows, Kept, kept-same, kept-trans, strands-kept, table-is}
+use Rattle.asserts.proofs.Keeping.{change-is, table-sound}
 
 pub record Cleared (n : ℕ) (f f' : Forest) : Type 0 where
   pub kept : Kept n f f'

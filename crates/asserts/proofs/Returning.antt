@@ -15,14 +15,14 @@ use Rattle.definitions.specs.Lists.{total, push, swap-remove}
 use Rattle.definitions.specs.Strand.{with-floundered}
 use Rattle.definitions.specs.Logic.{flounder-subgoal, reconsider-from, reconsider-floundered-subgoals}
 use Rattle.definitions.proofs.Lists.{all-push, all-remove, all-swap-remove, length-remove, swapped}
-use Rattle.promises.specs.NeverAsserts.{PassesFind}
+use Rattle.asserts.specs.NeverAsserts.{PassesFind}
 use Rattle.laws.proofs.Lists.{at-place}
 use Rattle.laws.proofs.All.{all-at}
 use Rattle.laws.proofs.Totals.{total-append, total-length, total-take-suc, total-take-past}
 use Rattle.laws.proofs.Options.{case-option}
 use Rattle.laws.proofs.Bools.{case-bool}
-use Rattle.promises.proofs.Asserts.Safe.{Safe, goes, known, unwraps}
-use Rattle.promises.proofs.Asserts.Sound.{SoundClause}
+use Rattle.asserts.proofs.Safe.{Safe, goes, known, unwraps}
+use Rattle.asserts.proofs.Sound.{SoundClause}
 
 -- 1 for a literal that would return at this answer time
 abbrev pub late : (time : ℕ) → FlounderedSubgoal → ℕ

@@ -24,13 +24,13 @@ use Rattle.definitions.specs.Logic.{merge-answer-into-strand}
 use Rattle.definitions.proofs.Lists.{all-remove, length-remove}
 use Rattle.laws.proofs.Lists.{at-place, place-under}
 use Rattle.laws.proofs.All.{all-append}
-use Rattle.promises.proofs.Asserts.Safe.{Safe, goes, after, known, guard, by-bool, passing, unwraps}
-use Rattle.promises.proofs.Asserts.Sound.{Goals, size, SoundAnswer, Awaits, Selects, SoundClause, SoundStrand, SoundStack}
-use Rattle.promises.proofs.Asserts.Sound.{SoundState}
-use Rattle.promises.proofs.Asserts.Keeping.{table-is}
-use Rattle.promises.proofs.Asserts.Returning.{flounders}
-use Rattle.promises.proofs.Asserts.Unwinding.{Left}
-use Rattle.promises.proofs.Asserts.States.{state, with-queued, enqueue-is, takes-back, gives-up}
+use Rattle.asserts.proofs.Safe.{Safe, goes, after, known, guard, by-bool, passing, unwraps}
+use Rattle.asserts.proofs.Sound.{Goals, size, SoundAnswer, Awaits, Selects, SoundClause, SoundStrand, SoundStack}
+use Rattle.asserts.proofs.Sound.{SoundState}
+use Rattle.asserts.proofs.Keeping.{table-is}
+use Rattle.asserts.proofs.Returning.{flounders}
+use Rattle.asserts.proofs.Unwinding.{Left}
+use Rattle.asserts.proofs.States.{state, with-queued, enqueue-is, takes-back, gives-up}
 
 pub delays : {n : ℕ} (goals : List ℕ) (x : ExClause) → Goals n goals → SoundClause n x
     → Safe (λ x'. SoundClause n x' × (size x' ≡ size x)) (delay goals x)

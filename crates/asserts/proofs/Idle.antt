@@ -23,16 +23,16 @@ use Rattle.definitions.specs.Turn.{cycle-minimums, on-no-strands, on-own-cycle,
 use Rattle.laws.proofs.Lists.{at-place}
 use Rattle.laws.proofs.All.{end, all-map}
 use Rattle.laws.proofs.Totals.{total-set}
-use Rattle.promises.proofs.Asserts.Safe.{Safe, goes, after, known, by-bool, unwraps}
-use Rattle.promises.proofs.Asserts.Sound.{Awaits, Selects, Calls, Active, SoundStack}
-use Rattle.promises.proofs.Asserts.Keeping.{grows-above, strand-grows, kept-trans, set-kept, strands-kept, table-is, change-is}
-use Rattle.promises.proofs.Asserts.Keeping.{table-sound}
-use Rattle.promises.proofs.Asserts.Unwinding.{Flows, searching-ended}
-use Rattle.promises.proofs.Asserts.States.{state, with-queued, enqueue-is, stack-kept, takes-back, activates, continues, unwinds-up}
-use Rattle.promises.proofs.Asserts.States.{leaves}
-use Rattle.promises.proofs.Asserts.Merging.{remove-sound}
-use Rattle.promises.proofs.Asserts.Cycles.{with-cycle}
-use Rattle.promises.proofs.Asserts.Clearing.{clears}
+use Rattle.asserts.proofs.Safe.{Safe, goes, after, known, by-bool, unwraps}
+use Rattle.asserts.proofs.Sound.{Awaits, Selects, Calls, Active, SoundStack}
+use Rattle.asserts.proofs.Keeping.{grows-above, strand-grows, kept-trans, set-kept, strands-kept, table-is, change-is}
+use Rattle.asserts.proofs.Keeping.{table-sound}
+use Rattle.asserts.proofs.Unwinding.{Flows, searching-ended}
+use Rattle.asserts.proofs.States.{state, with-queued, enqueue-is, stack-kept, takes-back, activates, continues, unwinds-up}
+use Rattle.asserts.proofs.States.{leaves}
+use Rattle.asserts.proofs.Merging.{remove-sound}
+use Rattle.asserts.proofs.Cycles.{with-cycle}
+use Rattle.asserts.proofs.Clearing.{clears}
 
 -- the caller's literal
 record Literally {n : ℕ} {ts : Tables} {awaited : ℕ} {o : Option Strand} (c : Calls n ts awaited o) : Type 0 where

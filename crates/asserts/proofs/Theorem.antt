@@ -20,15 +20,15 @@ use Rattle.definitions.specs.Calls.{Call, opens, searches, peeks, asks-future, 
 use Rattle.definitions.specs.Model.{Each}
 use Rattle.definitions.proofs.Refusal.{all-pass}
 use Rattle.laws.proofs.Lists.{at-place}
-use Rattle.promises.proofs.Asserts.Safe.{NotZero, case-safe}
-use Rattle.promises.proofs.Asserts.Sound.{Reached, SoundForest}
-use Rattle.promises.proofs.Asserts.Making.{makes}
-use Rattle.promises.proofs.Asserts.Returning.{passes-find}
-use Rattle.promises.proofs.Asserts.Unwinding.{Ended}
-use Rattle.promises.proofs.Asserts.Searches.{Fine, Well, mark-kept, root-answers}
-use Rattle.promises.proofs.Asserts.Peeks.{PeekWell, peeks-well}
-use Rattle.promises.proofs.Asserts.Reading.{made-sound}
-use Rattle.promises.specs.NeverAsserts.{NoAssert, NeverAsserts}
+use Rattle.asserts.proofs.Safe.{NotZero, case-safe}
+use Rattle.asserts.proofs.Sound.{Reached, SoundForest}
+use Rattle.asserts.proofs.Making.{makes}
+use Rattle.asserts.proofs.Returning.{passes-find}
+use Rattle.asserts.proofs.Unwinding.{Ended}
+use Rattle.asserts.proofs.Searches.{Fine, Well, mark-kept, root-answers}
+use Rattle.asserts.proofs.Peeks.{PeekWell, peeks-well}
+use Rattle.asserts.proofs.Reading.{made-sound}
+use Rattle.asserts.specs.NeverAsserts.{NoAssert, NeverAsserts}
 
 -- Replies.
 

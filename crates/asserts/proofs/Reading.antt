@@ -14,11 +14,11 @@ use Rattle.definitions.specs.Tables.{Forest}
 use Rattle.definitions.specs.Forest.{make}
 use Rattle.definitions.proofs.Refusal.{not-accepted, all-pass}
 use Rattle.laws.proofs.Options.{no-such}
-use Rattle.promises.proofs.Reading.{read-good}
+use Rattle.asserts.proofs.Books.{read-good}
 use Rattle.laws.proofs.Bools.{both-true, both-false}
 use Rattle.laws.proofs.All.{All, end, more, all-first, all-rest}
-use Rattle.promises.proofs.Asserts.Few.{Few, FewLiterals, read-few}
-use Rattle.promises.proofs.Asserts.Sound.{Named, SoundBook, SoundForest}
+use Rattle.asserts.proofs.Few.{Few, FewLiterals, read-few}
+use Rattle.asserts.proofs.Sound.{Named, SoundBook, SoundForest}
 
 literals-named : (n : ℕ) (ls : List Literal) → literals-name n ls ≡ true → All (Named n) ls
 literals-named n [] e = end

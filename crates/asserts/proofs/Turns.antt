@@ -18,15 +18,15 @@ use Rattle.definitions.proofs.Lists.{all-rotate, length-rotate-left}
 use Rattle.laws.proofs.All.{All, all-first, all-rest}
 use Rattle.laws.proofs.Options.{case-option}
 use Rattle.laws.proofs.Totals.{total-set}
-use Rattle.promises.proofs.Asserts.Safe.{Safe, goes, after, known, by-option}
-use Rattle.promises.proofs.Asserts.Sound.{SoundStrand, SoundForest, Active, SoundStack, SoundState}
-use Rattle.promises.proofs.Asserts.Keeping.{grows-above, strand-grows, Kept, strands-kept, table-is, change-is, table-sound}
-use Rattle.promises.proofs.Asserts.Choosing.{Choice, selects-safely}
-use Rattle.promises.proofs.Asserts.Unwinding.{Left, Flows}
-use Rattle.promises.proofs.Asserts.States.{state, stack-kept, leaves}
-use Rattle.promises.proofs.Asserts.Cycles.{on-selected}
-use Rattle.promises.proofs.Asserts.Results.{no-remaining}
-use Rattle.promises.proofs.Asserts.Idle.{no-strands-left}
+use Rattle.asserts.proofs.Safe.{Safe, goes, after, known, by-option}
+use Rattle.asserts.proofs.Sound.{SoundStrand, SoundForest, Active, SoundStack, SoundState}
+use Rattle.asserts.proofs.Keeping.{grows-above, strand-grows, Kept, strands-kept, table-is, change-is, table-sound}
+use Rattle.asserts.proofs.Choosing.{Choice, selects-safely}
+use Rattle.asserts.proofs.Unwinding.{Left, Flows}
+use Rattle.asserts.proofs.States.{state, stack-kept, leaves}
+use Rattle.asserts.proofs.Cycles.{on-selected}
+use Rattle.asserts.proofs.Results.{no-remaining}
+use Rattle.asserts.proofs.Idle.{no-strands-left}
 
 -- a strand taken from the queue, and the queue that is left
 abbrev Dequeued : (n : ℕ) (ts : Tables) (t : Table) → Option (Strand × Table) → Type 0

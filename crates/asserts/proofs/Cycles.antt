@@ -24,14 +24,14 @@ use Rattle.definitions.specs.Turn.{on-subgoal-selected}
 use Rattle.laws.proofs.Lists.{at-place, at-take, no-place}
 use Rattle.laws.proofs.Options.{no-such, same-some}
 use Rattle.laws.proofs.All.{All, end, more, all-first, all-rest, all-take, all-at}
-use Rattle.promises.proofs.Asserts.Safe.{Safe, stops, goes, after, known, asserted, by-bool, by-option}
-use Rattle.promises.proofs.Asserts.Safe.{unwraps}
-use Rattle.promises.proofs.Asserts.Sound.{Off, Named, Reached, Awaits, Selects, SoundStrand, Standing, Below, SoundStack, SoundState}
-use Rattle.promises.proofs.Asserts.Keeping.{grows-above, strand-grows, ticks, table-is, table-sound, searching-kept}
-use Rattle.promises.proofs.Asserts.Choosing.{Ready}
-use Rattle.promises.proofs.Asserts.Unwinding.{Flows}
-use Rattle.promises.proofs.Asserts.States.{state, with-queued, enqueue-is, takes-back, activates, continues}
-use Rattle.promises.proofs.Asserts.Merging.{delays, remove-sound, Merges, merges}
+use Rattle.asserts.proofs.Safe.{Safe, stops, goes, after, known, asserted, by-bool, by-option}
+use Rattle.asserts.proofs.Safe.{unwraps}
+use Rattle.asserts.proofs.Sound.{Off, Named, Reached, Awaits, Selects, SoundStrand, Standing, Below, SoundStack, SoundState}
+use Rattle.asserts.proofs.Keeping.{grows-above, strand-grows, ticks, table-is, table-sound, searching-kept}
+use Rattle.asserts.proofs.Choosing.{Ready}
+use Rattle.asserts.proofs.Unwinding.{Flows}
+use Rattle.asserts.proofs.States.{state, with-queued, enqueue-is, takes-back, activates, continues}
+use Rattle.asserts.proofs.Merging.{delays, remove-sound, Merges, merges}
 
 -- The stack's entries.
 

@@ -24,12 +24,12 @@ use Rattle.definitions.specs.Logic.{select-from, select-subgoal}
 use Rattle.definitions.proofs.Lists.{is-nil, not-nil, no-nil}
 use Rattle.laws.proofs.Lists.{at-place}
 use Rattle.laws.proofs.All.{all-at}
-use Rattle.promises.proofs.Asserts.Safe.{Safe, goes, after, weaker, known, asserted, by-bool, by-option}
-use Rattle.promises.proofs.Asserts.Safe.{unwraps}
-use Rattle.promises.proofs.Asserts.Sound.{Awaits, Selects, SoundClause, SoundStrand, SoundForest}
-use Rattle.promises.proofs.Asserts.Keeping.{Kept, kept-same, kept-trans, table-is}
-use Rattle.promises.proofs.Asserts.Making.{makes-for}
-use Rattle.promises.proofs.Asserts.Returning.{late, lates, Floundered, flounders, returns}
+use Rattle.asserts.proofs.Safe.{Safe, goes, after, weaker, known, asserted, by-bool, by-option}
+use Rattle.asserts.proofs.Safe.{unwraps}
+use Rattle.asserts.proofs.Sound.{Awaits, Selects, SoundClause, SoundStrand, SoundForest}
+use Rattle.asserts.proofs.Keeping.{Kept, kept-same, kept-trans, table-is}
+use Rattle.asserts.proofs.Making.{makes-for}
+use Rattle.asserts.proofs.Returning.{late, lates, Floundered, flounders, returns}
 
 -- the strand waits on a table that is not floundered
 pub record Ready (f : Forest) (s : Strand) : Type 0 where

@@ -10,8 +10,8 @@ use Rattle.definitions.specs.Turn.{Searched, root-answer}
 use Rattle.definitions.specs.Forest.{Peeked, is-invalid, is-exceeded, peeked, skip-invalid, peek-rounds}
 use Rattle.laws.proofs.Totals.{total-one}
 use Rattle.laws.proofs.Bools.{case-bool}
-use Rattle.promises.proofs.Asserts.Unwinding.{Ended}
-use Rattle.promises.proofs.Asserts.Searches.{Fine, Well, root-answers}
+use Rattle.asserts.proofs.Unwinding.{Ended}
+use Rattle.asserts.proofs.Searches.{Fine, Well, root-answers}
 
 pub record PeekWell (n root : ℕ) (p : Peeked) : Type 0 where
   pub ended : Ended n root (p .index) (p .forest)

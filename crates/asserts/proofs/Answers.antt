@@ -23,11 +23,11 @@ use Rattle.laws.proofs.Options.{no-such, same-some}
 use Rattle.laws.proofs.All.{All, end, more, all-first, all-rest}
 use Rattle.laws.proofs.Bools.{case-bool}
 use Rattle.laws.proofs.Totals.{total-set}
-use Rattle.promises.proofs.Asserts.Safe.{Safe, goes, after, known, guard, asserted, by-bool, by-option}
-use Rattle.promises.proofs.Asserts.Sound.{Goals, SoundAnswer, SoundClause, SoundTable, SoundStack, Off}
-use Rattle.promises.proofs.Asserts.Keeping.{SameGoal, Above, Grows, calls-grow, Steady, above-same, grows-set, Kept, set-sound}
-use Rattle.promises.proofs.Asserts.Keeping.{set-kept, table-is, change-is, table-sound}
-use Rattle.promises.proofs.Asserts.Unwinding.{Waits, Ended, searching-ended, searching-waits}
+use Rattle.asserts.proofs.Safe.{Safe, goes, after, known, guard, asserted, by-bool, by-option}
+use Rattle.asserts.proofs.Sound.{Goals, SoundAnswer, SoundClause, SoundTable, SoundStack, Off}
+use Rattle.asserts.proofs.Keeping.{SameGoal, Above, Grows, calls-grow, Steady, above-same, grows-set, Kept, set-sound}
+use Rattle.asserts.proofs.Keeping.{set-kept, table-is, change-is, table-sound}
+use Rattle.asserts.proofs.Unwinding.{Waits, Ended, searching-ended, searching-waits}
 
 other-goals : {n : ℕ} (goal : ℕ) {ds : List ℕ} → Goals n ds → Goals n (other-than goal ds)
 other-goals goal end = end

@@ -19,12 +19,12 @@ use Rattle.definitions.specs.Turn.{create-refinement-strand, on-answer, on-no-r
 use Rattle.laws.proofs.Options.{no-such, same-some}
 use Rattle.laws.proofs.All.{All, end, more, all-at}
 use Rattle.laws.proofs.Bools.{case-bool}
-use Rattle.promises.proofs.Asserts.Safe.{Safe, goes, after, known, by-bool, by-option, unwraps}
-use Rattle.promises.proofs.Asserts.Sound.{Named, Goals, SoundAnswer, SoundStrand, Rooted, SoundStack}
-use Rattle.promises.proofs.Asserts.Keeping.{rooted-grows, enqueue-kept, table-is, change-is, table-sound, searching-kept}
-use Rattle.promises.proofs.Asserts.Unwinding.{Flows, unwinding}
-use Rattle.promises.proofs.Asserts.States.{state, with-queued, enqueue-is, takes-back, leaves}
-use Rattle.promises.proofs.Asserts.Answers.{Answered, Pursued, pursues}
+use Rattle.asserts.proofs.Safe.{Safe, goes, after, known, by-bool, by-option, unwraps}
+use Rattle.asserts.proofs.Sound.{Named, Goals, SoundAnswer, SoundStrand, Rooted, SoundStack}
+use Rattle.asserts.proofs.Keeping.{rooted-grows, enqueue-kept, table-is, change-is, table-sound, searching-kept}
+use Rattle.asserts.proofs.Unwinding.{Flows, unwinding}
+use Rattle.asserts.proofs.States.{state, with-queued, enqueue-is, takes-back, leaves}
+use Rattle.asserts.proofs.Answers.{Answered, Pursued, pursues}
 
 as-literals : {n : ℕ} {ds : List ℕ} → Goals n ds → All (Named n) (map (λ g. Positive g 0 false) ds)
 as-literals end = end
