@@ -6,24 +6,20 @@ use lib.ListN.{length}
 use Rattle.definitions.specs.{ExClause}
 use Rattle.definitions.specs.Slg.{next-subgoal-index}
 use Rattle.definitions.specs.Stop.{Stops, go}
-use Rattle.definitions.specs.Strand as held
 use Rattle.book.specs.View.{meant}
-use Rattle.laws.proofs.Options.{same-some}
 use Rattle.promises.proofs.Asserts.Safe.{Safe, goes}
 use Rattle.promises.proofs.Asserts.Sound.{SoundClause}
 use Rattle.promises.proofs.Asserts.Returning.{Floundered, flounders, Returned, returns}
 use Rattle.split.specs.Decide.{or, no-literal, with-literal-floundered}
 use Rattle.split.proofs.Matches.{Goes, going}
 use Rattle.split.proofs.Deeds.{flounders-literal}
-use Rattle.strands.specs.declared.Selected.the-variants.{Nothing, Subgoal}
-use Rattle.strands.specs.declared.Selected.{Selected}
 use Rattle.strands.specs.declared.Strand.{Strand}
 use Rattle.strands.specs.declared.literals.Found.the-variants as found
 use Rattle.strands.specs.declared.literals.Found.{Found}
 use Rattle.strands.specs.Floundering.{flounder, reconsider}
 use Rattle.strands.specs.Literals.{literal-of, subgoal-at}
-use Rattle.strands.specs.View.{Sound, clause, selected, Kept}
-use Rattle.strands.proofs.FlounderViews.{flounder-view, flounder-kept, reconsider-view, reconsider-kept}
+use Rattle.strands.specs.View.{Sound, clause}
+use Rattle.strands.proofs.FlounderViews.{flounder-view, reconsider-view}
 use Rattle.strands.proofs.LiteralCases.{count-is}
 use Rattle.strands.proofs.LiteralViews.{subgoal-at-view}
 use Rattle.control.specs.Decision.{last-literal}
@@ -38,24 +34,6 @@ pub chosen-is : (s : Strand) → Sound s → meant (chosen s) ≡ last-literal s
 chosen-is s o =
     literal-by (subgoal-at s (next-subgoal-index (clause s)))
     ∙ ap (or no-literal) (subgoal-at-view s (o .literals-long) (next-subgoal-index (clause s)))
-
--- What is selected is kept.
-
-same-selected : (j k : Selected) → selected j ≡ selected k → j ≡ k
-same-selected Nothing Nothing e = refl
-same-selected Nothing (Subgoal i t a) e = cc
-same-selected (Subgoal i t a) Nothing e = cc
-same-selected (Subgoal i t a) (Subgoal j u b) e =
-    ap (λ (k : held.SelectedSubgoal). Subgoal (k .subgoal-index) (k .subgoal-table) (k .answer-index)) (same-some e)
-
-kept-selected : (s r : Strand) → Kept s r → r .selected ≡ s .selected
-kept-selected s r k = same-selected (r .selected) (s .selected) (ap (λ (v : held.Strand). v .selected-subgoal) k)
-
-pub flounder-selected : (s : Strand) → flounder s .selected ≡ s .selected
-flounder-selected s = kept-selected s (flounder s) (flounder-kept s)
-
-pub reconsider-selected : (s : Strand) → reconsider s .selected ≡ s .selected
-reconsider-selected s = kept-selected s (reconsider s) (reconsider-kept s)
 
 -- Floundering.
 

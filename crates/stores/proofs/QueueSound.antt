@@ -11,7 +11,7 @@ use borrow.Author.Tests.{ltb-true, ltb-false}
 use Rattle.rings.specs.Lists.{one, times}
 use Rattle.rings.proofs.Counts.{is-or-not, times-append, times-self, times-out}
 use Rattle.strands.specs.declared.Strand.{Strand}
-use Rattle.strands.specs.View.{view, Sound}
+use Rattle.strands.specs.View.{Sound}
 use Rattle.stores.specs.declared.places.Places.{Places}
 use Rattle.stores.specs.declared.queue.Strands.{Strands}
 use Rattle.stores.specs.Numbers.{free, flag-number}
@@ -53,7 +53,7 @@ strands-grown s n held room sound = record {
     go t q false e h k = absurd (omega (arith, ap (times q) (sound .places .empty t (ltb-false t n e) (λ d. omega arith))))
 
 -- WRITE
-module _ (s : Strands) (n : ℕ) (held : List ℕ) (q : ℕ) (ready : Ready s n held q) (x : Strand) where
+module _ (s : Strands) (n : ℕ) (held : List ℕ) (q : ℕ) (ready : Ready s n held q) (time : ℕ) (x : Strand) where
   here : 1 ≤ times q (q ∷ held)
   here = omega (arith, times-self q)
 
@@ -63,46 +63,44 @@ module _ (s : Strands) (n : ℕ) (held : List ℕ) (q : ℕ) (ready : Ready s n 
   number-here : (l : List ℕ) (v : ℕ) → length l ≡ 256 → getD (set l q v) q 0 ≡ v
   number-here l v long = getD-set-same l q v 0 (omega (arith, within))
 
-  use-here : Sound x → InUse (written q x s) q
+  use-here : Sound x → InUse (written q time x s) q
   use-here sound = rw (
     getD-set-same (s .strands) q x unread-strand (omega (arith, within, ready .long .long-strands)),
-    number-here (s .time) (view x .last-pursued-time) (ready .long .long-time),
-    number-here (s .ambiguous) (flag-number (view x .ex-clause .ambiguous)) (ready .long .long-ambiguous),
-    number-here (s .variant) (view x .ex-clause .subst .variant) (ready .long .long-variant),
-    number-here (s .waits) (waits-of (view x)) (ready .long .long-waits),
-    number-here (s .wants) (wants-of (view x)) (ready .long .long-wants),
-  ) (record { sound = sound; is-time = refl; is-ambiguous = refl; is-variant = refl; is-waits = refl; is-wants = refl })
+    number-here (s .ambiguous) (flag-number (x .ambiguous)) (ready .long .long-ambiguous),
+    number-here (s .variant) (x .variant) (ready .long .long-variant),
+    number-here (s .waits) (waits-of x) (ready .long .long-waits),
+    number-here (s .wants) (wants-of x) (ready .long .long-wants),
+  ) (record { sound = sound; is-ambiguous = refl; is-variant = refl; is-waits = refl; is-wants = refl })
 
-  use-there : (u : ℕ) → (u ≡ q → ⊥) → InUse s u → InUse (written q x s) u
+  use-there : (u : ℕ) → (u ≡ q → ⊥) → InUse s u → InUse (written q time x s) u
   use-there u d i = rw (
     getD-set-other (s .strands) q u x unread-strand d,
-    getD-set-other (s .time) q u (view x .last-pursued-time) 0 d,
-    getD-set-other (s .ambiguous) q u (flag-number (view x .ex-clause .ambiguous)) 0 d,
-    getD-set-other (s .variant) q u (view x .ex-clause .subst .variant) 0 d,
-    getD-set-other (s .waits) q u (waits-of (view x)) 0 d,
-    getD-set-other (s .wants) q u (wants-of (view x)) 0 d,
+    getD-set-other (s .ambiguous) q u (flag-number (x .ambiguous)) 0 d,
+    getD-set-other (s .variant) q u (x .variant) 0 d,
+    getD-set-other (s .waits) q u (waits-of x) 0 d,
+    getD-set-other (s .wants) q u (wants-of x) 0 d,
   ) i
 
   waits-away : (t u : ℕ) → 1 ≤ times u (ring (s .places) t) → u ≡ q → ⊥
   waits-away t u k e = omega (arith, k, ap (λ (y : ℕ). times y (ring (s .places) t)) e, ready .places .apart q t here)
 
-  long-written : Long (written q x s)
+  long-written : Long (written q time x s)
   long-written = record {
     long-strands = length-set (s .strands) q x ∙ ready .long .long-strands;
-    long-time = length-set (s .time) q (view x .last-pursued-time) ∙ ready .long .long-time;
-    long-ambiguous = length-set (s .ambiguous) q (flag-number (view x .ex-clause .ambiguous)) ∙ ready .long .long-ambiguous;
-    long-variant = length-set (s .variant) q (view x .ex-clause .subst .variant) ∙ ready .long .long-variant;
-    long-waits = length-set (s .waits) q (waits-of (view x)) ∙ ready .long .long-waits;
-    long-wants = length-set (s .wants) q (wants-of (view x)) ∙ ready .long .long-wants;
+    long-time = length-set (s .time) q time ∙ ready .long .long-time;
+    long-ambiguous = length-set (s .ambiguous) q (flag-number (x .ambiguous)) ∙ ready .long .long-ambiguous;
+    long-variant = length-set (s .variant) q (x .variant) ∙ ready .long .long-variant;
+    long-waits = length-set (s .waits) q (waits-of x) ∙ ready .long .long-waits;
+    long-wants = length-set (s .wants) q (wants-of x) ∙ ready .long .long-wants;
   }
 
   -- a sound strand is written at a place that is ready for it
-  pub written-sound : Sound x → SoundStrands (written q x s) n (q ∷ held)
+  pub written-sound : Sound x → SoundStrands (written q time x s) n (q ∷ held)
   written-sound sound = record {
     places = ready .places;
     long = long-written;
     queued = λ t u h k. use-there u (waits-away t u k) (ready .queued t u h k);
-    in-hand = λ u k. is-or-not q (λ v. 1 ≤ times v (q ∷ held) → InUse (written q x s) v)
+    in-hand = λ u k. is-or-not q (λ v. 1 ≤ times v (q ∷ held) → InUse (written q time x s) v)
         (λ i. use-here sound)
         (λ v d i. use-there v d (ready .in-hand v (times-cases v q held i (1 ≤ times v held) (λ e. absurd (d e)) (λ j. j)))) u k;
   }

@@ -18,7 +18,7 @@ use Rattle.definitions.specs.Turn as turns
 use Rattle.rings.specs.Lists.{first-index, times, turned}
 use Rattle.rings.proofs.Counts.{all-map, map-append, map-cong, absent-all}
 use Rattle.strands.specs.declared.Strand.{Strand}
-use Rattle.strands.specs.View.{view}
+use Rattle.strands.specs.View.{seen}
 use Rattle.rings.specs.Rings.{place-if}
 use Rattle.stores.specs.declared.queue.Strands.{Strands}
 use Rattle.stores.specs.declared.table.Answers.{Answers}
@@ -26,7 +26,7 @@ use Rattle.stores.specs.declared.tables.Tables.{Tables}
 use Rattle.stores.specs.Places.{ring, taken-at, taken-if, free-place, first-of}
 use Rattle.stores.specs.View.{unread-strand, strand-at, mode, held-table, tables}
 use Rattle.stores.specs.Numbers.{flag}
-use Rattle.stores.specs.Sound.{SoundPlaces, InUse, SoundStrands}
+use Rattle.stores.specs.Sound.{SoundPlaces, InUse, Long, SoundStrands}
 use Rattle.stores.specs.Queue.{with-places, strands-of, written, enqueued-strand, given, test-at, taken-strand, strand-place, any-strand, cleared, freed-strands}
 use Rattle.stores.proofs.NumbersCases.{flag-of}
 use Rattle.stores.proofs.ListsSpans.{span-same, span-set, first-if, position-is, first-map, first-cong, rotate-front, map-turned, map-at, all-times}
@@ -45,15 +45,20 @@ module _ (ts : Tables) (a : Answers) (s s′ : Strands) where
       span-set (held-table ts s a) (held-table ts s′ a) (ts .count) t h (λ u k d. ap (with-strands (held-table ts s a u)) (other u k d))
 
 -- WRITE at a place that waits nowhere
-pub written-here : (s : Strands) (q : ℕ) (x : Strand) → q < 256 → length (s .strands) ≡ 256 → strand-at (written q x s) q ≡ view x
-written-here s q x h long = ap view (getD-set-same (s .strands) q x unread-strand (omega arith))
+pub written-here : (s : Strands) (q time : ℕ) (x : Strand) → q < 256 → Long s → strand-at (written q time x s) q ≡ seen time x
+written-here s q time x h long =
+    ap₂ (λ (a : ℕ) (y : Strand). seen a y) (getD-set-same (s .time) q time 0 (omega (arith, long .long-time)))
+    (getD-set-same (s .strands) q x unread-strand (omega (arith, long .long-strands)))
 
-pub written-away : (s : Strands) (q : ℕ) (x : Strand) (u : ℕ) → (u ≡ q → ⊥) → strand-at (written q x s) u ≡ strand-at s u
-written-away s q x u d = ap view (getD-set-other (s .strands) q u x unread-strand d)
+pub written-away : (s : Strands) (q time : ℕ) (x : Strand) (u : ℕ) → (u ≡ q → ⊥) → strand-at (written q time x s) u ≡ strand-at s u
+written-away s q time x u d =
+    ap₂ (λ (a : ℕ) (y : Strand). seen a y) (getD-set-other (s .time) q u time 0 d) (getD-set-other (s .strands) q u x unread-strand d)
 
-pub written-queue : (s : Strands) (q : ℕ) (x : Strand) (t : ℕ) → times q (ring (s .places) t) ≡ 0 → strands-of (written q x s) t ≡ strands-of s t
-written-queue s q x t away =
-    map-cong (strand-at (written q x s)) (strand-at s) (ring (s .places) t) (all-map (λ u d. written-away s q x u d) (ring (s .places) t) (absent-all q (ring (s .places) t) away))
+pub written-queue : (s : Strands) (q time : ℕ) (x : Strand) (t : ℕ) → times q (ring (s .places) t) ≡ 0
+    → strands-of (written q time x s) t ≡ strands-of s t
+written-queue s q time x t away =
+    map-cong (strand-at (written q time x s)) (strand-at s) (ring (s .places) t)
+    (all-map (λ u d. written-away s q time x u d) (ring (s .places) t) (absent-all q (ring (s .places) t) away))
 
 -- ENQUEUE
 module _ (s : Strands) (n : ℕ) (held : List ℕ) (t q : ℕ) (h : t < n) (sound : SoundPlaces (s .places) n (q ∷ held)) where
@@ -101,7 +106,7 @@ is-mode k = go (flag k)
 
 pub test-is : (s : Strands) (clock k q : ℕ) → InUse s q → test-at clock (flag k) s q ≡ turns.eligible clock (mode k) (strand-at s q)
 test-is s clock k q u =
-    ap₂ (λ (x y : ℕ). ltb x clock && not (flag k && not (eqb y 0))) (u .is-time) (u .is-ambiguous)
+    ap (λ (y : ℕ). ltb (getD (s .time) q 0) clock && not (flag k && not (eqb y 0))) (u .is-ambiguous)
     ∙ ap₂ (λ (b c : Bool). ltb (strand-at s q .last-pursued-time) clock && not (b && c)) (sym (is-mode k)) (flag-of (getD (s .strands) q unread-strand .ambiguous))
 
 module _ (ts : Tables) (a : Answers) (s : Strands) (held : List ℕ) (t clock : ℕ) (h : t < ts .count) (sound : SoundStrands s (ts .count) held) where

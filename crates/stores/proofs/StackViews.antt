@@ -182,13 +182,13 @@ module _ (k : Stack) (s : Strands) (sound : SoundStack k) (h : 1 ≤ k .depth) w
   }
 
 -- a strand written at a place that no entry has
-pub entered-away : (k : Stack) (s : Strands) (q : ℕ) (x : Strand) → ((i : ℕ) → i < k .depth → getD (k .active) i 0 ≡ q → ⊥) → entered k (written q x s) ≡ entered k s
-entered-away k s q x away = entries-same k k s (written q x s) (k .depth) (λ i h. ap (with-active (entry-at k s i)) (active-away (eqb (getD (k .active) i 0) 256) i h))
+pub entered-away : (k : Stack) (s : Strands) (q time : ℕ) (x : Strand) → ((i : ℕ) → i < k .depth → getD (k .active) i 0 ≡ q → ⊥) → entered k (written q time x s) ≡ entered k s
+entered-away k s q time x away = entries-same k k s (written q time x s) (k .depth) (λ i h. ap (with-active (entry-at k s i)) (active-away (eqb (getD (k .active) i 0) 256) i h))
   where
     active-away : (b : Bool) (i : ℕ) → i < k .depth
-        → _≡_ {A = Option said-strand.Strand} (elim b [ true ↦ none | false ↦ some (strand-at (written q x s) (getD (k .active) i 0)) ]) (elim b [ true ↦ none | false ↦ some (strand-at s (getD (k .active) i 0)) ])
+        → _≡_ {A = Option said-strand.Strand} (elim b [ true ↦ none | false ↦ some (strand-at (written q time x s) (getD (k .active) i 0)) ]) (elim b [ true ↦ none | false ↦ some (strand-at s (getD (k .active) i 0)) ])
     active-away true i h = refl
-    active-away false i h = ap some (written-away s q x (getD (k .active) i 0) (away i h))
+    active-away false i h = ap some (written-away s q time x (getD (k .active) i 0) (away i h))
 
 -- BLANK
 pub blank-stack-sound : SoundStack blank-stack

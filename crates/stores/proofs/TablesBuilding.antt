@@ -13,7 +13,7 @@ use Rattle.definitions.specs.Table.{Table, new, with-strands}
 use Rattle.definitions.specs.Tables.{insert-table}
 use Rattle.rings.specs.Lists.{All}
 use Rattle.strands.specs.declared.Strand.{Strand}
-use Rattle.strands.specs.View.{view, Sound}
+use Rattle.strands.specs.View.{seen, Sound}
 use Rattle.stores.specs.declared.queue.Strands.{Strands}
 use Rattle.stores.specs.declared.table.Answers.{Answers}
 use Rattle.stores.specs.declared.tables.Tables.{Tables}
@@ -68,7 +68,7 @@ module _ (ts : Tables) (s : Strands) (a : Answers) (held : List ℕ) (g : ℕ) (
     all : StoredAll s (suc n) held n xs
     all = stored-all s (suc n) held n xs (omega arith) (strands-grown s n held room ss) good (omega (arith, waiting-more))
 
-    pub built : Built ts (inserted g co false ts) s (stored-each (ts .count) xs s) a held (with-strands (new g co) (map view xs))
+    pub built : Built ts (inserted g co false ts) s (stored-each (ts .count) xs s) a held (with-strands (new g co) (map (seen 0) xs))
     built = record {
       count = inserted-count ts s a g co false sound room;
       tables-sound = inserted-sound ts s a g co false sound room;
@@ -77,7 +77,7 @@ module _ (ts : Tables) (s : Strands) (a : Answers) (held : List ℕ) (g : ℕ) (
       means =
           stored-all-view s (suc n) held n xs ts′ a (inserted-count ts s a g co false sound room) (omega arith) all
           ∙ ap₂ (λ (l : List Table) (t : Table). set l n t) (inserted-view ts s a g co false sound room no-answers no-strands)
-          (ap₂ (λ (t : Table) (l : List said-strand.Strand). with-strands t (l ++ map view xs)) (inserted-new ts s a g co false sound room no-answers no-strands) (ap (map (strand-at s)) no-strands))
-          ∙ ap (λ (k : ℕ). set (push (tables ts s a) (new g co)) k (with-strands (new g co) (map view xs))) (sym (span-length (held-table ts s a) 0 n))
-          ∙ set-append-seam (tables ts s a) (new g co) [] (with-strands (new g co) (map view xs));
+          (ap₂ (λ (t : Table) (l : List said-strand.Strand). with-strands t (l ++ map (seen 0) xs)) (inserted-new ts s a g co false sound room no-answers no-strands) (ap (map (strand-at s)) no-strands))
+          ∙ ap (λ (k : ℕ). set (push (tables ts s a) (new g co)) k (with-strands (new g co) (map (seen 0) xs))) (sym (span-length (held-table ts s a) 0 n))
+          ∙ set-append-seam (tables ts s a) (new g co) [] (with-strands (new g co) (map (seen 0) xs));
     }

@@ -12,7 +12,7 @@ use Rattle.book.specs.declared.Literal.{Literal}
 use Rattle.strands.specs.declared.Floundered.{Floundered}
 use Rattle.strands.specs.declared.Selected.the-variants.{Nothing}
 use Rattle.strands.specs.declared.Strand.{Strand}
-use Rattle.strands.specs.View.{view, is-negative}
+use Rattle.strands.specs.View.{clause, selected, is-negative}
 use Rattle.stores.specs.declared.places.Places.{Places}
 use Rattle.stores.specs.declared.queue.Strands.{Strands}
 use Rattle.stores.specs.declared.queue.Spot.{Spot}
@@ -37,16 +37,16 @@ abbrev pub waits-for : List books.Literal → Option held.SelectedSubgoal → �
 waits-for l none = 255
 waits-for l (some w) = waits-on (ltb (w .subgoal-table) 64) (is-not (getElem? l (w .subgoal-index))) (w .subgoal-table)
 
-abbrev pub waits-of : held.Strand → ℕ
-waits-of s = waits-for (s .ex-clause .subgoals) (s .selected-subgoal)
+abbrev pub waits-of : Strand → ℕ
+waits-of x = waits-for (clause x .subgoals) (selected (x .selected))
 
 -- the answer index that it has selected; 0 where nothing is selected
 abbrev pub wants-for : Option held.SelectedSubgoal → ℕ
 wants-for none = 0
 wants-for (some w) = w .answer-index
 
-abbrev pub wants-of : held.Strand → ℕ
-wants-of s = wants-for (s .selected-subgoal)
+abbrev pub wants-of : Strand → ℕ
+wants-of x = wants-for (selected (x .selected))
 
 -- THE MODELS on the record
 abbrev pub with-places : Strands → Places → Strands
@@ -64,15 +64,15 @@ with-places s p = record {
 abbrev pub strands-of : Strands → (t : ℕ) → List held.Strand
 strands-of s t = map (strand-at s) (ring (s .places) t)
 
--- a strand is written at a place, with its numbers beside it
-abbrev pub written : (q : ℕ) → Strand → Strands → Strands
-written q x s = record {
+-- a strand pursued at this time is written at a place, with its numbers beside it
+abbrev pub written : (q time : ℕ) → Strand → Strands → Strands
+written q time x s = record {
   strands = set (s .strands) q x;
-  time = set (s .time) q (view x .last-pursued-time);
-  ambiguous = set (s .ambiguous) q (flag-number (view x .ex-clause .ambiguous));
-  variant = set (s .variant) q (view x .ex-clause .subst .variant);
-  waits = set (s .waits) q (waits-of (view x));
-  wants = set (s .wants) q (wants-of (view x));
+  time = set (s .time) q time;
+  ambiguous = set (s .ambiguous) q (flag-number (x .ambiguous));
+  variant = set (s .variant) q (x .variant);
+  waits = set (s .waits) q (waits-of x);
+  wants = set (s .wants) q (wants-of x);
   places = s .places;
 }
 
@@ -129,14 +129,15 @@ cleared t s = with-places s (moved-to t free (s .places))
 abbrev pub freed-strands : Strands → Strands
 freed-strands s = with-places s (freed (s .places))
 
--- A NEW STRAND in table t's queue: a place is taken, written and enqueued
-abbrev pub stored : (t : ℕ) → Strand → Strands → Strands
-stored t x s = enqueued-strand t (free-place (s .places)) (written (free-place (s .places)) x (freed-strands s))
+-- A NEW STRAND in table t's queue: a place is taken, written and enqueued. The copy for the next answer keeps the strand's time, a
+-- refinement strand has 0.
+abbrev pub stored : (t time : ℕ) → Strand → Strands → Strands
+stored t time x s = enqueued-strand t (free-place (s .places)) (written (free-place (s .places)) time x (freed-strands s))
 
 -- new strands one after the other: the initial strands of a table
 abbrev pub stored-each : (t : ℕ) → List Strand → Strands → Strands
 stored-each t [] s = s
-stored-each t (x ∷ xs) s = stored-each t xs (stored t x s)
+stored-each t (x ∷ xs) s = stored-each t xs (stored t 0 x s)
 
 -- BLANK: all zero, with nothing selected
 abbrev pub blank-literal : Literal
@@ -147,7 +148,6 @@ blank-floundered = record { literal = blank-literal; time = 0 }
 
 abbrev pub blank-strand : Strand
 blank-strand = record {
-  «last_pursued_time» = 0;
   variant = 0;
   outsized = false;
   ambiguous = false;

@@ -7,7 +7,7 @@ use Rattle.rings.specs.Lists.{times, All}
 use Rattle.rings.specs.Rings.{RingSound}
 use Rattle.strands.specs.declared.Strand.{Strand}
 use Rattle.strands.specs.declared.Answer.{Answer}
-use Rattle.strands.specs.View.{view, answer, Sound, SoundAnswer}
+use Rattle.strands.specs.View.{answer, Sound, SoundAnswer}
 use Rattle.stores.specs.declared.places.Places.{Places}
 use Rattle.stores.specs.declared.queue.Strands.{Strands}
 use Rattle.stores.specs.declared.table.Answers.{Answers}
@@ -35,18 +35,17 @@ pub record SoundPlaces (p : Places) (n : ℕ) (held : List ℕ) : Type 0 where
   pub used : (q : ℕ) → 1 ≤ times q held → q < p .top
   pub all : waiting p n + length (ring p free) + length held ≡ p .top
 
--- a strand that is in use: it is sound, and the numbers beside it are its own
-pub record OwnNumbers (x : Strand) (time ambiguous variant waits wants : ℕ) : Type 0 where
+-- a strand that is in use: it is sound, and the numbers beside it that say of it what it says itself are its own
+pub record OwnNumbers (x : Strand) (ambiguous variant waits wants : ℕ) : Type 0 where
   pub sound : Sound x
-  pub is-time : time ≡ view x .last-pursued-time
-  pub is-ambiguous : ambiguous ≡ flag-number (view x .ex-clause .ambiguous)
-  pub is-variant : variant ≡ view x .ex-clause .subst .variant
-  pub is-waits : waits ≡ waits-of (view x)
-  pub is-wants : wants ≡ wants-of (view x)
+  pub is-ambiguous : ambiguous ≡ flag-number (x .ambiguous)
+  pub is-variant : variant ≡ x .variant
+  pub is-waits : waits ≡ waits-of x
+  pub is-wants : wants ≡ wants-of x
 
 abbrev pub InUse : Strands → (q : ℕ) → Type 0
-InUse s q = OwnNumbers (getD (s .strands) q unread-strand) (getD (s .time) q 0) (getD (s .ambiguous) q 0) (getD (s .variant) q 0)
-    (getD (s .waits) q 0) (getD (s .wants) q 0)
+InUse s q = OwnNumbers (getD (s .strands) q unread-strand) (getD (s .ambiguous) q 0) (getD (s .variant) q 0) (getD (s .waits) q 0)
+    (getD (s .wants) q 0)
 
 -- the arrays of the strand store
 pub record LongStrands (strands : List Strand) (time ambiguous variant waits wants : List ℕ) : Type 0 where

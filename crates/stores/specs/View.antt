@@ -14,7 +14,7 @@ use Rattle.book.specs.View.{span}
 use Rattle.strands.specs.declared.Strand.{Strand}
 use Rattle.strands.specs.declared.Answer.{Answer}
 use Rattle.strands.specs.declared.Selected.the-variants.{Nothing}
-use Rattle.strands.specs.View.{view, answer}
+use Rattle.strands.specs.View.{seen, answer}
 use Rattle.stores.specs.declared.queue.Strands.{Strands}
 use Rattle.stores.specs.declared.table.Answers.{Answers}
 use Rattle.stores.specs.declared.tables.Tables.{Tables}
@@ -24,13 +24,14 @@ use Rattle.stores.specs.Places.{ring}
 
 -- what is read past a store's end
 abbrev pub unread-strand : Strand
-unread-strand = record { «last_pursued_time» = 0; variant = 0; outsized = false; ambiguous = false; «answer_time» = 0; «literal_count» = 0; «floundered_count» = 0; «delayed_count» = 0; literals = []; floundered = []; delayed = []; selected = Nothing }
+unread-strand = record { variant = 0; outsized = false; ambiguous = false; «answer_time» = 0; «literal_count» = 0; «floundered_count» = 0; «delayed_count» = 0; literals = []; floundered = []; delayed = []; selected = Nothing }
 
 abbrev pub unread-answer : Answer
 unread-answer = record { variant = 0; ambiguous = false; «delayed_count» = 0; delayed = [] }
 
+-- the strand at a place, with the last pursued time that stands beside it
 abbrev pub strand-at : Strands → ℕ → held.Strand
-strand-at s p = view (getD (s .strands) p unread-strand)
+strand-at s p = seen (getD (s .time) p 0) (getD (s .strands) p unread-strand)
 
 abbrev pub answer-at : Answers → ℕ → said.Answer
 answer-at a p = answer (getD (a .answers) p unread-answer)

@@ -18,7 +18,6 @@ ghost use lib.ListN.{take, getD, set, getElem?};
 ghost use lib.Dec.{ltb};
 ghost use Rattle.book.specs.View.{meant};
 ghost use Rattle.rings.specs.Rings.{ring-of};
-ghost use Rattle.strands.specs.View.{view};
 ghost use Rattle.stores.specs.Numbers.{flag-number};
 ghost use Rattle.stores.specs.Places.{numbered, found-in};
 ghost use Rattle.stores.specs.Queue.{is-not, waits-on, waits-of, wants-of, eligible-at, eligible, spot-from, TookStrand, blank-strands};
@@ -48,7 +47,6 @@ pub fn blank_strands() -> Strands
         time: 0,
     };
     let b = Strand {
-        last_pursued_time: 0,
         variant: 0,
         outsized: false,
         ambiguous: false,
@@ -100,7 +98,7 @@ fn waits_on(table: u8, negative: bool) -> u8
 
 // What a strand waits on: the table that it has selected, 64 added where the selected literal is a "not"; 255 where nothing is selected.
 pub fn waits_of(s: Strand) -> u8
-    ensures { λ r. ⌜ r ≡ waits-of (view s) ⌝ }
+    ensures { λ r. ⌜ r ≡ waits-of s ⌝ }
 {
     let k = s.selected;
     match k {
@@ -119,7 +117,7 @@ pub fn waits_of(s: Strand) -> u8
 
 // The answer index that a strand has selected; 0 where nothing is.
 pub fn wants_of(s: Strand) -> u16
-    ensures { λ r. ⌜ r ≡ wants-of (view s) ⌝ }
+    ensures { λ r. ⌜ r ≡ wants-of s ⌝ }
 {
     let k = s.selected;
     match k {
@@ -132,7 +130,7 @@ pub fn wants_of(s: Strand) -> u16
     }
 }
 
-// The numbers beside the strand x, at its place.
+// The numbers beside the strand x, at its place: it was last pursued at the time `at`.
 pub fn number_strand(
     time: &mut [u64; 256],
     ambiguous: &mut [u8; 256],
@@ -140,16 +138,17 @@ pub fn number_strand(
     waits: &mut [u8; 256],
     wants: &mut [u16; 256],
     q: u8,
+    at: u64,
     x: Strand,
 )
-    ensures { λ _. ⌜ (now (time .exit) ≡ set (now (time .entry)) q (view x .last-pursued-time))
-        × (now (ambiguous .exit) ≡ set (now (ambiguous .entry)) q (flag-number (view x .ex-clause .ambiguous)))
-        × (now (variant .exit) ≡ set (now (variant .entry)) q (view x .ex-clause .subst .variant))
-        × (now (waits .exit) ≡ set (now (waits .entry)) q (waits-of (view x)))
-        × (now (wants .exit) ≡ set (now (wants .entry)) q (wants-of (view x))) ⌝ }
+    ensures { λ _. ⌜ (now (time .exit) ≡ set (now (time .entry)) q at)
+        × (now (ambiguous .exit) ≡ set (now (ambiguous .entry)) q (flag-number (x .ambiguous)))
+        × (now (variant .exit) ≡ set (now (variant .entry)) q (x .variant))
+        × (now (waits .exit) ≡ set (now (waits .entry)) q (waits-of x))
+        × (now (wants .exit) ≡ set (now (wants .entry)) q (wants-of x)) ⌝ }
 {
     let k = q as usize;
-    time[k] = x.last_pursued_time;
+    time[k] = at;
     ambiguous[k] = flag_of(x.ambiguous);
     variant[k] = x.variant;
     waits[k] = waits_of(x);
