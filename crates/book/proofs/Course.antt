@@ -1,17 +1,18 @@
 -- Reading a book: what holds before each command, that each command keeps it, and what it gives where reading stops.
-use Prim.Native.Nat.{ℕ, zero, suc, _+_, _-_, _/_, _%_, _≤_, _<_}
+use Prim.Native.Nat.{ℕ, suc, _+_, _-_, _/_, _%_, _≤_, _<_}
 use native.Mathlib.Omega.{arith}
 use mathlib.Core.Path.{_≡_, refl, sym, ap, subst, _∙_}
 use mathlib.Core.Bool.{Bool, true, false, not}
 use mathlib.Core.Logic.{_⊎_, inl, inr}
 use mathlib.Core.List.{List, [], _∷_, _++_}
-use lib.ListN.{length, getD, drop, replicate, length-replicate}
+use lib.ListN.{length, getD, drop, length-replicate}
 use lib.Seq.{getD-drop}
 use lib.Dec.{ltb, leb, eqb, leb·zero}
 use borrow.Author.Tests.{ltb-false, leb-false, eqb-true, eqb-false, ne-eqb, not-false}
 use Rattle.definitions.specs.Refusal.{_refuses_}
 use Rattle.definitions.specs.Book as said
 use Rattle.definitions.specs.Book.{goal, clause, positive, negative, end, unknown, command, width, byte, u16, bit0, Positive, Negative, add-clause, add-literal, read-from}
+use Rattle.laws.proofs.Lists.{getD-zeros}
 use Rattle.book.specs.declared.Book.{Book}
 use Rattle.book.specs.declared.Reading.{Reading}
 use Rattle.book.specs.declared.decode.Operands.{Operands}
@@ -55,11 +56,6 @@ pub record SoFar (bs : List ℕ) (b : Book) (literals named at : ℕ) : Type 0 w
 
 -- Where reading starts.
 
-zeros-at : (n i : ℕ) → _≡_ {A = ℕ} (getD (replicate n 0) i 0) 0
-zeros-at zero i = refl
-zeros-at (suc n) zero = refl
-zeros-at (suc n) (suc i) = zeros-at n i
-
 pub blank-full : Full blank
 blank-full = record {
   goal-flags = length-replicate {A = ℕ} 64 0;
@@ -75,11 +71,11 @@ blank-full = record {
 
 blank-ranged : Ranged blank
 blank-ranged = record {
-  goal-flags = λ g. omega (arith, zeros-at 64 g);
-  clause-flags = λ c. omega (arith, zeros-at 256 c);
-  variants = λ c. omega (arith, zeros-at 256 c);
-  kinds = λ i. omega (arith, zeros-at 2048 i);
-  wants = λ i. omega (arith, zeros-at 2048 i);
+  goal-flags = λ g. omega (arith, getD-zeros 64 g);
+  clause-flags = λ c. omega (arith, getD-zeros 256 c);
+  variants = λ c. omega (arith, getD-zeros 256 c);
+  kinds = λ i. omega (arith, getD-zeros 2048 i);
+  wants = λ i. omega (arith, getD-zeros 2048 i);
 }
 
 blank-held : Held blank 0 0
@@ -88,9 +84,9 @@ blank-held = record {
   ranged = blank-ranged;
   few-goals = omega arith;
   few-clauses = omega arith;
-  few-literals = λ c. omega (arith, zeros-at 256 c);
+  few-literals = λ c. omega (arith, getD-zeros 256 c);
   tiles = refl;
-  last = λ c e. zeros-at 256 c;
+  last = λ c e. getD-zeros 256 c;
   none = λ e. refl;
   naming = λ n. sym (leb·zero n);
 }

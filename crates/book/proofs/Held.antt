@@ -2,27 +2,13 @@
 use Prim.Native.Nat.{ℕ, zero, suc, _+_, _≤_, _<_}
 use native.Mathlib.Omega.{arith}
 use mathlib.Core.Path.{_≡_, sym, subst, _∙_}
-use mathlib.Core.List.{List, [], _∷_}
-use lib.ListN.{getD, set}
-use lib.Seq.{getD-set-other}
+use mathlib.Core.List.{List, []}
+use lib.ListN.{getD}
 use lib.Dec.{leb}
 use Rattle.definitions.specs.Book.{goals-name, clause-count}
 use Rattle.book.specs.declared.Book.{Book}
 use Rattle.book.specs.View.{clause-viewed, view, Tiles, Full, Ranged}
 use Rattle.book.proofs.Tilings.{tiles-count}
-
--- Arrays.
-
-pub below : (l : List ℕ) (i j a : ℕ) → j < i → getD (set l i a) j 0 ≡ getD l j 0
-below l i j a h = getD-set-other l i j a 0 (λ e. omega arith)
-
--- what holds of every number holds after a store of one of which it holds
-pub stored : (P : ℕ → Type 0) (l : List ℕ) (i a : ℕ) → P a → ((c : ℕ) → P (getD l c 0)) → (c : ℕ) → P (getD (set l i a) c 0)
-stored P [] i a h k c = k c
-stored P (x ∷ l) zero a h k zero = h
-stored P (x ∷ l) zero a h k (suc c) = k (suc c)
-stored P (x ∷ l) (suc i) a h k zero = k zero
-stored P (x ∷ l) (suc i) a h k (suc c) = stored P l i a h (λ d. k (suc d)) c
 
 -- Goals side by side.
 

@@ -20,10 +20,11 @@ use Rattle.definitions.specs.Book.{
   GoalsWithin,
   Within,
 }
+use Rattle.laws.proofs.Bools.{both-true}
+use Rattle.laws.proofs.Spans.{length-span}
+use Rattle.laws.specs.Spans.{span}
 use Rattle.book.specs.declared.Book.{Book}
-use Rattle.book.specs.View.{span, signed, literal-viewed, clause-viewed, goal-viewed, view, Sound}
-use Rattle.book.proofs.Spans.{span-length}
-use Rattle.book.proofs.Names.{and-left, and-right}
+use Rattle.book.specs.View.{signed, literal-viewed, clause-viewed, goal-viewed, view, Sound}
 use Rattle.book.proofs.Looks.{goals-are, clauses-are}
 
 signed-within : (n : ℕ) (t : Bool) (goal want : ℕ) (o : Bool) → want < 65536 → goal-of (signed t goal want o) < n → LiteralWithin n (signed t goal want o)
@@ -36,8 +37,8 @@ module _ (b : Book) (s : Sound b) (n : ℕ) where
   literals-within i (suc k) e =
       let first = ltb (goal-of (literal-viewed b i)) n in
       let rest = literals-name n (span (literal-viewed b) (suc i) k) in (
-        signed-within n (bit1 (getD (b .«literal_kind») i 0)) (getD (b .«literal_goal») i 0) (getD (b .«literal_want») i 0) (bit0 (getD (b .«literal_kind») i 0)) (s .ranged .wants i) (ltb-true (goal-of (literal-viewed b i)) n (and-left first rest e)),
-        literals-within (suc i) k (and-right first rest e),
+        signed-within n (bit1 (getD (b .«literal_kind») i 0)) (getD (b .«literal_goal») i 0) (getD (b .«literal_want») i 0) (bit0 (getD (b .«literal_kind») i 0)) (s .ranged .wants i) (ltb-true (goal-of (literal-viewed b i)) n (both-true first rest e .0)),
+        literals-within (suc i) k (both-true first rest e .1),
       )
 
   clauses-within : (c k : ℕ) → clauses-name n (span (clause-viewed b) c k) ≡ true → ClausesWithin n (span (clause-viewed b) c k)
@@ -47,10 +48,10 @@ module _ (b : Book) (s : Sound b) (n : ℕ) where
       let rest = clauses-name n (span (clause-viewed b) (suc c) k) in (
         record {
           variant-fits = s .ranged .variants c;
-          few-literals = subst (λ (m : ℕ). m ≤ 8) (sym (span-length (literal-viewed b) (8 * c) (getD (b .«clause_len») c 0))) (s .few-literals c);
-          literals-fit = literals-within (8 * c) (getD (b .«clause_len») c 0) (and-left first rest e);
+          few-literals = subst (λ (m : ℕ). m ≤ 8) (sym (length-span (literal-viewed b) (8 * c) (getD (b .«clause_len») c 0))) (s .few-literals c);
+          literals-fit = literals-within (8 * c) (getD (b .«clause_len») c 0) (both-true first rest e .0);
         },
-        clauses-within (suc c) k (and-right first rest e),
+        clauses-within (suc c) k (both-true first rest e .1),
       )
 
   goals-within : (g k : ℕ) → goals-name n (span (goal-viewed b) g k) ≡ true → GoalsWithin n (span (goal-viewed b) g k)
@@ -58,8 +59,8 @@ module _ (b : Book) (s : Sound b) (n : ℕ) where
   goals-within g (suc k) e =
       let first = clauses-name n (goal-viewed b g .clauses) in
       let rest = goals-name n (span (goal-viewed b) (suc g) k) in (
-        clauses-within (getD (b .«goal_first») g 0) (getD (b .«goal_len») g 0) (and-left first rest e),
-        goals-within (suc g) k (and-right first rest e),
+        clauses-within (getD (b .«goal_first») g 0) (getD (b .«goal_len») g 0) (both-true first rest e .0),
+        goals-within (suc g) k (both-true first rest e .1),
       )
 
 pub sound-within : (b : Book) → Sound b → Within (view b)

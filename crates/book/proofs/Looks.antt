@@ -9,12 +9,13 @@ use lib.Dec.{ltb}
 use borrow.Author.Tests.{lt-ltb, ltb-true, ltb-false}
 use Rattle.definitions.specs.Book as said
 use Rattle.definitions.specs.Book.{Clause, Goal, goal-of, literals-name, clauses-name, goals-name, bit0, bit1, clause-count}
+use Rattle.laws.proofs.Bools.{both-true}
+use Rattle.laws.proofs.Spans.{length-span, getD-span}
+use Rattle.laws.specs.Spans.{span}
 use Rattle.book.specs.declared.Book.{Book}
 use Rattle.book.specs.declared.Literal.{Literal}
-use Rattle.book.specs.View.{span, kept, meant, literal-viewed, clause-viewed, goal-in, goal-viewed, view, Tiles, Sound}
+use Rattle.book.specs.View.{kept, meant, literal-viewed, clause-viewed, goal-in, goal-viewed, view, Tiles, Sound}
 use Rattle.book.specs.Access.{entry, entry-by, literal-there, literal-read, literal-by}
-use Rattle.book.proofs.Spans.{span-length, span-getD}
-use Rattle.book.proofs.Names.{and-left, and-right}
 use Rattle.book.proofs.MoreLiterals.{goal-of-signed}
 use Rattle.book.proofs.Tilings.{tiles-count, tiles-within}
 
@@ -34,23 +35,23 @@ module _ (n : ℕ) where
   named-literal f s zero j e h = absurd (omega arith)
   named-literal f s (suc k) zero e h =
       let z : s ≡ s + 0 = omega arith in
-      subst (λ (i : ℕ). goal-of (f i) < n) z (ltb-true (goal-of (f s)) n (and-left (ltb (goal-of (f s)) n) (literals-name n (span f (suc s) k)) e))
+      subst (λ (i : ℕ). goal-of (f i) < n) z (ltb-true (goal-of (f s)) n (both-true (ltb (goal-of (f s)) n) (literals-name n (span f (suc s) k)) e .0))
   named-literal f s (suc k) (suc j) e h =
       let z : suc s + j ≡ s + suc j = omega arith in
       subst (λ (i : ℕ). goal-of (f i) < n) z
-      (named-literal f (suc s) k j (and-right (ltb (goal-of (f s)) n) (literals-name n (span f (suc s) k)) e) (omega arith))
+      (named-literal f (suc s) k j (both-true (ltb (goal-of (f s)) n) (literals-name n (span f (suc s) k)) e .1) (omega arith))
 
   named-clause : (f : ℕ → Clause) (s k c : ℕ) → clauses-name n (span f s k) ≡ true → s ≤ c → c < s + k → literals-name n (f c .literals) ≡ true
   named-clause f s zero c e l h = absurd (omega arith)
   named-clause f s (suc k) c e l h =
       by (ltb s c) refl
-      (λ p. named-clause f (suc s) k c (and-right (literals-name n (f s .literals)) (clauses-name n (span f (suc s) k)) e) (omega arith) (omega arith))
+      (λ p. named-clause f (suc s) k c (both-true (literals-name n (f s .literals)) (clauses-name n (span f (suc s) k)) e .1) (omega arith) (omega arith))
     where
       by : (t : Bool) → ltb s c ≡ t → (s < c → literals-name n (f c .literals) ≡ true) → literals-name n (f c .literals) ≡ true
       by true q behind = behind (ltb-true s c q)
       by false q behind =
           let p : s ≡ c = omega (arith, ltb-false s c q) in
-          subst (λ (i : ℕ). literals-name n (f i .literals) ≡ true) p (and-left (literals-name n (f s .literals)) (clauses-name n (span f (suc s) k)) e)
+          subst (λ (i : ℕ). literals-name n (f i .literals) ≡ true) p (both-true (literals-name n (f s .literals)) (clauses-name n (span f (suc s) k)) e .0)
 
   named-tiles : (f : ℕ → Clause) (flags first len : List ℕ) (k g at end c : ℕ) → Tiles first len g k at end
       → goals-name n (span (goal-in f flags first len) g k) ≡ true → at ≤ c → c < end → literals-name n (f c .literals) ≡ true
@@ -58,13 +59,13 @@ module _ (n : ℕ) where
   named-tiles f flags first len (suc k) g at end c t e l h =
       by (ltb c (at + getD len g 0)) refl
       (λ p. named-tiles f flags first len k (suc g) (at + getD len g 0) end c (t .1)
-      (and-right (clauses-name n (span f (getD first g 0) (getD len g 0))) (goals-name n (span (goal-in f flags first len) (suc g) k)) e) p h)
+      (both-true (clauses-name n (span f (getD first g 0) (getD len g 0))) (goals-name n (span (goal-in f flags first len) (suc g) k)) e .1) p h)
     where
       by : (b : Bool) → ltb c (at + getD len g 0) ≡ b → (at + getD len g 0 ≤ c → literals-name n (f c .literals) ≡ true) → literals-name n (f c .literals) ≡ true
       by true q behind =
           let p : getD first g 0 ≡ at = t .0 in
           named-clause f (getD first g 0) (getD len g 0) c
-          (and-left (clauses-name n (span f (getD first g 0) (getD len g 0))) (goals-name n (span (goal-in f flags first len) (suc g) k)) e)
+          (both-true (clauses-name n (span f (getD first g 0) (getD len g 0))) (goals-name n (span (goal-in f flags first len) (suc g) k)) e .0)
           (omega arith) (omega (arith, ltb-true c (at + getD len g 0) q))
       by false q behind = behind (ltb-false c (at + getD len g 0) q)
 
@@ -72,7 +73,7 @@ module _ (n : ℕ) where
 
 module _ (b : Book) (s : Sound b) where
   pub goals-are : length (view b) ≡ b .goals
-  goals-are = span-length (goal-viewed b) 0 (b .goals)
+  goals-are = length-span (goal-viewed b) 0 (b .goals)
 
   pub clauses-are : clause-count (view b) ≡ b .clauses
   clauses-are =
@@ -82,7 +83,7 @@ module _ (b : Book) (s : Sound b) where
     pub goal-is : getD (view b) g d ≡ goal-viewed b g
     goal-is =
         let z : 0 + g ≡ g = omega arith in
-        span-getD (goal-viewed b) 0 (b .goals) g d h ∙ ap (goal-viewed b) z
+        getD-span (goal-viewed b) 0 (b .goals) g d h ∙ ap (goal-viewed b) z
 
     pub coinductive-is : bit0 (entry 64 (b .«goal_flags») g) ≡ getD (view b) g d .coinductive
     coinductive-is =
@@ -98,7 +99,7 @@ module _ (b : Book) (s : Sound b) where
     pub clauses-of-are : entry 64 (b .«goal_len») g ≡ length (getD (view b) g d .clauses)
     clauses-of-are =
         entry-in 64 (b .«goal_len») g (omega (arith, s .few-goals))
-        ∙ sym (ap (λ (x : Goal). length (x .clauses)) goal-is ∙ span-length (clause-viewed b) (getD (b .«goal_first») g 0) (getD (b .«goal_len») g 0))
+        ∙ sym (ap (λ (x : Goal). length (x .clauses)) goal-is ∙ length-span (clause-viewed b) (getD (b .«goal_first») g 0) (getD (b .«goal_len») g 0))
 
     -- a goal's clauses are among the book's
     pub clauses-within : getD (b .«goal_first») g 0 + getD (b .«goal_len») g 0 ≤ b .clauses
@@ -111,7 +112,7 @@ module _ (b : Book) (s : Sound b) where
     pub clause-is : (i : ℕ) (e : Clause) → i < getD (b .«goal_len») g 0 → getD (getD (view b) g d .clauses) i e ≡ clause-viewed b (getD (b .«goal_first») g 0 + i)
     clause-is i e l =
         ap (λ (x : Goal). getD (x .clauses) i e) goal-is
-        ∙ span-getD (clause-viewed b) (getD (b .«goal_first») g 0) (getD (b .«goal_len») g 0) i e l
+        ∙ getD-span (clause-viewed b) (getD (b .«goal_first») g 0) (getD (b .«goal_len») g 0) i e l
 
   module _ (c : ℕ) (h : c < b .clauses) where
     pub variant-is : entry 256 (b .«clause_variant») c ≡ clause-viewed b c .variant
@@ -125,7 +126,7 @@ module _ (b : Book) (s : Sound b) where
 
     pub literals-are : entry 256 (b .«clause_len») c ≡ length (clause-viewed b c .literals)
     literals-are =
-        entry-in 256 (b .«clause_len») c (omega (arith, s .few-clauses)) ∙ sym (span-length (literal-viewed b) (8 * c) (getD (b .«clause_len») c 0))
+        entry-in 256 (b .«clause_len») c (omega (arith, s .few-clauses)) ∙ sym (length-span (literal-viewed b) (8 * c) (getD (b .«clause_len») c 0))
 
     module _ (j : ℕ) (l : j < getD (b .«clause_len») c 0) where
       goal-named : getD (b .«literal_goal») (8 * c + j) 0 < b .goals
@@ -147,7 +148,7 @@ module _ (b : Book) (s : Sound b) where
       literal-is d =
           ap meant here
           ∙ ap (λ (n : ℕ). kept (getD (b .«literal_kind») (8 * c + j) 0) n (getD (b .«literal_want») (8 * c + j) 0)) goal-fits
-          ∙ sym (span-getD (literal-viewed b) (8 * c) (getD (b .«clause_len») c 0) j d l)
+          ∙ sym (getD-span (literal-viewed b) (8 * c) (getD (b .«clause_len») c 0) j d l)
 
       -- a literal names a goal of the book
       pub literal-names : literal-read (b .«literal_kind») (b .«literal_goal») (b .«literal_want») c j .goal < b .goals

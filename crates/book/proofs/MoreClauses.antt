@@ -8,12 +8,15 @@ use lib.ListN.{getD, set, length-set}
 use lib.Seq.{getD-set-same}
 use Rattle.definitions.specs.Book as said
 use Rattle.definitions.specs.Book.{Clause, Goal, goals-name, add-clause, with-clauses, bit0, bit1}
+use Rattle.definitions.proofs.Book.{add-clause-last}
+use Rattle.laws.proofs.Lists.{getD-set-below, every-set}
+use Rattle.laws.proofs.Spans.{span-snoc, span-ext}
+use Rattle.laws.specs.Spans.{span}
 use Rattle.book.specs.declared.Book.{Book}
-use Rattle.book.specs.View.{span, literal-viewed, clause-made, clause-viewed, goal-made, goal-viewed, view, Tiles, Full}
-use Rattle.book.proofs.Spans.{span-snoc, span-ext}
+use Rattle.book.specs.View.{literal-viewed, clause-made, clause-viewed, goal-made, goal-viewed, view, Tiles, Full}
 use Rattle.book.proofs.Names.{names-clause}
-use Rattle.book.proofs.Tilings.{add-clause-last, tiles-within, tiles-last}
-use Rattle.book.proofs.Held.{below, stored, tiles-clause, Held}
+use Rattle.book.proofs.Tilings.{tiles-within, tiles-last}
+use Rattle.book.proofs.Held.{tiles-clause, Held}
 
 abbrev pub with-clause : Book → (g variant flags : ℕ) → Book
 with-clause b g variant flags = record {
@@ -46,11 +49,11 @@ module _ (b : Book) (g variant flags literals named : ℕ) (h : Held b literals 
   clause-before : (c : ℕ) → c < b .clauses → clause-viewed next c ≡ clause-viewed b c
   clause-before c l =
       ap (λ (x : ℕ). clause-made (literal-viewed b) c x (getD (set (b .«clause_flags») (b .clauses) flags) c 0) (getD (set (b .«clause_len») (b .clauses) 0) c 0))
-      (below (b .«clause_variant») (b .clauses) c variant l)
+      (getD-set-below (b .«clause_variant») (b .clauses) c variant 0 l)
       ∙ ap (λ (x : ℕ). clause-made (literal-viewed b) c (getD (b .«clause_variant») c 0) x (getD (set (b .«clause_len») (b .clauses) 0) c 0))
-      (below (b .«clause_flags») (b .clauses) c flags l)
+      (getD-set-below (b .«clause_flags») (b .clauses) c flags 0 l)
       ∙ ap (λ (x : ℕ). clause-made (literal-viewed b) c (getD (b .«clause_variant») c 0) (getD (b .«clause_flags») c 0) x)
-      (below (b .«clause_len») (b .clauses) c 0 l)
+      (getD-set-below (b .«clause_len») (b .clauses) c 0 0 l)
 
   clause-new : clause-viewed next (b .clauses) ≡ bare-clause variant flags
   clause-new =
@@ -85,7 +88,7 @@ module _ (b : Book) (g variant flags literals named : ℕ) (h : Held b literals 
 
   goal-before : (i : ℕ) → i < g → goal-viewed next i ≡ goal-viewed b i
   goal-before i l =
-      ap (λ (x : ℕ). goal-made (clause-viewed next) (getD (b .«goal_flags») i 0) (getD (b .«goal_first») i 0) x) (below (b .«goal_len») g i (getD (b .«goal_len») g 0 + 1) l)
+      ap (λ (x : ℕ). goal-made (clause-viewed next) (getD (b .«goal_flags») i 0) (getD (b .«goal_first») i 0) x) (getD-set-below (b .«goal_len») g i (getD (b .«goal_len») g 0 + 1) 0 l)
       ∙ ap (λ (cs : List Clause). with-clauses (goal-viewed b i) cs) (old (getD (b .«goal_first») i 0) (getD (b .«goal_len») i 0) (bounds i (omega arith)))
 
   goal-grown : goal-viewed next g ≡ with-clauses (goal-viewed b g) (goal-viewed b g .clauses ++ (bare-clause variant flags ∷ []))
@@ -132,7 +135,7 @@ module _ (b : Book) (g variant flags literals named : ℕ) (h : Held b literals 
       let z : g ≡ 0 + g = omega arith in
       subst (λ (n : ℕ). Tiles (b .«goal_first») grown 0 n 0 (b .clauses + 1)) (sym last)
       (tiles-clause (b .«goal_first») (b .«goal_len») (b .«goal_first») grown g 0 0 (b .clauses) tiles
-      (λ i l. below (b .«goal_len») g i (getD (b .«goal_len») g 0 + 1) (omega arith))
+      (λ i l. getD-set-below (b .«goal_len») g i (getD (b .«goal_len») g 0 + 1) 0 (omega arith))
       (subst (λ (i : ℕ). getD grown i 0 ≡ getD (b .«goal_len») i 0 + 1) z grown-here))
 
   pub clause-held : Held next 0 named
@@ -142,14 +145,14 @@ module _ (b : Book) (g variant flags literals named : ℕ) (h : Held b literals 
         let r = h .ranged in
         record {
           goal-flags = r .goal-flags;
-          clause-flags = stored (λ (n : ℕ). n ≤ 3) (b .«clause_flags») (b .clauses) flags known (r .clause-flags);
-          variants = stored (λ (n : ℕ). n < 65536) (b .«clause_variant») (b .clauses) variant fits (r .variants);
+          clause-flags = every-set (λ (n : ℕ). n ≤ 3) (b .«clause_flags») (b .clauses) flags 0 known (r .clause-flags);
+          variants = every-set (λ (n : ℕ). n < 65536) (b .«clause_variant») (b .clauses) variant 0 fits (r .variants);
           kinds = r .kinds;
           wants = r .wants;
         };
     few-goals = h .few-goals;
     few-clauses = omega arith;
-    few-literals = stored (λ (n : ℕ). n ≤ 8) (b .«clause_len») (b .clauses) 0 (omega arith) (h .few-literals);
+    few-literals = every-set (λ (n : ℕ). n ≤ 8) (b .«clause_len») (b .clauses) 0 0 (omega arith) (h .few-literals);
     tiles = clause-tiles;
     last = λ c e.
         let p : b .clauses ≡ c = omega arith in

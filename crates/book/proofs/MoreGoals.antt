@@ -8,11 +8,13 @@ use lib.ListN.{getD, set, length-set}
 use lib.Seq.{getD-set-same}
 use Rattle.definitions.specs.Book as said
 use Rattle.definitions.specs.Book.{Goal, goals-name, bit0, bit1}
+use Rattle.laws.proofs.Lists.{getD-set-below, every-set}
+use Rattle.laws.proofs.Spans.{span-snoc, span-ext}
+use Rattle.laws.specs.Spans.{span}
 use Rattle.book.specs.declared.Book.{Book}
-use Rattle.book.specs.View.{span, clause-viewed, goal-made, goal-viewed, view, Tiles, Full}
-use Rattle.book.proofs.Spans.{span-snoc, span-ext}
+use Rattle.book.specs.View.{clause-viewed, goal-made, goal-viewed, view, Tiles, Full}
 use Rattle.book.proofs.Names.{names-goal}
-use Rattle.book.proofs.Held.{below, stored, tiles-goal, Held}
+use Rattle.book.proofs.Held.{tiles-goal, Held}
 
 abbrev pub with-goal : Book → (flags : ℕ) → Book
 with-goal b flags = record {
@@ -36,11 +38,11 @@ module _ (b : Book) (flags literals named : ℕ) (h : Held b literals named) (ro
   goal-before : (i : ℕ) → i < b .goals → goal-viewed (with-goal b flags) i ≡ goal-viewed b i
   goal-before i l =
       ap (λ (x : ℕ). goal-made (clause-viewed b) x (getD (set (b .«goal_first») (b .goals) (b .clauses)) i 0) (getD (set (b .«goal_len») (b .goals) 0) i 0))
-      (below (b .«goal_flags») (b .goals) i flags l)
+      (getD-set-below (b .«goal_flags») (b .goals) i flags 0 l)
       ∙ ap (λ (x : ℕ). goal-made (clause-viewed b) (getD (b .«goal_flags») i 0) x (getD (set (b .«goal_len») (b .goals) 0) i 0))
-      (below (b .«goal_first») (b .goals) i (b .clauses) l)
+      (getD-set-below (b .«goal_first») (b .goals) i (b .clauses) 0 l)
       ∙ ap (λ (x : ℕ). goal-made (clause-viewed b) (getD (b .«goal_flags») i 0) (getD (b .«goal_first») i 0) x)
-      (below (b .«goal_len») (b .goals) i 0 l)
+      (getD-set-below (b .«goal_len») (b .goals) i 0 0 l)
 
   goal-new : goal-viewed (with-goal b flags) (b .goals) ≡ bare-goal flags
   goal-new =
@@ -80,7 +82,7 @@ module _ (b : Book) (flags literals named : ℕ) (h : Held b literals named) (ro
       let z : b .goals ≡ 0 + b .goals = omega arith in
       subst (λ (n : ℕ). Tiles (set (b .«goal_first») (b .goals) (b .clauses)) (set (b .«goal_len») (b .goals) 0) 0 n 0 (b .clauses)) (sym (add-one (b .goals)))
       (tiles-goal (b .«goal_first») (b .«goal_len») (set (b .«goal_first») (b .goals) (b .clauses)) (set (b .«goal_len») (b .goals) 0) (b .goals) 0 0 (b .clauses) (h .tiles)
-      (λ i l. below (b .«goal_first») (b .goals) i (b .clauses) (omega arith)) (λ i l. below (b .«goal_len») (b .goals) i 0 (omega arith))
+      (λ i l. getD-set-below (b .«goal_first») (b .goals) i (b .clauses) 0 (omega arith)) (λ i l. getD-set-below (b .«goal_len») (b .goals) i 0 0 (omega arith))
       (subst (λ (i : ℕ). getD (set (b .«goal_first») (b .goals) (b .clauses)) i 0 ≡ b .clauses) z (getD-set-same (b .«goal_first») (b .goals) (b .clauses) 0 (omega (arith, s .goal-first))))
       (subst (λ (i : ℕ). getD (set (b .«goal_len») (b .goals) 0) i 0 ≡ 0) z (getD-set-same (b .«goal_len») (b .goals) 0 0 (omega (arith, s .goal-len)))))
 
@@ -90,7 +92,7 @@ module _ (b : Book) (flags literals named : ℕ) (h : Held b literals named) (ro
     ranged =
         let r = h .ranged in
         record {
-          goal-flags = stored (λ (n : ℕ). n ≤ 3) (b .«goal_flags») (b .goals) flags known (r .goal-flags);
+          goal-flags = every-set (λ (n : ℕ). n ≤ 3) (b .«goal_flags») (b .goals) flags 0 known (r .goal-flags);
           clause-flags = r .clause-flags;
           variants = r .variants;
           kinds = r .kinds;

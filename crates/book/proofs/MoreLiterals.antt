@@ -10,13 +10,16 @@ use lib.Seq.{getD-set-same}
 use lib.Dec.{ltb, leb}
 use Rattle.definitions.specs.Book as said
 use Rattle.definitions.specs.Book.{goals-name, clause-count, add-literal, goal-of, with-literals, bit0, bit1}
+use Rattle.laws.proofs.Bools.{and-then}
+use Rattle.laws.proofs.Lists.{getD-set-below, every-set}
+use Rattle.laws.proofs.Spans.{span-snoc, span-ext}
+use Rattle.laws.specs.Spans.{span}
 use Rattle.book.specs.declared.Book.{Book}
-use Rattle.book.specs.View.{span, signed, literal-viewed, clause-made, clause-viewed, view, Tiles, Full}
+use Rattle.book.specs.View.{signed, literal-viewed, clause-made, clause-viewed, view, Tiles, Full}
 use Rattle.book.specs.Faults.{largest}
-use Rattle.book.proofs.Spans.{span-snoc, span-ext}
-use Rattle.book.proofs.Names.{and-then, names-literal, names-more}
+use Rattle.book.proofs.Names.{names-literal, names-more}
 use Rattle.book.proofs.Tilings.{tiles-add}
-use Rattle.book.proofs.Held.{below, stored, Held, held-count}
+use Rattle.book.proofs.Held.{Held, held-count}
 
 abbrev pub with-literal : Book → (c j kind goal want : ℕ) → Book
 with-literal b c j kind goal want = record {
@@ -57,9 +60,9 @@ module _ (b : Book) (c j kind goal want named : ℕ) (h : Held b j named) (last 
   literal-before : (i : ℕ) → i < 8 * c + j → literal-viewed next i ≡ literal-viewed b i
   literal-before i l =
       let p = 8 * c + j in
-      ap (λ (k : ℕ). literal-of k (getD (set (b .«literal_goal») p goal) i 0) (getD (set (b .«literal_want») p want) i 0)) (below (b .«literal_kind») p i kind l)
-      ∙ ap (λ (k : ℕ). literal-of (getD (b .«literal_kind») i 0) k (getD (set (b .«literal_want») p want) i 0)) (below (b .«literal_goal») p i goal l)
-      ∙ ap (λ (k : ℕ). literal-of (getD (b .«literal_kind») i 0) (getD (b .«literal_goal») i 0) k) (below (b .«literal_want») p i want l)
+      ap (λ (k : ℕ). literal-of k (getD (set (b .«literal_goal») p goal) i 0) (getD (set (b .«literal_want») p want) i 0)) (getD-set-below (b .«literal_kind») p i kind 0 l)
+      ∙ ap (λ (k : ℕ). literal-of (getD (b .«literal_kind») i 0) k (getD (set (b .«literal_want») p want) i 0)) (getD-set-below (b .«literal_goal») p i goal 0 l)
+      ∙ ap (λ (k : ℕ). literal-of (getD (b .«literal_kind») i 0) (getD (b .«literal_goal») i 0) k) (getD-set-below (b .«literal_want») p i want 0 l)
 
   literal-new : literal-viewed next (8 * c + j) ≡ added
   literal-new =
@@ -77,7 +80,7 @@ module _ (b : Book) (c j kind goal want named : ℕ) (h : Held b j named) (last 
 
   clause-before : (i : ℕ) → i < c → clause-viewed b i ≡ clause-viewed next i
   clause-before i l =
-      sym (ap (λ (x : ℕ). clause-made (literal-viewed next) i (getD (b .«clause_variant») i 0) (getD (b .«clause_flags») i 0) x) (below (b .«clause_len») c i (j + 1) l)
+      sym (ap (λ (x : ℕ). clause-made (literal-viewed next) i (getD (b .«clause_variant») i 0) (getD (b .«clause_flags») i 0) x) (getD-set-below (b .«clause_len») c i (j + 1) 0 l)
       ∙ ap (λ (ls : List said.Literal). with-literals (clause-viewed b i) ls) (old (8 * i) (getD (b .«clause_len») i 0) (omega (arith, h .few-literals i))))
 
   clause-more : with-literals (clause-viewed b c) (clause-viewed b c .literals ++ (added ∷ [])) ≡ clause-viewed next c
@@ -127,12 +130,12 @@ module _ (b : Book) (c j kind goal want named : ℕ) (h : Held b j named) (last 
           goal-flags = r .goal-flags;
           clause-flags = r .clause-flags;
           variants = r .variants;
-          kinds = stored (λ (n : ℕ). n ≤ 3) (b .«literal_kind») (8 * c + j) kind known (r .kinds);
-          wants = stored (λ (n : ℕ). n < 65536) (b .«literal_want») (8 * c + j) want fits (r .wants);
+          kinds = every-set (λ (n : ℕ). n ≤ 3) (b .«literal_kind») (8 * c + j) kind 0 known (r .kinds);
+          wants = every-set (λ (n : ℕ). n < 65536) (b .«literal_want») (8 * c + j) want 0 fits (r .wants);
         };
     few-goals = h .few-goals;
     few-clauses = h .few-clauses;
-    few-literals = stored (λ (n : ℕ). n ≤ 8) (b .«clause_len») c (j + 1) (omega arith) (h .few-literals);
+    few-literals = every-set (λ (n : ℕ). n ≤ 8) (b .«clause_len») c (j + 1) 0 (omega arith) (h .few-literals);
     tiles = h .tiles;
     last = λ d e.
         let p : c ≡ d = omega arith in

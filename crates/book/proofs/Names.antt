@@ -8,50 +8,24 @@ use lib.ListN.{length}
 use lib.Dec.{ltb, leb, eqb}
 use borrow.Author.Tests.{le-leb, lt-leb, ltb-true, ltb-false, leb-true, leb-false, eqb-true}
 use Rattle.definitions.specs.Book.{Literal, Clause, Goal, Book, clause-count, add-clause, add-to-last, add-literal, with-clauses, goal-of, literals-name, clauses-name, goals-name}
+use Rattle.laws.proofs.Bools.{and-then, and-then-true, and-then-assoc, and-then-swap, not-zero}
 use Rattle.book.specs.Faults.{largest, larger-by}
 
--- both tests are passed, the first asked first
-abbrev pub and-then : Bool → Bool → Bool
-and-then a b = elim a [ true ↦ b | false ↦ false ]
-
-and-true : (a : Bool) → and-then a true ≡ a
-and-true true = refl
-and-true false = refl
-
-and-swap : (a b c : Bool) → and-then (and-then a b) c ≡ and-then (and-then a c) b
-and-swap true true true = refl
-and-swap true true false = refl
-and-swap true false true = refl
-and-swap true false false = refl
-and-swap false b c = refl
-
-and-assoc : (a b c : Bool) → and-then (and-then a b) c ≡ and-then a (and-then b c)
-and-assoc true b c = refl
-and-assoc false b c = refl
-
-pub and-left : (a b : Bool) → and-then a b ≡ true → a ≡ true
-and-left true b e = refl
-and-left false b e = e
-
-pub and-right : (a b : Bool) → and-then a b ≡ true → b ≡ true
-and-right true b e = e
-and-right false b e = cc
-
 literals-append : (n : ℕ) (ls : List Literal) (l : Literal) → literals-name n (ls ++ (l ∷ [])) ≡ and-then (literals-name n ls) (ltb (goal-of l) n)
-literals-append n [] l = and-true (ltb (goal-of l) n)
+literals-append n [] l = and-then-true (ltb (goal-of l) n)
 literals-append n (x ∷ ls) l =
     ap (and-then (ltb (goal-of x) n)) (literals-append n ls l)
-    ∙ sym (and-assoc (ltb (goal-of x) n) (literals-name n ls) (ltb (goal-of l) n))
+    ∙ sym (and-then-assoc (ltb (goal-of x) n) (literals-name n ls) (ltb (goal-of l) n))
 
 -- one more literal in the last clause
 last-names : (n : ℕ) (l : Literal) (c : Clause) (cs : List Clause)
     → clauses-name n (add-to-last l (c ∷ cs)) ≡ and-then (clauses-name n (c ∷ cs)) (ltb (goal-of l) n)
 last-names n l c [] =
-    and-true (literals-name n (c .literals ++ (l ∷ []))) ∙ literals-append n (c .literals) l
-    ∙ ap (λ (b : Bool). and-then b (ltb (goal-of l) n)) (sym (and-true (literals-name n (c .literals))))
+    and-then-true (literals-name n (c .literals ++ (l ∷ []))) ∙ literals-append n (c .literals) l
+    ∙ ap (λ (b : Bool). and-then b (ltb (goal-of l) n)) (sym (and-then-true (literals-name n (c .literals))))
 last-names n l c (d ∷ cs) =
     ap (and-then (literals-name n (c .literals))) (last-names n l d cs)
-    ∙ sym (and-assoc (literals-name n (c .literals)) (clauses-name n (d ∷ cs)) (ltb (goal-of l) n))
+    ∙ sym (and-then-assoc (literals-name n (c .literals)) (clauses-name n (d ∷ cs)) (ltb (goal-of l) n))
 
 some-last : (n : ℕ) (l : Literal) (cs : List Clause) → 0 < length cs
     → clauses-name n (add-to-last l cs) ≡ and-then (clauses-name n cs) (ltb (goal-of l) n)
@@ -66,17 +40,10 @@ add-by : (n : ℕ) (l : Literal) (g : Goal) (gs : Book) (t : Bool) → eqb (clau
 add-by n l g gs true e h ih =
     let z : clause-count gs ≡ 0 = eqb-true (clause-count gs) 0 e in
     ap (λ (b : Bool). and-then b (goals-name n gs)) (some-last n l (g .clauses) (omega arith))
-    ∙ and-swap (clauses-name n (g .clauses)) (ltb (goal-of l) n) (goals-name n gs)
+    ∙ and-then-swap (clauses-name n (g .clauses)) (ltb (goal-of l) n) (goals-name n gs)
 add-by n l g gs false e h ih =
-    ap (and-then (clauses-name n (g .clauses))) (ih (some (clause-count gs) e))
-    ∙ sym (and-assoc (clauses-name n (g .clauses)) (goals-name n gs) (ltb (goal-of l) n))
-  where
-    some : (m : ℕ) → eqb m 0 ≡ false → 0 < m
-    some zero x = absurd (no x)
-      where
-        no : true ≡ false → ⊥
-        no y = let z : _≡_ {A = ℕ} 0 1 = cc in omega arith
-    some (suc m) x = omega arith
+    ap (and-then (clauses-name n (g .clauses))) (ih (not-zero (clause-count gs) e))
+    ∙ sym (and-then-assoc (clauses-name n (g .clauses)) (goals-name n gs) (ltb (goal-of l) n))
 
 pub names-literal : (n : ℕ) (l : Literal) (book : Book) → 0 < clause-count book
     → goals-name n (add-literal l book) ≡ and-then (goals-name n book) (ltb (goal-of l) n)

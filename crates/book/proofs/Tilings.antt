@@ -6,40 +6,11 @@ use mathlib.Core.Bool.{Bool, true, false}
 use mathlib.Core.List.{List, [], _∷_, _++_}
 use lib.ListN.{length, getD}
 use lib.Dec.{eqb}
-use borrow.Author.Tests.{eq-eqb, eqb-true, eqb-false}
-use Rattle.definitions.specs.Book.{
-  Literal,
-  Clause,
-  Goal,
-  Book,
-  clause-count,
-  add-clause,
-  add-to-last,
-  add-literal,
-  with-clauses,
-  with-literals,
-  last-literals,
-  literals-so-far,
-}
-use Rattle.book.specs.View.{span, goal-in, Tiles}
-use Rattle.book.proofs.Spans.{span-length, span-ext}
-
--- a clause is added to the last goal
-pub add-clause-last : (c : Clause) (gs : Book) (g : Goal) → add-clause c (gs ++ (g ∷ [])) ≡ gs ++ (with-clauses g (g .clauses ++ (c ∷ [])) ∷ [])
-add-clause-last c [] g = refl
-add-clause-last c (x ∷ []) g = refl
-add-clause-last c (x ∷ y ∷ gs) g = ap (λ (l : Book). x ∷ l) (add-clause-last c (y ∷ gs) g)
-
--- where there is no clause there is no literal
-pub literals-none : (book : Book) → clause-count book ≡ 0 → literals-so-far book ≡ 0
-literals-none [] e = refl
-literals-none (g ∷ gs) e =
-    ap (λ (t : Bool). elim t [ true ↦ last-literals (g .clauses) | false ↦ literals-so-far gs ]) (eq-eqb (clause-count gs) 0 (omega arith))
-    ∙ empty (g .clauses) (omega arith)
-  where
-    empty : (cs : List Clause) → length cs ≡ 0 → last-literals cs ≡ 0
-    empty [] x = refl
-    empty (c ∷ cs) x = absurd (omega arith)
+use borrow.Author.Tests.{eqb-true, eqb-false}
+use Rattle.definitions.specs.Book.{Literal, Clause, Goal, Book, clause-count, add-to-last, add-literal, with-clauses, with-literals, last-literals, literals-so-far}
+use Rattle.laws.proofs.Spans.{length-span, span-ext}
+use Rattle.laws.specs.Spans.{span}
+use Rattle.book.specs.View.{goal-in, Tiles}
 
 module _ (f : ℕ → Clause) where
   last-literals-span : (s k : ℕ) → last-literals (span f s (suc k)) ≡ length (f (s + k) .literals)
@@ -60,7 +31,7 @@ module _ (f : ℕ → Clause) (flags first len : List ℕ) where
   pub tiles-count : (n g at end : ℕ) → Tiles first len g n at end → at + clause-count (span (goal-in f flags first len) g n) ≡ end
   tiles-count zero g at end t = omega arith
   tiles-count (suc n) g at end t =
-      let a : length (span f (getD first g 0) (getD len g 0)) ≡ getD len g 0 = span-length f (getD first g 0) (getD len g 0) in
+      let a : length (span f (getD first g 0) (getD len g 0)) ≡ getD len g 0 = length-span f (getD first g 0) (getD len g 0) in
       let r : (at + getD len g 0) + clause-count (span (goal-in f flags first len) (suc g) n) ≡ end = tiles-count n (suc g) (at + getD len g 0) end (t .1) in
       omega arith
 
@@ -137,7 +108,7 @@ module _ (f h : ℕ → Clause) (l : Literal) (e : ℕ) (more : with-literals (f
     no-clauses : (n g : ℕ) → clause-count (span (goal-in f flags first len) g n) ≡ 0 → span (goal-in f flags first len) g n ≡ span (goal-in h flags first len) g n
     no-clauses zero g q = refl
     no-clauses (suc n) g q =
-        let a : length (span f (getD first g 0) (getD len g 0)) ≡ getD len g 0 = span-length f (getD first g 0) (getD len g 0) in
+        let a : length (span f (getD first g 0) (getD len g 0)) ≡ getD len g 0 = length-span f (getD first g 0) (getD len g 0) in
         ap (λ (cs : List Clause). with-clauses (goal-in f flags first len g) cs ∷ span (goal-in f flags first len) (suc g) n)
         (span-ext f h (getD first g 0) (getD len g 0) (λ i x y. absurd (omega arith)))
         ∙ ap (λ (gs : Book). goal-in h flags first len g ∷ gs) (no-clauses n (suc g) (omega arith))

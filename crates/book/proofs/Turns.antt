@@ -11,11 +11,12 @@ use borrow.Author.Tests.{ltb-false}
 use Rattle.definitions.specs.Refusal.{Refusable, refused, accepted, Test, _refuses_, unless}
 use Rattle.definitions.specs.Book as said
 use Rattle.definitions.specs.Book.{Command, goal, clause, positive, negative, end, unknown, command, width, byte, u16, bit0, Positive, Negative, add-clause, add-literal, clause-count, literals-so-far, apply-command, whole-command, is-end, read-from}
+use Rattle.definitions.proofs.Book.{literals-none}
+use Rattle.laws.proofs.Spans.{length-span}
 use Rattle.book.specs.declared.Book.{Book}
 use Rattle.book.specs.View.{clause-viewed, literal-viewed, goal-viewed, view, Tiles}
 use Rattle.book.specs.Faults.{fault, Counts, counts, command-tests, whole-tests, next-fault, end-tests, literal-tests, goal-tests, clause-tests}
-use Rattle.book.proofs.Spans.{span-length}
-use Rattle.book.proofs.Tilings.{literals-none, tiles-literals}
+use Rattle.book.proofs.Tilings.{tiles-literals}
 use Rattle.book.proofs.Held.{Held, held-count}
 use Rattle.book.proofs.MoreGoals.{bare-goal}
 use Rattle.book.proofs.MoreClauses.{bare-clause}
@@ -79,14 +80,14 @@ module _ (b : Book) (literals named : ℕ) (h : Held b literals named) where
   now-counts = counts (b .goals) (b .clauses) literals named
 
   goals-counted : length (view b) ≡ b .goals
-  goals-counted = span-length (goal-viewed b) 0 (b .goals)
+  goals-counted = length-span (goal-viewed b) 0 (b .goals)
 
   literals-counted-by : (n : ℕ) → b .clauses ≡ n → literals-so-far (view b) ≡ literals
   literals-counted-by zero e = literals-none (view b) (held-count b literals named h ∙ e) ∙ sym (h .none e)
   literals-counted-by (suc c) e =
       tiles-literals (clause-viewed b) (b .«goal_flags») (b .«goal_first») (b .«goal_len») (b .goals) 0 0 c
       (subst (Tiles (b .«goal_first») (b .«goal_len») 0 (b .goals) 0) e (h .tiles)) (omega arith)
-      ∙ span-length (literal-viewed b) (8 * c) (getD (b .«clause_len») c 0) ∙ h .last c e
+      ∙ length-span (literal-viewed b) (8 * c) (getD (b .«clause_len») c 0) ∙ h .last c e
 
   literals-counted : literals-so-far (view b) ≡ literals
   literals-counted = literals-counted-by (b .clauses) refl

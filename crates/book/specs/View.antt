@@ -2,20 +2,15 @@
 use Prim.Native.Nat.{ℕ, zero, suc, _+_, _*_, _≤_, _<_}
 use mathlib.Core.Path.{_≡_}
 use mathlib.Core.Bool.{Bool, true, false}
-use mathlib.Core.List.{List, [], _∷_}
+use mathlib.Core.List.{List, []}
 use lib.ListN.{length, getD, replicate}
 use lib.Dec.{eqb}
+pub use Rattle.laws.specs.Spans.{span}
 use Rattle.definitions.specs.Refusal.{Refusable, refused, accepted}
 use Rattle.definitions.specs.Book as said
 use Rattle.book.specs.declared.Book.{Book}
 use Rattle.book.specs.declared.Reading.{Reading}
 use Rattle.book.specs.declared.Literal.{Literal}
-
-module _ {A : Type 0} where
-  -- f at n places from s on
-  abbrev pub span : (ℕ → A) → (s n : ℕ) → List A
-  span f s zero = []
-  span f s (suc n) = f s ∷ span f (suc s) n
 
 -- a literal by its sign
 abbrev pub signed : (negative : Bool) → (goal want : ℕ) → (outsized : Bool) → said.Literal

@@ -33,9 +33,9 @@ use Rattle.control.specs.declared.select_subgoal.Made.{Made}
 use Rattle.control.specs.declared.select_subgoal.Selection.the-variants as selection
 use Rattle.control.specs.declared.select_subgoal.Choice.{Choice}
 use Rattle.control.specs.SelectSubgoal.{chosen, noted-count, note-if, note, table-number, live-with, leaves, selects, made-by, found-by, found-for, taken-by, noted-goals, noted-view, FlounderedGoal, New, RestFloundered, Noted, clause-of, literals}
+use Rattle.control.proofs.Seen.{chosen-means}
 use Rattle.control.proofs.SelectKnown.{noted-more, busy, Waits, Going, After, Setting, Leads, leads-from, seen-in, made-in, seen-as, ends, chose}
 use Rattle.control.proofs.SelectPasses.{floundered-keeps, floundered-is}
-use Rattle.control.proofs.SelectStrands.{chosen-is}
 use Rattle.control.proofs.SelectTables.{length-noted, noted-there, new-strands, table-found, table-next}
 
 module _ (z : Setting) (c : Choice) (g : Going (z .forest) (z .start) c) where
@@ -68,7 +68,7 @@ module _ (z : Setting) (c : Choice) (g : Going (z .forest) (z .start) c) where
           let l = at-place (clause-of c .subgoals) i (omega arith) in
           let e : books.goal-of (l .0) ≡ its-goal = ap (λ (o : Option books.Literal). books.goal-of (split.or split.no-literal o))
           (sym (l .1))
-          ∙ ap books.goal-of (sym (chosen-is (c .strand) (g .sound))) in
+          ∙ ap books.goal-of (sym (chosen-means (c .strand) (g .sound))) in
           subst (λ (n : ℕ). n < length (z .forest .book)) e (all-at i (g .named .subgoals-named) (l .1))
 
       few-noted : c .made .count < 8
@@ -220,5 +220,5 @@ module _ (z : Setting) (c : Choice) (g : Going (z .forest) (z .start) c) where
       takes =
           leads-from z (λ p. decide-table (z .forest) (noted-view c) (meant (chosen (c .strand))) >>= chose z c p)
           (λ p. ap (λ (l : books.Literal). decide-table (z .forest) (noted-view c) l >>= chose z c p)
-          (sym (chosen-is (c .strand) (g .sound))))
+          (sym (chosen-means (c .strand) (g .sound))))
           (by-gets (gets-table (meant (chosen (c .strand)))))

@@ -25,13 +25,13 @@ use Rattle.strands.specs.Fields.{with-selected, with-ambiguous}
 use Rattle.strands.specs.Floundering.{flounder, reconsider}
 use Rattle.strands.specs.View.{Sound, seen, clause, selected, is-negative}
 use Rattle.strands.proofs.FieldViews.{selected-sound, ambiguous-sound}
-use Rattle.strands.proofs.FlounderViews.{flounder-kept, reconsider-kept}
-use Rattle.strands.proofs.FlounderViews.{flounder-sound, reconsider-sound, reconsider-view}
+use Rattle.strands.proofs.FlounderViews.{flounder-kept, flounder-sound, reconsider-kept, reconsider-sound, reconsider-view}
 use Rattle.control.specs.declared.select_subgoal.Selection.the-variants as selection
 use Rattle.control.specs.declared.select_subgoal.Choice.{Choice}
 use Rattle.control.specs.SelectSubgoal.{chosen, table-floundered, leaves, propagated-by, reconsidered-by, held-by, held-against, noted-goals, noted-view, FlounderedGoal, clause-of, literals}
+use Rattle.control.proofs.Seen.{chosen-means, flounder-clause}
 use Rattle.control.proofs.SelectKnown.{busy, Waits, Going, After, room-less, falls-less, falls-back, room-back, busy-once, Setting, Leads, leads-from, seen-in, made-in, seen-as, ends, stuck, held-as, looked, none-left}
-use Rattle.control.proofs.SelectStrands.{chosen-is, flounder-clause, flounder-keeps, reconsider-keeps}
+use Rattle.control.proofs.SelectStrands.{counted, flounder-keeps, reconsider-keeps}
 use Rattle.control.proofs.SelectTables.{table-flag}
 
 module _ (z : Setting) (c : Choice) (g : Going (z .forest) (z .start) c) where
@@ -66,7 +66,7 @@ module _ (z : Setting) (c : Choice) (g : Going (z .forest) (z .start) c) where
         ap₂ (seen-as z)
         (ap (with-literal-floundered (clause-of c)) e
         ∙ ap (λ (y : ExClause). with-literal-floundered y (next-subgoal-index y)) (sym same)
-        ∙ flounder-clause t o there)
+        ∙ sym (flounder-clause t o (counted t o there)))
         (ap selected (sym next-idle))
 
   -- SOMETHING IS SELECTED.
@@ -95,7 +95,7 @@ module _ (z : Setting) (c : Choice) (g : Going (z .forest) (z .start) c) where
     literal-is =
         let last = waits .0 .last in
         let e : i ≡ next-subgoal-index (clause-of c) = omega arith in
-        ap (literal-at (clause-of c)) e ∙ sym (chosen-is (c .strand) (g .sound))
+        ap (literal-at (clause-of c)) e ∙ sym (chosen-means (c .strand) (g .sound))
 
     by-flag : (b : Bool) → table-of (made-in z c) t .floundered ≡ b → Leads z (λ p. held-as z c p i b) c (held-by b c)
     by-flag true e =

@@ -3,6 +3,7 @@
 use Prim.Native.Nat.{ℕ, zero, suc, _+_, _≤_, _<_}
 use native.Mathlib.Omega.{arith}
 use mathlib.Core.Path.{_≡_, refl, sym, ap, subst, _∙_}
+use mathlib.Core.Bool.{true≢false}
 use mathlib.Core.List.{List, [], _∷_, _++_, map}
 use mathlib.Core.Logic.{_⊎_, inl, inr}
 use mathlib.Core.Option.{none, some}
@@ -14,7 +15,6 @@ use Rattle.definitions.specs.Tables.{Tables, Forest, index-of}
 use Rattle.laws.proofs.Distinct.{few-distinct}
 use Rattle.laws.proofs.Options.{no-such, same-some}
 use Rattle.promises.proofs.Asserts.Lists.{All, all-first, all-rest, all-at, all-map, all-push, at-push, position-none}
-use Rattle.promises.proofs.Asserts.Safe.{true-false}
 use Rattle.promises.proofs.Asserts.Sound.{TablesApart, SoundForest}
 use Rattle.split.specs.Acts.{built, with-made}
 use Rattle.control.specs.declared.select_subgoal.Made.{Made}
@@ -23,8 +23,9 @@ use Rattle.control.proofs.SelectTables.{built-goal, length-noted}
 
 module _ (ts : Tables) (t : Table) (apart : TablesApart ts) (new : index-of (t .table-goal) ts ≡ none) where
   not-there : (i : ℕ) (u : Table) → getElem? ts i ≡ some u → u .table-goal ≡ t .table-goal → ⊥
-  not-there i u a q = true-false
-      (sym (eq-eqb (u .table-goal) (t .table-goal) q) ∙ position-none (λ v. eqb (v .table-goal) (t .table-goal)) ts new i u a)
+  not-there i u a q =
+      true≢false (sym (eq-eqb (u .table-goal) (t .table-goal) q)
+      ∙ position-none (λ v. eqb (v .table-goal) (t .table-goal)) ts new i u a)
 
   by-place : (i j : ℕ) (u v : Table) → (getElem? ts i ≡ some u) ⊎ ((t ≡ u) × (i ≡ length ts))
       → (getElem? ts j ≡ some v) ⊎ ((t ≡ v) × (j ≡ length ts))

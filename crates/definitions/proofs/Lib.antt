@@ -1,3 +1,6 @@
+pub mod Lists
+pub mod Refusal
+pub mod Book
 pub mod RoundTrip
 pub mod Written
 pub mod Prefix

@@ -6,135 +6,29 @@
 use Prim.Native.Nat.{ℕ, zero, suc, _+_, _-_, _*_, _/_, _%_, _<_, _≤_}
 use native.Mathlib.Omega.{arith}
 use native.Mathlib.Decide.{decLe}
-use mathlib.Core.Bool.{Bool, true, false, not}
+use mathlib.Core.Bool.{Bool, true, false, not, true≢false}
 use mathlib.Core.Path.{_≡_, refl, sym, ap, _∙_, subst}
 use mathlib.Core.List.{List, [], _∷_, _++_}
 use lib.ListN.{length, length-append, take, drop, take-append-drop}
 use lib.Seq.{take-all, length-take-le}
 use lib.Dec.{ltb, leb, eqb}
-use borrow.Author.Tests.{lt-ltb, leb-false, eqb-true}
+use borrow.Author.Tests.{lt-ltb, leb-false}
 use Rattle.definitions.specs.Refusal.{Refusable, refused, accepted, _refuses_, unless}
 use Rattle.definitions.specs.Book.{Literal, Positive, Negative, Clause, Goal, Book, clause-count, byte, u16, bit0, bit1}
 use Rattle.definitions.specs.Book.{Command, goal, clause, positive, negative, end, unknown, command, width, is-end}
-use Rattle.definitions.specs.Book.{with-clauses, add-clause, add-to-last, add-literal, last-literals, literals-so-far, goals-name}
+use Rattle.definitions.specs.Book.{add-clause, add-literal, literals-so-far, goals-name}
 use Rattle.definitions.specs.Book.{literal-command, apply-command, whole-command, read-from, read, largest-book, read-ahead}
 use Rattle.definitions.specs.Book.{flag, write-literals, write-clauses, write-goals, write, ClausesWithin, GoalsWithin, Within}
-use Rattle.definitions.proofs.RoundTrip.{clause-count-append, whole-apply}
-
--- Cases that can't be.
-
-apart : {A : Type 0} {n : ℕ} {a : A} → refused n ≡ accepted a → ⊥
-apart e = let z : _≡_ {A = ℕ} 0 1 = cc in omega arith
-
-clash : true ≡ false → ⊥
-clash e = let z : _≡_ {A = ℕ} 0 1 = cc in omega arith
-
-positive-by : (n : ℕ) → eqb n 0 ≡ false → 0 < n
-positive-by zero e = absurd (clash e)
-positive-by (suc n) e = omega arith
+use Rattle.definitions.proofs.RoundTrip.{whole-apply}
+use Rattle.definitions.proofs.Book.{clause-count-goal, literals-so-far-goal, length-add-clause, clause-count-add-clause, Added, added}
+use Rattle.definitions.proofs.Refusal.{not-accepted, all-pass}
+use Rattle.laws.proofs.Bools.{not-zero}
 
 -- a goal takes 2 bytes, a clause 4 and 8 literals of 6 each
 abbrev room : Book → ℕ
 room book = 2 * (64 - length book) + 52 * (256 - clause-count book) + 6 * (8 - literals-so-far book)
 
--- What a command does to the counts.
-
--- a goal with no clause changes neither the clauses nor the last clause's literals
-clause-count-goal : (book : Book) (g : Goal) → length (g .clauses) ≡ 0 → clause-count (book ++ (g ∷ [])) ≡ clause-count book
-clause-count-goal book g e = omega (arith, clause-count-append book (g ∷ []))
-
-last-none : (cs : List Clause) → length cs ≡ 0 → last-literals cs ≡ 0
-last-none [] e = refl
-last-none (c ∷ cs) e = absurd (omega arith)
-
-literals-so-far-goal : (book : Book) (g : Goal) → length (g .clauses) ≡ 0 → literals-so-far (book ++ (g ∷ [])) ≡ literals-so-far book
-literals-so-far-goal [] g e = last-none (g .clauses) e
-literals-so-far-goal (h ∷ book) g e =
-    ap (λ (n : ℕ). elim (eqb n 0) as (λ b. ℕ) [ true ↦ last-literals (h .clauses) | false ↦ literals-so-far (book ++ (g ∷ [])) ])
-    (clause-count-goal book g e)
-    ∙ ap (λ (n : ℕ). elim (eqb (clause-count book) 0) as (λ b. ℕ) [ true ↦ last-literals (h .clauses) | false ↦ n ])
-    (literals-so-far-goal book g e)
-
-length-add-clause : (c : Clause) (book : Book) → length (add-clause c book) ≡ length book
-length-add-clause c [] = refl
-length-add-clause c (g ∷ []) = refl
-length-add-clause c (g ∷ h ∷ gs) = ap suc (length-add-clause c (h ∷ gs))
-
-clause-count-add-clause : (c : Clause) (book : Book) → 0 < length book → clause-count (add-clause c book) ≡ suc (clause-count book)
-clause-count-add-clause c [] h = absurd (omega arith)
-clause-count-add-clause c (g ∷ []) h = omega (arith, length-append (g .clauses) (c ∷ []))
-clause-count-add-clause c (g ∷ i ∷ gs) h = omega (arith, clause-count-add-clause c (i ∷ gs) (omega arith))
-
-length-add-to-last : (l : Literal) (cs : List Clause) → length (add-to-last l cs) ≡ length cs
-length-add-to-last l [] = refl
-length-add-to-last l (c ∷ []) = refl
-length-add-to-last l (c ∷ d ∷ cs) = ap suc (length-add-to-last l (d ∷ cs))
-
-last-add-to-last : (l : Literal) (cs : List Clause) → 0 < length cs → last-literals (add-to-last l cs) ≡ suc (last-literals cs)
-last-add-to-last l [] h = absurd (omega arith)
-last-add-to-last l (c ∷ []) h = omega (arith, length-append (c .literals) (l ∷ []))
-last-add-to-last l (c ∷ d ∷ []) h = last-add-to-last l (d ∷ []) (omega arith)
-last-add-to-last l (c ∷ d ∷ e ∷ cs) h = last-add-to-last l (d ∷ e ∷ cs) (omega arith)
-
--- a goal after which no clause comes, and another
-literals-here : (g : Goal) (gs : Book) → eqb (clause-count gs) 0 ≡ true → literals-so-far (g ∷ gs) ≡ last-literals (g .clauses)
-literals-here g gs e = rw (e, literals-so-far)
-
-literals-below : (g : Goal) (gs : Book) → eqb (clause-count gs) 0 ≡ false → literals-so-far (g ∷ gs) ≡ literals-so-far gs
-literals-below g gs e = rw (e, literals-so-far)
-
-add-here : (l : Literal) (g : Goal) (gs : Book) → eqb (clause-count gs) 0 ≡ true
-    → add-literal l (g ∷ gs) ≡ with-clauses g (add-to-last l (g .clauses)) ∷ gs
-add-here l g gs e = rw (e, add-literal)
-
-add-below : (l : Literal) (g : Goal) (gs : Book) → eqb (clause-count gs) 0 ≡ false → add-literal l (g ∷ gs) ≡ g ∷ add-literal l gs
-add-below l g gs e = rw (e, add-literal)
-
--- a literal changes the last clause alone
-record Added (l : Literal) (book : Book) : Type 0 where
-  same-goals : length (add-literal l book) ≡ length book
-  same-clauses : clause-count (add-literal l book) ≡ clause-count book
-  one-more : 0 < clause-count book → literals-so-far (add-literal l book) ≡ suc (literals-so-far book)
-
-added-by : (l : Literal) (g : Goal) (gs : Book) (t : Bool) → eqb (clause-count gs) 0 ≡ t → Added l gs → Added l (g ∷ gs)
-added-by l g gs true e a =
-    let none : clause-count gs ≡ 0 = eqb-true (clause-count gs) 0 e in
-    let here : Goal = with-clauses g (add-to-last l (g .clauses)) in
-    record {
-      same-goals = ap length (add-here l g gs e);
-      same-clauses = ap clause-count (add-here l g gs e) ∙ ap (λ (n : ℕ). n + clause-count gs) (length-add-to-last l (g .clauses));
-      one-more = λ h. ap literals-so-far (add-here l g gs e) ∙ literals-here here gs e
-          ∙ last-add-to-last l (g .clauses) (omega arith) ∙ ap suc (sym (literals-here g gs e));
-    }
-added-by l g gs false e a =
-    let some : 0 < clause-count gs = positive-by (clause-count gs) e in
-    record {
-      same-goals = ap length (add-below l g gs e) ∙ ap suc (a .same-goals);
-      same-clauses = ap clause-count (add-below l g gs e) ∙ ap (λ (n : ℕ). length (g .clauses) + n) (a .same-clauses);
-      one-more = λ h. ap literals-so-far (add-below l g gs e)
-          ∙ literals-below g (add-literal l gs) (ap (λ (n : ℕ). eqb n 0) (a .same-clauses) ∙ e)
-          ∙ a .one-more some ∙ ap suc (sym (literals-below g gs e));
-    }
-
-added : (l : Literal) (book : Book) → Added l book
-added l [] = record { same-goals = refl; same-clauses = refl; one-more = λ h. absurd (omega arith) }
-added l (g ∷ gs) = added-by l g gs (eqb (clause-count gs) 0) refl (added l gs)
-
 -- What a command that is accepted takes of the room.
-
-module _ {A : Type 0} where
-  two-passed : (p q : Bool) (m n : ℕ) (a x : A) → unless (p refuses m ∷ q refuses n ∷ []) a ≡ accepted x
-      → (p ≡ false) × (q ≡ false) × (a ≡ x)
-  two-passed true q m n a x e = absurd (apart e)
-  two-passed false true m n a x e = absurd (apart e)
-  two-passed false false m n a x e = (refl, refl, cc)
-
-  three-passed : (p q r : Bool) (l m n : ℕ) (a x : A) → unless (p refuses l ∷ q refuses m ∷ r refuses n ∷ []) a ≡ accepted x
-      → (p ≡ false) × (r ≡ false) × (a ≡ x)
-  three-passed true q r l m n a x e = absurd (apart e)
-  three-passed false true r l m n a x e = absurd (apart e)
-  three-passed false false true l m n a x e = absurd (apart e)
-  three-passed false false false l m n a x e = (refl, refl, cc)
 
 goal-room : (book : Book) (g : Goal) → length (g .clauses) ≡ 0 → length book < 64 → room (book ++ (g ∷ [])) + 2 ≤ room book
 goal-room book g e few =
@@ -150,23 +44,25 @@ literal-room book l some few =
 
 literal-taken : (l : Literal) (flags : ℕ) (book next : Book) → literal-command l flags book ≡ accepted next → room next + 6 ≤ room book
 literal-taken l flags book next e =
-    let t = three-passed (eqb (clause-count book) 0) (ltb 1 flags) (leb 8 (literals-so-far book)) 3 4 5 (add-literal l book) next e in
-    subst (λ (n : Book). room n + 6 ≤ room book) (t .2)
-    (literal-room book l (positive-by (clause-count book) (t .0)) (leb-false 8 (literals-so-far book) (t .1)))
+    let t = all-pass (eqb (clause-count book) 0 refuses 3 ∷ ltb 1 flags refuses 4 ∷ leb 8 (literals-so-far book) refuses 5 ∷ [])
+    (add-literal l book) next e in
+    subst (λ (n : Book). room n + 6 ≤ room book) (t .1)
+    (literal-room book l (not-zero (clause-count book) (t .0 .0)) (leb-false 8 (literals-so-far book) (t .0 .1 .1 .0)))
 
 taken : (c : Command) (after : List ℕ) (book next : Book) → is-end c ≡ false → apply-command c after book ≡ accepted next
     → room next + suc (width c) ≤ room book
 taken goal after book next i e =
     let flags = byte after 0 in
     let g : Goal = record { coinductive = bit0 flags; floundered = bit1 flags; clauses = [] } in
-    let t = two-passed (ltb 3 flags) (leb 64 (length book)) 4 5 (book ++ (g ∷ [])) next e in
-    subst (λ (n : Book). room n + 2 ≤ room book) (t .2) (goal-room book g refl (leb-false 64 (length book) (t .1)))
+    let t = all-pass (ltb 3 flags refuses 4 ∷ leb 64 (length book) refuses 5 ∷ []) (book ++ (g ∷ [])) next e in
+    subst (λ (n : Book). room n + 2 ≤ room book) (t .1) (goal-room book g refl (leb-false 64 (length book) (t .0 .1 .0)))
 taken clause after book next i e =
     let flags = byte after 2 in
     let c : Clause = record { variant = u16 after 0; cannot-prove = bit0 flags; outsized = bit1 flags; literals = [] } in
-    let t = three-passed (eqb (length book) 0) (ltb 3 flags) (leb 256 (clause-count book)) 3 4 5 (add-clause c book) next e in
-    subst (λ (n : Book). room n + 4 ≤ room book) (t .2)
-    (clause-room book c (positive-by (length book) (t .0)) (leb-false 256 (clause-count book) (t .1)))
+    let t = all-pass (eqb (length book) 0 refuses 3 ∷ ltb 3 flags refuses 4 ∷ leb 256 (clause-count book) refuses 5 ∷ [])
+    (add-clause c book) next e in
+    subst (λ (n : Book). room n + 4 ≤ room book) (t .1)
+    (clause-room book c (not-zero (length book) (t .0 .0)) (leb-false 256 (clause-count book) (t .0 .1 .1 .0)))
 taken positive after book next i e =
     let flags = byte after 4 in
     literal-taken (Positive (u16 after 0) (u16 after 2) (bit0 flags)) flags book next e
@@ -174,8 +70,8 @@ taken negative after book next i e =
     let flags = byte after 2 in
     let h : room next + 6 ≤ room book = literal-taken (Negative (u16 after 0) (bit0 flags)) flags book next e in
     omega arith
-taken end after book next i e = absurd (clash i)
-taken unknown after book next i e = absurd (apart e)
+taken end after book next i e = absurd (true≢false i)
+taken unknown after book next i e = absurd (not-accepted e)
 
 -- A command is settled by its own bytes, and the end by one byte more.
 

@@ -15,11 +15,12 @@ use borrow.Author.Tests.{le-ltb, lt-ltb, lt-leb, ne-eqb}
 use Rattle.definitions.specs.Refusal.{accepted, _refuses_, unless}
 use Rattle.definitions.specs.Book.{Literal, Positive, Negative, Clause, Goal, Book, clause-count}
 use Rattle.definitions.specs.Book.{Command, end, command, width, is-end}
-use Rattle.definitions.specs.Book.{bit0, bit1, flag, with-clauses, with-literals, add-clause, add-to-last, add-literal}
-use Rattle.definitions.specs.Book.{last-literals, literals-so-far, literals-name, clauses-name, goals-name}
+use Rattle.definitions.specs.Book.{bit0, bit1, flag}
+use Rattle.definitions.specs.Book.{literals-so-far, literals-name, clauses-name, goals-name}
 use Rattle.definitions.specs.Book.{apply-command, literal-command, whole-command, read-from, read}
 use Rattle.definitions.specs.Book.{write-literal, write-literals, write-clauses, write-goals, write}
 use Rattle.definitions.specs.Book.{LiteralsWithin, ClausesWithin, GoalsWithin, Within}
+use Rattle.definitions.proofs.Book.{clause-count-append, add-clause-last, add-to-last-last, last-literals-last, ends-in-clause, add-literal-last, literals-so-far-last}
 
 -- Bytes.
 
@@ -84,40 +85,6 @@ goal-with a b cs = record { coinductive = a; floundered = b; clauses = cs }
 
 abbrev clause-with : ℕ → Bool → Bool → List Literal → Clause
 clause-with v a b ls = record { variant = v; cannot-prove = a; outsized = b; literals = ls }
-
-add-clause-last : (c : Clause) (gs : Book) (g : Goal)
-    → add-clause c (gs ++ (g ∷ [])) ≡ gs ++ (with-clauses g (g .clauses ++ (c ∷ [])) ∷ [])
-add-clause-last c [] g = refl
-add-clause-last c (h ∷ []) g = refl
-add-clause-last c (h ∷ i ∷ gs) g = ap (λ (l : Book). h ∷ l) (add-clause-last c (i ∷ gs) g)
-
-add-to-last-last : (l : Literal) (cs : List Clause) (c : Clause)
-    → add-to-last l (cs ++ (c ∷ [])) ≡ cs ++ (with-literals c (c .literals ++ (l ∷ [])) ∷ [])
-add-to-last-last l [] c = refl
-add-to-last-last l (d ∷ []) c = refl
-add-to-last-last l (d ∷ e ∷ cs) c = ap (λ (k : List Clause). d ∷ k) (add-to-last-last l (e ∷ cs) c)
-
-last-literals-last : (cs : List Clause) (c : Clause) → last-literals (cs ++ (c ∷ [])) ≡ length (c .literals)
-last-literals-last [] c = refl
-last-literals-last (d ∷ []) c = refl
-last-literals-last (d ∷ e ∷ cs) c = last-literals-last (e ∷ cs) c
-
-pub clause-count-append : (gs hs : Book) → clause-count (gs ++ hs) ≡ clause-count gs + clause-count hs
-clause-count-append [] hs = omega arith
-clause-count-append (g ∷ gs) hs = omega (arith, clause-count-append gs hs)
-
--- a book that ends in a goal with a clause has one
-ends-in-clause : (gs : Book) (g : Goal) → 0 < length (g .clauses) → eqb (clause-count (gs ++ (g ∷ []))) 0 ≡ false
-ends-in-clause gs g h = ne-eqb (clause-count (gs ++ (g ∷ []))) 0 (λ e. omega (arith, clause-count-append gs (g ∷ [])))
-
-add-literal-last : (l : Literal) (gs : Book) (g : Goal) → 0 < length (g .clauses)
-    → add-literal l (gs ++ (g ∷ [])) ≡ gs ++ (with-clauses g (add-to-last l (g .clauses)) ∷ [])
-add-literal-last l [] g h = refl
-add-literal-last l (i ∷ gs) g h = rw (ends-in-clause gs g h, add-literal) (ap (λ (k : Book). i ∷ k) (add-literal-last l gs g h))
-
-literals-so-far-last : (gs : Book) (g : Goal) → 0 < length (g .clauses) → literals-so-far (gs ++ (g ∷ [])) ≡ last-literals (g .clauses)
-literals-so-far-last [] g h = refl
-literals-so-far-last (i ∷ gs) g h = rw (ends-in-clause gs g h, literals-so-far) (literals-so-far-last gs g h)
 
 -- The three commands that add something.
 

@@ -32,6 +32,12 @@ pub both-false : (a b : Bool) → (a || b) ≡ false → (a ≡ false) × (b ≡
 both-false true b e = absurd (true≢false e)
 both-false false b e = (refl, e)
 
+-- what holds at each end of a test
+module _ {B : Type 0} (P : B → Type 0) where
+  pub case-bool : (b : Bool) {x y : B} → (b ≡ true → P x) → (b ≡ false → P y) → P (elim b [ true ↦ x | false ↦ y ])
+  case-bool true h k = h refl
+  case-bool false h k = k refl
+
 pub not-zero : (n : ℕ) → eqb n 0 ≡ false → 0 < n
 not-zero zero e = absurd (true≢false e)
 not-zero (suc n) e = omega arith

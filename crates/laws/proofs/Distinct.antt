@@ -1,12 +1,13 @@
--- A list of numbers below n without repeats has at most n of them: each number occurs in it once at most, and summed over the numbers
--- below n its occurrences are its length.
-use Prim.Native.Nat.{ℕ, zero, suc, _+_, _≤_, _<_}
+-- A sum over a list of numbers below n without repeats is at most the sum over all of them. So such a list has at most n.
+use Prim.Native.Nat.{ℕ, suc, _≤_, _<_}
 use native.Mathlib.Omega.{arith}
 use native.Mathlib.Decide.{ℕ-discrete}
 use mathlib.Core.Path.{_≡_, refl, ap}
 use mathlib.Core.Option.{some}
 use mathlib.Core.List.{List, [], _∷_}
 use lib.ListN.{length, getElem?}
+use Rattle.laws.proofs.Totals.{total, total-ext, total-length}
+use Rattle.laws.proofs.Sums.{sum, sum-drop, sum-ones}
 
 abbrev pub Distinct : List ℕ → Type 0
 Distinct hs = (i j g : ℕ) → getElem? hs i ≡ some g → getElem? hs j ≡ some g → i ≡ j
@@ -14,89 +15,49 @@ Distinct hs = (i j g : ℕ) → getElem? hs i ≡ some g → getElem? hs j ≡ s
 abbrev pub Under : ℕ → List ℕ → Type 0
 Under n hs = (i g : ℕ) → getElem? hs i ≡ some g → g < n
 
--- the sum of f over the numbers below n
-abbrev sum : ℕ → (ℕ → ℕ) → ℕ
-sum zero f = 0
-sum (suc n) f = sum n f + f n
+-- f, but 0 at h
+abbrev unless-same : {P : Type 0} → Dec P → ℕ → ℕ
+unless-same (yes p) k = 0
+unless-same (no p) k = k
 
-sum-none : (n : ℕ) → sum n (λ u. 0) ≡ 0
-sum-none zero = refl
-sum-none (suc n) = let x = sum-none n in omega arith
+abbrev without : (ℕ → ℕ) → ℕ → ℕ → ℕ
+without f h u = unless-same (ℕ-discrete h u) (f u)
 
-sum-add : (n : ℕ) (f g : ℕ → ℕ) → sum n (λ u. f u + g u) ≡ sum n f + sum n g
-sum-add zero f g = refl
-sum-add (suc n) f g = let x = sum-add n f g in omega arith
-
-sum-few : (n : ℕ) (f : ℕ → ℕ) → ((u : ℕ) → f u ≤ 1) → sum n f ≤ n
-sum-few zero f few = omega arith
-sum-few (suc n) f few = let x = sum-few n f few in let y = few n in omega arith
-
-abbrev one-if : {P : Type 0} → Dec P → ℕ
-one-if (yes p) = 1
-one-if (no p) = 0
-
-abbrev is : (h u : ℕ) → ℕ
-is h u = one-if (ℕ-discrete h u)
-
-is-same : (h u : ℕ) → h ≡ u → is h u ≡ 1
-is-same h u e = go (ℕ-discrete h u)
+without-less : (f : ℕ → ℕ) (h u : ℕ) → without f h u ≤ f u
+without-less f h u = go (ℕ-discrete h u)
   where
-    go : (d : Dec (h ≡ u)) → one-if d ≡ 1
-    go (yes x) = refl
-    go (no x) = absurd (x e)
+    go : (d : Dec (h ≡ u)) → unless-same d (f u) ≤ f u
+    go (yes e) = omega arith
+    go (no o) = omega arith
 
-is-other : (h u : ℕ) → (h ≡ u → ⊥) → is h u ≡ 0
-is-other h u o = go (ℕ-discrete h u)
+without-here : (f : ℕ → ℕ) (h : ℕ) → without f h h ≡ 0
+without-here f h = go (ℕ-discrete h h)
   where
-    go : (d : Dec (h ≡ u)) → one-if d ≡ 0
-    go (yes x) = absurd (o x)
-    go (no x) = refl
+    go : (d : Dec (h ≡ h)) → unless-same d (f h) ≡ 0
+    go (yes e) = refl
+    go (no o) = absurd (o refl)
 
-sum-above : (n h : ℕ) → n ≤ h → sum n (is h) ≡ 0
-sum-above zero h o = refl
-sum-above (suc n) h o = let x = sum-above n h (omega arith) in let y = is-other h n (λ e. omega arith) in omega arith
-
-sum-is : (n h : ℕ) → h < n → sum n (is h) ≡ 1
-sum-is zero h lt = absurd (omega arith)
-sum-is (suc n) h lt = go (sum-is n h) (ℕ-discrete h n)
+without-there : (f : ℕ → ℕ) (h u : ℕ) → (h ≡ u → ⊥) → without f h u ≡ f u
+without-there f h u n = go (ℕ-discrete h u)
   where
-    go : (h < n → sum n (is h) ≡ 1) → Dec (h ≡ n) → sum (suc n) (is h) ≡ 1
-    go ih (yes e) = let x = sum-above n h (omega arith) in let y = is-same h n e in omega arith
-    go ih (no o) = let x = ih (omega arith) in let y = is-other h n o in omega arith
+    go : (d : Dec (h ≡ u)) → unless-same d (f u) ≡ f u
+    go (yes e) = absurd (n e)
+    go (no o) = refl
 
-abbrev occurs : List ℕ → ℕ → ℕ
-occurs [] u = 0
-occurs (h ∷ hs) u = is h u + occurs hs u
-
-occurs-sum : (n : ℕ) (hs : List ℕ) → Under n hs → sum n (occurs hs) ≡ length hs
-occurs-sum n [] under = sum-none n
-occurs-sum n (h ∷ hs) under =
-    let x = sum-add n (is h) (occurs hs) in
-    let y = sum-is n h (under 0 h refl) in
-    let z = occurs-sum n hs (λ i. under (suc i)) in
+pub sum-under : (n : ℕ) (hs : List ℕ) (f : ℕ → ℕ) → Distinct hs → Under n hs → total f hs ≤ sum n f
+sum-under n [] f d u = omega arith
+sum-under n (h ∷ hs) f d u =
+    let f' = without f h in
+    let r = sum-under n hs f' (λ i j g a b. let x = d (suc i) (suc j) g a b in omega arith) (λ i. u (suc i)) in
+    let same : total f' hs ≡ total f hs = total-ext f f' hs
+    (λ i g e. without-there f h g (λ k. let x = d 0 (suc i) g (ap some k) e in absurd (omega arith))) in
+    let gone = without-here f h in
+    let fall = sum-drop n f f' h (f h) (without-less f h) (u 0 h refl) (omega arith) in
     omega arith
-
-occurs-not : (hs : List ℕ) (u : ℕ) → ((i : ℕ) → getElem? hs i ≡ some u → ⊥) → occurs hs u ≡ 0
-occurs-not [] u o = refl
-occurs-not (h ∷ hs) u o =
-    let x = is-other h u (λ e. o 0 (ap some e)) in
-    let y = occurs-not hs u (λ i. o (suc i)) in
-    omega arith
-
-occurs-once : (hs : List ℕ) → Distinct hs → (u : ℕ) → occurs hs u ≤ 1
-occurs-once [] distinct u = omega arith
-occurs-once (h ∷ hs) distinct u =
-    go (occurs-once hs (λ i j g a b. let z = distinct (suc i) (suc j) g a b in omega arith) u) (ℕ-discrete h u)
-  where
-    go : occurs hs u ≤ 1 → Dec (h ≡ u) → occurs (h ∷ hs) u ≤ 1
-    go ih (yes e) =
-        let x = is-same h u e in
-        let y = occurs-not hs u (λ i k. let z = distinct 0 (suc i) u (ap some e) k in omega arith) in
-        omega arith
-    go ih (no o) = let x = is-other h u o in omega arith
 
 pub few-distinct : (n : ℕ) (hs : List ℕ) → Distinct hs → Under n hs → length hs ≤ n
 few-distinct n hs distinct under =
-    let x = occurs-sum n hs under in
-    let y = sum-few n (occurs hs) (occurs-once hs distinct) in
+    let x = sum-under n hs (λ u. 1) distinct under in
+    let y = total-length hs in
+    let z = sum-ones n in
     omega arith

@@ -18,9 +18,10 @@ use Rattle.definitions.specs.Forest.{any-future-answer}
 use Rattle.definitions.specs.Calls.{Call, opens, searches, peeks, asks-future, Reply, refusal, future, call, searches-made, calls}
 use Rattle.definitions.specs.Model.{Plain, Levelled, In}
 use Rattle.definitions.specs.Claim.{MarkedSays, reply-stopped, AllSay, exceeded-among, exceeded, Demand3}
+use Rattle.definitions.proofs.Refusal.{not-accepted, all-pass}
 use Rattle.laws.proofs.Options.{no-such}
 use Rattle.laws.proofs.Bools.{both-false}
-use Rattle.promises.proofs.Reading.{not-accepted, all-pass, Good, read-good}
+use Rattle.promises.proofs.Reading.{Good, read-good}
 use Rattle.promises.proofs.Plain.Machine as M
 use Rattle.promises.proofs.Plain.Whole.{potential, initial-ok, initial-total}
 use Rattle.promises.proofs.Link.View.{t-end}
@@ -125,7 +126,7 @@ from-start : (book : Book) (limit : ℕ) (level : ℕ → ℕ) → limit ≤ MAX
     → AllSay (In book level) limit false (calls (forest-of book limit 0 [] 0) cs)
     × (exceeded (calls (forest-of book limit 0 [] 0) cs) ≤ length book + clause-count book)
 from-start book limit level room good plain levelled cs =
-    let sum = clauses-total book in
+    let sums = clauses-total book in
     let G : Premises = record {
       book = book;
       sound = good-sound book good plain;

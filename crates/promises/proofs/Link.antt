@@ -1,7 +1,6 @@
 -- The link: on plain states the definitions do what the plain machine does, call by call. `View` says how their states stand side by
 -- side; `Turns`, `Searches`, `Peeks` and `Calls` follow a turn, a search, a peek and a call.
 pub mod View
-pub mod Lists
 pub mod Choose
 pub mod Tables
 pub mod Sums

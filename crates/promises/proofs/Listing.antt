@@ -16,7 +16,8 @@ use Rattle.definitions.specs.Forest.{make, Opened, is-invalid, Peeked, peek-rou
 use Rattle.definitions.specs.Listing.{listing-rounds, listing-turns, listing-clock, Line, line, Next, next-index, next-goal, the-end, next}
 use Rattle.definitions.specs.Listing.{Listed, list-from, list-goal, list-goals, lines}
 use Rattle.definitions.specs.Model.{Each}
-use Rattle.promises.proofs.Asserts.Safe.{case-bool, case-safe}
+use Rattle.laws.proofs.Bools.{case-bool}
+use Rattle.promises.proofs.Asserts.Safe.{case-safe}
 use Rattle.promises.proofs.Asserts.Sound.{Reached, SoundForest}
 use Rattle.promises.proofs.Asserts.Making.{makes}
 use Rattle.promises.proofs.Asserts.Unwinding.{Ended}

@@ -20,9 +20,10 @@ use Rattle.definitions.specs.Logic.{unwind-callers, drop-state}
 use Rattle.definitions.specs.Turn.{Ending, found, fail, cut, stopped, Searched}
 use Rattle.definitions.specs.Turn.{put-back, stored-answer, ok-ending, turn, search-turns, begin, root-answer}
 use Rattle.definitions.specs.Forest.{Peeked, is-invalid, is-exceeded, skip-invalid, peek-rounds}
-use Rattle.laws.proofs.Options.{same-some}
-use Rattle.promises.proofs.Asserts.Safe.{case-option, case-bool, case-stops, stop-go, unwrapped}
-use Rattle.promises.proofs.Asserts.Lists.{place-under}
+use Rattle.laws.proofs.Options.{same-some, case-option}
+use Rattle.laws.proofs.Lists.{place-under}
+use Rattle.laws.proofs.Bools.{case-bool}
+use Rattle.promises.proofs.Asserts.Safe.{case-stops, stop-go, unwrapped}
 
 -- how many answers a table has, if it is made
 abbrev answers-of : Option Table → ℕ

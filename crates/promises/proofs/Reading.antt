@@ -2,82 +2,33 @@
 use Prim.Native.Nat.{ℕ, zero, suc, _+_, _≤_}
 use native.Mathlib.Omega.{arith}
 use borrow.Author.Tests.{leb-false, not-false}
-use mathlib.Core.Path.{_≡_, refl, ap, subst}
+use mathlib.Core.Path.{_≡_, refl, subst}
 use mathlib.Core.Bool.{Bool, true, false, not, true≢false}
 use mathlib.Core.List.{List, [], _∷_, _++_}
 use lib.ListN.{length, length-append}
 use lib.Dec.{ltb, leb, eqb}
-use Rattle.definitions.specs.Refusal.{Refusable, refused, accepted, Test, _refuses_, unless}
+use Rattle.definitions.specs.Refusal.{Refusable, refused, accepted, _refuses_}
 use Rattle.definitions.specs.Book.{Book, Goal, Clause, Literal, Positive, Negative, clause-count}
 use Rattle.definitions.specs.Book.{Command, goal, clause, positive, negative, end, unknown, command, width, is-end}
-use Rattle.definitions.specs.Book.{add-clause, add-to-last, add-literal, goals-name, literals-so-far, byte, u16, bit0, bit1}
+use Rattle.definitions.specs.Book.{add-clause, add-literal, goals-name, literals-so-far, byte, u16, bit0, bit1}
 use Rattle.definitions.specs.Book.{apply-command, whole-command, read-from, literal-command, end-command}
-use Rattle.definitions.specs.Model.{Each}
-
-pub same-accepted : {A : Type 0} {a b : A} → accepted a ≡ accepted b → a ≡ b
-same-accepted {A} {a} {b} e = cc
-
-pub not-accepted : {A : Type 0} {n : ℕ} {a : A} → refused n ≡ accepted a → ⊥
-not-accepted {A} {n} {a} e = let z : _≡_ {A = ℕ} 0 1 = cc in omega arith
-
-module _ {A : Type 0} where
-  pub passes : (t : Test) (ts : List Test) (a b : A) → unless (t ∷ ts) a ≡ accepted b → (t .fails ≡ false) × (unless ts a ≡ accepted b)
-  passes t ts a b e = go (t .fails) refl e
-    where
-      go : (f : Bool) → t .fails ≡ f → elim f [ true ↦ refused (t .number) | false ↦ unless ts a ] ≡ accepted b
-          → (t .fails ≡ false) × (unless ts a ≡ accepted b)
-      go true k x = absurd (not-accepted x)
-      go false k x = (k, x)
-
-  -- a call that is accepted passed every test
-  pub all-pass : (ts : List Test) (a b : A) → unless ts a ≡ accepted b → Each (λ t. t .fails ≡ false) ts × (a ≡ b)
-  all-pass [] a b e = (tt, same-accepted e)
-  all-pass (t ∷ ts) a b e = let x = passes t ts a b e in let r = all-pass ts a b (x .1) in ((x .0, r .0), r .1)
+use Rattle.definitions.proofs.Refusal.{same-accepted, not-accepted, all-pass}
+use Rattle.definitions.proofs.Book.{added, clause-count-goal, length-add-clause, clause-count-add-clause}
+use Rattle.laws.proofs.Bools.{not-zero}
 
 -- the limits of goals and clauses
 pub record Small (book : Book) : Type 0 where
   pub few-goals : length book ≤ 64
   pub few-clauses : clause-count book ≤ 256
 
-clause-count-last : (book : Book) (g : Goal) → clause-count (book ++ (g ∷ [])) ≡ clause-count book + length (g .clauses)
-clause-count-last [] g = omega arith
-clause-count-last (h ∷ book) g = let x = clause-count-last book g in omega arith
-
-add-clause-length : (c : Clause) (book : Book) → length (add-clause c book) ≡ length book
-add-clause-length c [] = refl
-add-clause-length c (g ∷ []) = refl
-add-clause-length c (g ∷ h ∷ gs) = ap suc (add-clause-length c (h ∷ gs))
-
-add-clause-count : (c : Clause) (book : Book) → clause-count (add-clause c book) ≤ suc (clause-count book)
-add-clause-count c [] = omega arith
-add-clause-count c (g ∷ []) = let x : length (g .clauses ++ (c ∷ [])) ≡ length (g .clauses) + 1 = length-append (g .clauses) (c ∷ []) in
-    omega arith
-add-clause-count c (g ∷ h ∷ gs) = let x = add-clause-count c (h ∷ gs) in omega arith
-
-add-last-length : (l : Literal) (cs : List Clause) → length (add-to-last l cs) ≡ length cs
-add-last-length l [] = refl
-add-last-length l (c ∷ []) = refl
-add-last-length l (c ∷ d ∷ cs) = ap suc (add-last-length l (d ∷ cs))
-
-add-literal-same : (l : Literal) (book : Book) → (length (add-literal l book) ≡ length book)
-    × (clause-count (add-literal l book) ≡ clause-count book)
-add-literal-same l [] = (refl, refl)
-add-literal-same l (g ∷ gs) = at (eqb (clause-count gs) 0) refl (add-literal-same l gs)
-  where
-    at : (t : Bool) → eqb (clause-count gs) 0 ≡ t → (length (add-literal l gs) ≡ length gs)
-        × (clause-count (add-literal l gs) ≡ clause-count gs)
-        → (length (add-literal l (g ∷ gs)) ≡ length (g ∷ gs)) × (clause-count (add-literal l (g ∷ gs)) ≡ clause-count (g ∷ gs))
-    at true e r = let x = add-last-length l (g .clauses) in (rw (e, add-literal), rw (e, add-literal) (omega arith))
-    at false e r = (rw (e, add-literal) (ap suc (r .0)), rw (e, add-literal) (let x = r .1 in omega arith))
-
 literal-small : (l : Literal) (flags : ℕ) (book next : Book) → literal-command l flags book ≡ accepted next → Small book → Small next
 literal-small l flags book next e s =
     let a = all-pass (eqb (clause-count book) 0 refuses 3 ∷ ltb 1 flags refuses 4 ∷ leb 8 (literals-so-far book) refuses 5 ∷ [])
     (add-literal l book) next e in
-    let r = add-literal-same l book in
+    let r = added l book in
     subst Small (a .1) (record {
-      few-goals = let x = s .few-goals in let y = r .0 in omega arith;
-      few-clauses = let x = s .few-clauses in let y = r .1 in omega arith;
+      few-goals = let x = s .few-goals in let y = r .same-goals in omega arith;
+      few-clauses = let x = s .few-clauses in let y = r .same-clauses in omega arith;
     })
 
 -- each command but the end keeps the limits
@@ -90,7 +41,7 @@ command-small goal operands book next n e s =
     let o = leb-false 64 (length book) (a .0 .1 .0) in
     subst Small (a .1) (record {
       few-goals = let x : length (book ++ (g ∷ [])) ≡ length book + 1 = length-append book (g ∷ []) in omega arith;
-      few-clauses = let x = s .few-clauses in let y = clause-count-last book g in omega arith;
+      few-clauses = let x = s .few-clauses in let y = clause-count-goal book g refl in omega arith;
     })
 command-small clause operands book next n e s =
     let flags = byte operands 2 in
@@ -99,8 +50,8 @@ command-small clause operands book next n e s =
     (add-clause c book) next e in
     let o = leb-false 256 (clause-count book) (a .0 .1 .1 .0) in
     subst Small (a .1) (record {
-      few-goals = let x = s .few-goals in let y = add-clause-length c book in omega arith;
-      few-clauses = let y = add-clause-count c book in omega arith;
+      few-goals = let x = s .few-goals in let y = length-add-clause c book in omega arith;
+      few-clauses = let y = clause-count-add-clause c book (not-zero (length book) (a .0 .0)) in omega arith;
     })
 command-small positive operands book next n e s =
     literal-small (Positive (u16 operands 0) (u16 operands 2) (bit0 (byte operands 4))) (byte operands 4) book next e s

@@ -24,10 +24,14 @@ abbrev pub end : ℕ → List ℕ → ℕ
 end a [] = a
 end a (x ∷ l) = end x l
 
--- a place, or 256 for none
+-- the places of a store; as a place, none
+abbrev pub most-places : ℕ
+most-places = 256
+
+-- a place, or none
 abbrev pub place-if : Bool → ℕ → ℕ
 place-if true p = p
-place-if false p = 256
+place-if false p = most-places
 
 abbrev pub has-any : List ℕ → ℕ → Bool
 has-any len t = ltb 0 (getD len t 0)

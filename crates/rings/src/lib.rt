@@ -9,6 +9,9 @@ ghost use lib.Dec.{ltb};
 ghost use Rattle.rings.specs.Lists.{grown};
 ghost use Rattle.rings.specs.Rings.{ring-of, place-if, has-any, unlinked, shortened, popped-next, linked, lengthened, joined, RingMove};
 
+// A store's places are named by a byte; this number, which is no place, stands for none. It is `most-places` of `specs/Rings.antt`.
+pub const PLACES: usize = 256;
+
 fn wide(x: u8) -> usize
     ensures { λ r. ⌜ (r ≡ x) × (r < 256) ⌝ }
 {
@@ -18,9 +21,9 @@ fn wide(x: u8) -> usize
 // Takes the place behind `before` out of the table's queue, and turns the ring: what was behind it is first, and `before` last. Taking b
 // from a, b, c leaves c, a. It is for whoever looked along the queue to find a place there; a place of no queue is unlinked all the same.
 pub fn ring_unlink(
-    next: &mut [u8; 256],
-    tail: &mut [u8; 256],
-    len: &mut [u16; 256],
+    next: &mut [u8; PLACES],
+    tail: &mut [u8; PLACES],
+    len: &mut [u16; PLACES],
     table: u8,
     before: u8,
 ) -> usize
@@ -40,7 +43,12 @@ pub fn ring_unlink(
 }
 
 // Takes the first place of the table's queue: where the table is that of the free places, this finds one. 256 where there is none.
-pub fn ring_pop(next: &mut [u8; 256], tail: &[u8; 256], len: &mut [u16; 256], table: u8) -> usize
+pub fn ring_pop(
+    next: &mut [u8; PLACES],
+    tail: &[u8; PLACES],
+    len: &mut [u16; PLACES],
+    table: u8,
+) -> usize
     ensures { λ r. ⌜ (r ≡ place-if (has-any (now (len .entry)) table) (getD (now (next .entry)) (getD (now (tail .entry)) table 0) 0))
         × (now (next .exit) ≡ popped-next (has-any (now (len .entry)) table) (now (next .entry)) (getD (now (tail .entry)) table 0))
         × (now (len .exit) ≡ shortened (now (len .entry)) table) ⌝ }
@@ -48,7 +56,7 @@ pub fn ring_pop(next: &mut [u8; 256], tail: &[u8; 256], len: &mut [u16; 256], ta
     let t = table as usize;
     let m = len[t];
     if m == 0 {
-        return 256;
+        return PLACES;
     }
     let a = wide(tail[t]);
     let p = wide(next[a]);
@@ -72,9 +80,9 @@ fn more(m: u16) -> u16
 
 // Puts a place at the end of the table's queue.
 pub fn ring_enqueue(
-    next: &mut [u8; 256],
-    tail: &mut [u8; 256],
-    len: &mut [u16; 256],
+    next: &mut [u8; PLACES],
+    tail: &mut [u8; PLACES],
+    len: &mut [u16; PLACES],
     table: u8,
     place: u8,
 )
@@ -111,7 +119,13 @@ fn added(k: u16, m: u16) -> u16
 }
 
 // Moves the whole queue of one table behind that of another: two links change, whatever their lengths. Free places are such a queue.
-pub fn ring_move(next: &mut [u8; 256], tail: &mut [u8; 256], len: &mut [u16; 256], from: u8, to: u8)
+pub fn ring_move(
+    next: &mut [u8; PLACES],
+    tail: &mut [u8; PLACES],
+    len: &mut [u16; PLACES],
+    from: u8,
+    to: u8,
+)
     ensures { λ _. ⌜ RingMove (now (next .entry)) (now (tail .entry)) (now (len .entry)) from to (now (next .exit)) (now (tail .exit)) (now (len .exit)) ⌝ }
 {
     let f = from as usize;
@@ -141,13 +155,19 @@ pub fn ring_move(next: &mut [u8; 256], tail: &mut [u8; 256], len: &mut [u16; 256
 }
 
 // The place at an index of the table's queue, counted from 0; 256 where the queue is shorter.
-pub fn ring_at(next: &[u8; 256], tail: &[u8; 256], len: &[u16; 256], table: u8, index: u16) -> usize
+pub fn ring_at(
+    next: &[u8; PLACES],
+    tail: &[u8; PLACES],
+    len: &[u16; PLACES],
+    table: u8,
+    index: u16,
+) -> usize
     ensures { λ r. ⌜ r ≡ place-if (ltb index (getD (now (len .entry)) table 0))
         (getD (ring-of (now (next .entry)) (now (tail .entry)) (now (len .entry)) table) index 0) ⌝ }
 {
     let t = table as usize;
     if index >= len[t] {
-        return 256;
+        return PLACES;
     }
     let mut prev = tail[t];
     let mut left = index;

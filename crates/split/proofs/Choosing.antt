@@ -1,5 +1,5 @@
 -- Choosing a literal: `select_subgoal` leaves the forest with the tables that were decided to be made.
-use Prim.Native.Nat.{ℕ, zero, suc, _+_, _*_}
+use Prim.Native.Nat.{ℕ, zero, suc, _+_}
 use native.Mathlib.Omega.{arith}
 use mathlib.Core.Path.{_≡_, refl, sym, ap, subst, _∙_}
 use mathlib.Core.Bool.{Bool, true, false}
@@ -11,16 +11,16 @@ use Rattle.definitions.specs.{TableIndex}
 use Rattle.definitions.specs.Book.{Literal, Positive, Negative, goal-of, Goal, Book}
 use Rattle.definitions.specs.Fitting.{gets-table}
 use Rattle.definitions.specs.Stop.{Stops, stop, go, _>>=_, unwrap}
-use Rattle.definitions.specs.Lists.{is-empty, position, total}
+use Rattle.definitions.specs.Lists.{is-empty, position}
 use Rattle.definitions.specs.Strand.{SelectedSubgoal, Strand, with-ex-clause, with-selected, with-ambiguous}
 use Rattle.definitions.specs.Table.{Table, new, with-strands, take-strands, mark-floundered}
 use Rattle.definitions.specs.Tables.{Tables, Forest, with-tables, insert-table, index-of, queued, held}
 use Rattle.definitions.specs.Slg.{next-subgoal-index}
 use Rattle.definitions.specs.Logic.{SubGoalSelection, Selected, NotSelected, Selection, selecting, most-strands, initial-strand, build-table, flounder-subgoal, reconsider-floundered-subgoals, propagate-floundered-subgoal, get-or-create-table-for-subgoal, select-from}
-use Rattle.promises.proofs.Asserts.Lists.{total-append}
+use Rattle.laws.proofs.Totals.{total-append}
 use Rattle.split.specs.Acts.{built, with-made}
-use Rattle.split.specs.Decide.{no-literal, no-table, literal-at, table-of, with-literal-floundered, propagated, View, decide-table, Picked, picking, decide-from}
-use Rattle.split.proofs.Matches.{Matches, asserts, both-stop, both-go, Goes, asserting, going, goes-after, goes-unwrap, after, then, sure, on-unwrap, by-option, guard, assert, by-bool}
+use Rattle.split.specs.Decide.{no-literal, no-table, literal-at, with-literal-floundered, propagated, View, decide-table, Picked, picking, decide-from}
+use Rattle.split.proofs.Matches.{Matches, asserts, both-go, Goes, asserting, going, goes-after, goes-unwrap, after, then, sure, on-unwrap, by-option, guard, assert, by-bool}
 use Rattle.split.proofs.Writing.{heads, same-head}
 use Rattle.split.proofs.Deeds.{flounders-literal}
 

@@ -5,20 +5,17 @@ use mathlib.Core.Path.{_≡_, refl, sym, ap, subst, _∙_}
 use mathlib.Core.Bool.{Bool, true, false, not, _||_}
 use mathlib.Core.Option.{Option, none, some}
 use mathlib.Core.List.{List, [], _∷_}
-use lib.ListN.{length, getElem?, set}
+use lib.ListN.{getElem?, set}
 use lib.Dec.{eqb}
 use Rattle.definitions.specs.{TableIndex}
-use Rattle.definitions.specs.Stop.{Stops, stop, go, _>>=_, _>>_, stop-if, unwrap}
+use Rattle.definitions.specs.Stop.{Stops, go, _>>=_, _>>_, unwrap}
 use Rattle.definitions.specs.Lists.{is-empty, any-passes}
-use Rattle.definitions.specs.Strand.{SelectedSubgoal, Strand}
+use Rattle.definitions.specs.Strand.{Strand}
 use Rattle.definitions.specs.Table.{Table, with-strands, take-strands}
-use Rattle.definitions.specs.Tables.{Tables, Forest, with-tables, table-at, change-table}
-use Rattle.definitions.specs.Stack.{Stack}
+use Rattle.definitions.specs.Tables.{Forest, with-tables, table-at, change-table}
 use Rattle.definitions.specs.Turn.{clear-each, clear-strands-after-cycle}
-use Rattle.laws.proofs.Lists.{set-here}
-use Rattle.laws.proofs.Options.{no-such, same-some}
+use Rattle.laws.proofs.Lists.{set-here, set-other}
 use borrow.Author.Tests.{eq-eqb, ne-eqb}
-use Rattle.promises.proofs.Asserts.Lists.{set-other}
 use Rattle.split.specs.Acts.{changed, emptied}
 use Rattle.split.specs.Decide.{or, no-table, strands-left, decide-each, decide-clear}
 use Rattle.split.proofs.Matches.{Matches, asserts, both-stop, both-go, Goes, asserting, going, after, sure, by-option, assert}

@@ -1,23 +1,23 @@
 -- No strand left to take: what `on_no_strands_left` comes to is what is decided, and done.
-use Prim.Native.Nat.{ℕ, zero, suc, _+_, _-_}
+use Prim.Native.Nat.{suc, _-_}
 use native.Mathlib.Omega.{arith}
-use mathlib.Core.Path.{_≡_, refl, sym, ap, subst, _∙_}
-use mathlib.Core.Bool.{Bool, true, false, _&&_}
+use mathlib.Core.Path.{_≡_, refl, sym, ap, subst}
+use mathlib.Core.Bool.{true, false, _&&_}
 use mathlib.Core.Option.{Option, none, some}
-use mathlib.Core.List.{List, [], _∷_}
+use mathlib.Core.List.{[], _∷_}
 use lib.ListN.{length, getElem?}
 use lib.Dec.{leb, ltb}
 use Rattle.definitions.specs.{MAX, Ambiguous, is-complete}
 use Rattle.definitions.specs.Book.{Literal, Positive, Negative}
-use Rattle.definitions.specs.Stop.{Stops, stop, go, _>>=_, unwrap}
+use Rattle.definitions.specs.Stop.{Stops, go, _>>=_, unwrap}
 use Rattle.definitions.specs.Lists.{is-empty, remove}
 use Rattle.definitions.specs.Strand.{Strand, with-ex-clause, with-selected, with-subgoals}
 use Rattle.definitions.specs.Table.{Table, with-mode, take-strands}
 use Rattle.definitions.specs.Tables.{Forest, queued}
-use Rattle.definitions.specs.Stack.{StackEntry, Stack, with-active, change-top, no-caller, caller}
-use Rattle.definitions.specs.Logic.{NoMoreSolutions, QuantumExceeded, NegativeCycle, SolveState, Flow, continue, return-err, unwound, activate, enqueue-at-top}
+use Rattle.definitions.specs.Stack.{StackEntry, Stack, with-active, caller}
+use Rattle.definitions.specs.Logic.{QuantumExceeded, NegativeCycle, SolveState, Flow, continue, unwound, activate, enqueue-at-top}
 use Rattle.definitions.specs.Turn.{cycle-minimums, clear-strands-after-cycle, on-no-strands, on-own-cycle, on-part-of-cycle, on-no-strands-left}
-use Rattle.laws.proofs.Lists.{total-set}
+use Rattle.laws.proofs.Totals.{total-set}
 use Rattle.promises.proofs.Asserts.Keeping.{table-is}
 use Rattle.split.specs.Acts.{Act, caller-failed, negative-cycle, clears, part-of-cycle, perform, changed, emptied}
 use Rattle.split.specs.Decide.{no-literal, no-selected, no-strand, or, selected-of, selected-literal, decide-clear, decide-failed, decide-no-strands, decide-part-of-cycle, decide-idle}

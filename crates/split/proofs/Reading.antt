@@ -2,22 +2,21 @@
 -- table that is new has no answer and is not on the stack, so that it is pushed.
 use Prim.Native.Nat.{ℕ, zero, suc, _+_, _≤_, _<_}
 use native.Mathlib.Omega.{arith}
-use mathlib.Core.Path.{_≡_, refl, sym, ap, _∙_}
+use mathlib.Core.Path.{_≡_, refl, ap, _∙_}
 use mathlib.Core.Bool.{Bool, true, false}
 use mathlib.Core.Option.{Option, none, some}
 use mathlib.Core.List.{List, [], _∷_, _++_}
 use lib.ListN.{length, getElem?}
 use lib.Dec.{eqb, leb}
-use Rattle.definitions.specs.{TimeStamp, Answer}
-use Rattle.definitions.specs.Book.{Book}
+use Rattle.definitions.specs.{Answer}
 use Rattle.definitions.specs.Stop.{Stops, go, _>>_, stop-if}
 use Rattle.definitions.specs.Strand.{SelectedSubgoal, Strand}
-use Rattle.definitions.specs.Table.{Table, answer}
+use Rattle.definitions.specs.Table.{Table}
 use Rattle.definitions.specs.Tables.{Tables, Forest}
 use Rattle.definitions.specs.Stack.{StackEntry, Stack, is-active}
 use Rattle.laws.proofs.Lists.{at-append}
+use Rattle.laws.proofs.All.{All, all-first, all-rest}
 use borrow.Author.Tests.{ne-eqb}
-use Rattle.promises.proofs.Asserts.Lists.{All, all-first, all-rest}
 use Rattle.split.specs.Acts.{Deed, pushes, built, with-made}
 use Rattle.split.specs.Decide.{or, no-table, table-of, decide-awaiting, decide-merge, decide-cycle}
 use Rattle.split.proofs.Choosing.{unanswered}

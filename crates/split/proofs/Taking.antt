@@ -1,19 +1,18 @@
 -- Taking a strand: the live strands and the heads are the same before and after.
 use Prim.Native.Nat.{ℕ, zero, suc, _+_}
 use native.Mathlib.Omega.{arith}
-use mathlib.Core.Path.{_≡_, refl, sym, ap, subst, _∙_}
-use mathlib.Core.Bool.{Bool}
-use mathlib.Core.Option.{Option, none, some}
+use mathlib.Core.Path.{_≡_, refl, sym, ap, _∙_}
+use mathlib.Core.Option.{none, some}
 use mathlib.Core.List.{List, [], _∷_, _++_, map}
 use lib.ListN.{length, getElem?, set, drop, take}
-use Rattle.definitions.specs.Lists.{rotate-left, position}
+use Rattle.definitions.specs.Lists.{rotate-left}
 use Rattle.definitions.specs.Strand.{Strand}
-use Rattle.definitions.specs.Table.{Table, with-strands, take-strands, pop-front, dequeue-next-strand-that}
+use Rattle.definitions.specs.Table.{Table, with-strands, take-strands, pop-front}
 use Rattle.definitions.specs.Tables.{Tables, Forest, with-tables, queued, held}
 use Rattle.definitions.specs.Stack.{StackEntry, Stack, with-active, active, active-count}
-use Rattle.laws.proofs.Lists.{total-set}
+use Rattle.definitions.proofs.Lists.{length-rotate-left}
 use Rattle.laws.proofs.Options.{no-such, same-some}
-use Rattle.promises.proofs.Asserts.Lists.{rotate-length}
+use Rattle.laws.proofs.Totals.{total-set}
 use Rattle.split.specs.Acts.{changed}
 use Rattle.split.proofs.Writing.{heads, changed-is}
 
@@ -63,7 +62,7 @@ module _ (f : Forest) (i : ℕ) (t : Table) (k : getElem? (f .tables) i ≡ some
       let a = total-set (λ u. length (u .strands)) (f .tables) i t (without first t) k in
       let b = ap queued (changed-is f i t (without first) k) in
       let c = shorter (rotate-left (t .strands) first) (rotated (t .strands) (take first (t .strands)) first s q) in
-      let d = rotate-length (t .strands) first in
+      let d = length-rotate-left (t .strands) first in
       omega arith
 
   pub same-heads : heads (changed f i (without first)) ≡ heads f

@@ -1,7 +1,7 @@
 -- A turn is what is decided, done: the stops of a turn are those of deciding, and what it leaves is what performing leaves.
 use Prim.Native.Nat.{ℕ, suc, _+_, _*_}
 use mathlib.Core.Path.{_≡_, refl, sym, ap, subst, _∙_}
-use mathlib.Core.Bool.{Bool, true, false}
+use mathlib.Core.Bool.{Bool}
 use mathlib.Core.Option.{Option, none, some}
 use mathlib.Core.List.{List, [], _∷_}
 use lib.ListN.{length, getElem?}
@@ -14,14 +14,14 @@ use Rattle.definitions.specs.Tables.{Forest, with-mark, change-table, queued, h
 use Rattle.definitions.specs.Stack.{StackEntry, Stack, with-active, active}
 use Rattle.definitions.specs.Logic.{SubGoalSelection, Selected, NotSelected, SolveState, with-forest, Flow, continue, return-ok, return-err, select-subgoal}
 use Rattle.definitions.specs.Turn.{on-subgoal-selected, on-no-remaining-subgoals, on-no-strands-left, eligible, turn, Searched, stopped, fail, put-back, ok-ending, search-turns}
+use Rattle.definitions.proofs.Lists.{position-at}
 use Rattle.promises.proofs.Asserts.Safe.{Safe}
 use Rattle.promises.proofs.Asserts.Keeping.{change-is}
-use Rattle.promises.proofs.Asserts.Lists.{position-at}
 use Rattle.promises.proofs.Asserts.Sound.{SoundState}
 use Rattle.promises.proofs.Asserts.Unwinding.{Flows}
 use Rattle.promises.proofs.Asserts.Turns.{turn-keeps}
 use Rattle.split.specs.Acts.{Origin, was-active, was-queued, Deed, Act, takes, perform-deed, perform, taken, with-made, changed}
-use Rattle.split.specs.Decide.{or, no-table, no-strand, table-of, View, Picked, picking, decide-subgoal, decide-deed, decide-idle, decide}
+use Rattle.split.specs.Decide.{or, no-table, no-strand, table-of, Picked, picking, decide-subgoal, decide-deed, decide-idle, decide}
 use Rattle.split.proofs.Matches.{Matches, asserts, both-stop, both-go, after, on-unwrap, matched, safe-too}
 use Rattle.split.proofs.Writing.{state, changed-is, heads}
 use Rattle.split.proofs.Deeds.{Does, on-selected}

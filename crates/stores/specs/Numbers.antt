@@ -5,9 +5,31 @@ use mathlib.Core.List.{List}
 use lib.ListN.{getD, set}
 use lib.Dec.{eqb, ltb}
 
--- the ring of the free places
+-- THE LIMITS; those of a store's places are in crate `rings`
+abbrev pub most-tables : ℕ
+most-tables = 64
+
+-- a table is on the stack at most once
+abbrev pub most-entries : ℕ
+most-entries = most-tables
+
+-- goals of a book
+abbrev pub most-goals : ℕ
+most-goals = 64
+
+abbrev pub most-literals : ℕ
+most-literals = 8
+
+-- what a strand waits on is a table, raised by this for a "not", or nothing
+abbrev pub waits-not : ℕ
+waits-not = most-tables
+
+abbrev pub waits-nothing : ℕ
+waits-nothing = 255
+
+-- the ring of the free places: the first that is no table's
 abbrev pub free : ℕ
-free = 64
+free = most-tables
 
 abbrev pub flag : ℕ → Bool
 flag n = not (eqb n 0)
@@ -33,14 +55,14 @@ number-if false n = 0
 
 -- one more, where there is room
 abbrev pub count-after : ℕ → ℕ
-count-after n = add-if (ltb n 64) n
+count-after n = add-if (ltb n most-tables) n
 
 -- a write at an index, where there is one
 abbrev pub written-at : (i x : ℕ) → List ℕ → List ℕ
-written-at i x l = set-if (ltb i 64) i x l
+written-at i x l = set-if (ltb i most-tables) i x l
 
 abbrev pub within : ℕ → ℕ
-within n = min n 64
+within n = min n most-tables
 
 -- the first of n numbers from i on that passes the test; i + n where none does
 abbrev pub first-at : (ℕ → Bool) → (i n : ℕ) → ℕ
@@ -54,4 +76,4 @@ all-from test i (suc n) = test i && all-from test (suc i) n
 
 -- the flag of table t in a list of flags
 abbrev pub flag-at : (t : ℕ) → List ℕ → Bool
-flag-at t l = ltb t 64 && flag (getD l t 0)
+flag-at t l = ltb t most-tables && flag (getD l t 0)

@@ -6,7 +6,7 @@ use mathlib.Core.List.{List, [], _∷_}
 use lib.ListN.{length, take, getD, set, replicate}
 use lib.Dec.{eqb, ltb}
 use Rattle.rings.specs.Lists.{first-index}
-use Rattle.rings.specs.Rings.{ring-of, end, linked, lengthened, moved-next, moved-tail, joined, place-if, unlinked, shortened}
+use Rattle.rings.specs.Rings.{ring-of, end, linked, lengthened, moved-next, moved-tail, joined, most-places, place-if, unlinked, shortened}
 use Rattle.stores.specs.declared.places.Places.{Places}
 use Rattle.stores.specs.Numbers.{free}
 
@@ -72,7 +72,7 @@ popped t p = record {
 abbrev pub fresh : Places → Places
 fresh p = record { next = p .next; tail = p .tail; len = p .len; top = p .top + 1 }
 
--- `take_place`: a free place, else one that was never used, else 256
+-- `take_place`: a free place, else one that was never used, else none
 abbrev pub freed-if : (any room : Bool) → Places → Places
 freed-if true room p = popped free p
 freed-if false true p = fresh p
@@ -81,13 +81,13 @@ freed-if false false p = p
 abbrev pub free-place-if : (any room : Bool) → Places → ℕ
 free-place-if true room p = getD (ring p free) 0 0
 free-place-if false true p = p .top
-free-place-if false false p = 256
+free-place-if false false p = most-places
 
 abbrev pub any-free : Places → Bool
 any-free p = ltb 0 (getD (p .len) free 0)
 
 abbrev pub any-fresh : Places → Bool
-any-fresh p = ltb (p .top) 256
+any-fresh p = ltb (p .top) most-places
 
 abbrev pub freed : Places → Places
 freed p = freed-if (any-free p) (any-fresh p) p
@@ -117,15 +117,15 @@ numbered-by false variant v key k = eqb variant v
 abbrev pub numbered : (by-key : Bool) → (variant : List ℕ) → (v : ℕ) → (key : List ℕ) → (k : ℕ) → ℕ → Bool
 numbered by-key variant v key k q = numbered-by by-key (getD variant q 0) v (getD key q 0) k
 
--- the first of a list of places that passes the test, or 256
+-- the first of a list of places that passes the test, or none
 abbrev pub found-or : Bool → (q r : ℕ) → ℕ
 found-or true q r = q
 found-or false q r = r
 
 abbrev pub found-in : (ℕ → Bool) → List ℕ → ℕ
-found-in test [] = 256
+found-in test [] = most-places
 found-in test (q ∷ l) = found-or (test q) q (found-in test l)
 
 -- no place was used
 abbrev pub blank-places : Places
-blank-places = record { next = replicate 256 0; tail = replicate 256 0; len = replicate 256 0; top = 0 }
+blank-places = record { next = replicate most-places 0; tail = replicate most-places 0; len = replicate most-places 0; top = 0 }

@@ -9,6 +9,7 @@ use lib.Dec.{eqb, ltb}
 use Rattle.definitions.specs.Book as books
 use Rattle.definitions.specs.Strand as held
 use Rattle.book.specs.declared.Literal.{Literal}
+use Rattle.rings.specs.Rings.{most-places}
 use Rattle.strands.specs.declared.Floundered.{Floundered}
 use Rattle.strands.specs.declared.Selected.the-variants.{Nothing}
 use Rattle.strands.specs.declared.Strand.{Strand}
@@ -16,7 +17,7 @@ use Rattle.strands.specs.View.{clause, selected, is-negative}
 use Rattle.stores.specs.declared.places.Places.{Places}
 use Rattle.stores.specs.declared.queue.Strands.{Strands}
 use Rattle.stores.specs.declared.queue.Spot.{Spot}
-use Rattle.stores.specs.Numbers.{free, flag-number}
+use Rattle.stores.specs.Numbers.{most-tables, most-literals, waits-not, waits-nothing, free, flag-number}
 use Rattle.stores.specs.Places.{places, ring, enqueued, taken, taken-place, has-one, freed, free-place, moved-to, blank-places}
 use Rattle.stores.specs.View.{strand-at}
 
@@ -26,16 +27,16 @@ abbrev pub is-not : Option books.Literal → Bool
 is-not none = false
 is-not (some l) = is-negative l
 
--- a table, 64 added for a "not"; 255 for one that can't be
+-- a table, and its sign; nothing for a table that can't be
 abbrev pub waits-on : (can-be negative : Bool) → (table : ℕ) → ℕ
-waits-on true true t = t + 64
+waits-on true true t = t + waits-not
 waits-on true false t = t
-waits-on false negative t = 255
+waits-on false negative t = waits-nothing
 
--- what the strand waits on: the table that it has selected, and the selected literal's sign; 255 where nothing is selected
+-- what the strand waits on: the table that it has selected, and the selected literal's sign; or nothing
 abbrev pub waits-for : List books.Literal → Option held.SelectedSubgoal → ℕ
-waits-for l none = 255
-waits-for l (some w) = waits-on (ltb (w .subgoal-table) 64) (is-not (getElem? l (w .subgoal-index))) (w .subgoal-table)
+waits-for l none = waits-nothing
+waits-for l (some w) = waits-on (ltb (w .subgoal-table) most-tables) (is-not (getElem? l (w .subgoal-index))) (w .subgoal-table)
 
 abbrev pub waits-of : Strand → ℕ
 waits-of x = waits-for (clause x .subgoals) (selected (x .selected))
@@ -114,7 +115,7 @@ test-at clock complete s q = eligible (s .time) (s .ambiguous) clock complete q
 abbrev pub taken-strand : (clock : ℕ) → (complete : Bool) → (t : ℕ) → Strands → Strands
 taken-strand clock complete t s = with-places s (taken (test-at clock complete s) t (s .places))
 
--- its place, or 256
+-- its place, or none
 abbrev pub strand-place : (clock : ℕ) → (complete : Bool) → (t : ℕ) → Strands → ℕ
 strand-place clock complete t s = taken-place (test-at clock complete s) t (s .places)
 
@@ -155,19 +156,19 @@ blank-strand = record {
   «literal_count» = 0;
   «floundered_count» = 0;
   «delayed_count» = 0;
-  literals = replicate 8 blank-literal;
-  floundered = replicate 8 blank-floundered;
-  delayed = replicate 8 0;
+  literals = replicate most-literals blank-literal;
+  floundered = replicate most-literals blank-floundered;
+  delayed = replicate most-literals 0;
   selected = Nothing;
 }
 
 abbrev pub blank-strands : Strands
 blank-strands = record {
-  strands = replicate 256 blank-strand;
-  time = replicate 256 0;
-  ambiguous = replicate 256 0;
-  variant = replicate 256 0;
-  waits = replicate 256 255;
-  wants = replicate 256 0;
+  strands = replicate most-places blank-strand;
+  time = replicate most-places 0;
+  ambiguous = replicate most-places 0;
+  variant = replicate most-places 0;
+  waits = replicate most-places waits-nothing;
+  wants = replicate most-places 0;
   places = blank-places;
 }

@@ -4,7 +4,7 @@ use mathlib.Core.Path.{_≡_}
 use mathlib.Core.List.{List, [], _∷_}
 use lib.ListN.{length, getD}
 use Rattle.rings.specs.Lists.{times, All}
-use Rattle.rings.specs.Rings.{RingSound}
+use Rattle.rings.specs.Rings.{most-places, RingSound}
 use Rattle.strands.specs.declared.Strand.{Strand}
 use Rattle.strands.specs.declared.Answer.{Answer}
 use Rattle.strands.specs.View.{answer, Sound, SoundAnswer}
@@ -13,7 +13,7 @@ use Rattle.stores.specs.declared.queue.Strands.{Strands}
 use Rattle.stores.specs.declared.table.Answers.{Answers}
 use Rattle.stores.specs.declared.tables.Tables.{Tables}
 use Rattle.stores.specs.declared.stack.Stack.{Stack}
-use Rattle.stores.specs.Numbers.{free, flag-number}
+use Rattle.stores.specs.Numbers.{most-tables, most-entries, most-goals, free, flag-number}
 use Rattle.stores.specs.Places.{ring}
 use Rattle.stores.specs.View.{unread-strand, unread-answer}
 use Rattle.stores.specs.Queue.{waits-of, wants-of}
@@ -49,12 +49,12 @@ InUse s q = OwnNumbers (getD (s .strands) q unread-strand) (getD (s .ambiguous) 
 
 -- the arrays of the strand store
 pub record LongStrands (strands : List Strand) (time ambiguous variant waits wants : List ℕ) : Type 0 where
-  pub long-strands : length strands ≡ 256
-  pub long-time : length time ≡ 256
-  pub long-ambiguous : length ambiguous ≡ 256
-  pub long-variant : length variant ≡ 256
-  pub long-waits : length waits ≡ 256
-  pub long-wants : length wants ≡ 256
+  pub long-strands : length strands ≡ most-places
+  pub long-time : length time ≡ most-places
+  pub long-ambiguous : length ambiguous ≡ most-places
+  pub long-variant : length variant ≡ most-places
+  pub long-waits : length waits ≡ most-places
+  pub long-wants : length wants ≡ most-places
 
 abbrev pub Long : Strands → Type 0
 Long s = LongStrands (s .strands) (s .time) (s .ambiguous) (s .variant) (s .waits) (s .wants)
@@ -75,7 +75,7 @@ pub record Ready (s : Strands) (n : ℕ) (held : List ℕ) (q : ℕ) : Type 0 wh
 -- an answer that may be stored: it is sound, and what it delays are goals that a book can have, so that its key is its own
 pub record GoodAnswer (x : Answer) : Type 0 where
   pub sound : SoundAnswer x
-  pub goals : All (λ g. g < 64) (answer x .delayed-subgoals)
+  pub goals : All (λ g. g < most-goals) (answer x .delayed-subgoals)
 
 -- one that is stored: the numbers beside it are its own
 pub record OwnAnswerNumbers (x : Answer) (variant key ambiguous : ℕ) : Type 0 where
@@ -89,10 +89,10 @@ Stored a q = OwnAnswerNumbers (getD (a .answers) q unread-answer) (getD (a .vari
 
 -- the arrays of the answers
 pub record LongAnswers (answers : List Answer) (variant key ambiguous : List ℕ) : Type 0 where
-  pub long-answers : length answers ≡ 256
-  pub long-variant : length variant ≡ 256
-  pub long-key : length key ≡ 256
-  pub long-ambiguous : length ambiguous ≡ 256
+  pub long-answers : length answers ≡ most-places
+  pub long-variant : length variant ≡ most-places
+  pub long-key : length key ≡ most-places
+  pub long-ambiguous : length ambiguous ≡ most-places
 
 -- no answer is in hand
 pub record SoundAnswers (a : Answers) (n : ℕ) : Type 0 where
@@ -101,17 +101,17 @@ pub record SoundAnswers (a : Answers) (n : ℕ) : Type 0 where
   pub stored : (t q : ℕ) → t < n → 1 ≤ times q (ring (a .places) t) → Stored a q
 
 pub record SoundTables (ts : Tables) : Type 0 where
-  pub few : ts .count ≤ 64
-  pub long-goal : length (ts .goal) ≡ 64
-  pub long-coinductive : length (ts .coinductive) ≡ 64
-  pub long-floundered : length (ts .floundered) ≡ 64
-  pub long-complete : length (ts .complete) ≡ 64
+  pub few : ts .count ≤ most-tables
+  pub long-goal : length (ts .goal) ≡ most-tables
+  pub long-coinductive : length (ts .coinductive) ≡ most-tables
+  pub long-floundered : length (ts .floundered) ≡ most-tables
+  pub long-complete : length (ts .complete) ≡ most-tables
 
 pub record SoundStack (k : Stack) : Type 0 where
-  pub few : k .depth ≤ 64
-  pub long-table : length (k .table) ≡ 64
-  pub long-clock : length (k .clock) ≡ 64
-  pub long-positive : length (k .positive) ≡ 64
-  pub long-negative : length (k .negative) ≡ 64
-  pub long-active : length (k .active) ≡ 64
-  pub places : (i : ℕ) → i < k .depth → getD (k .active) i 0 ≤ 256
+  pub few : k .depth ≤ most-entries
+  pub long-table : length (k .table) ≡ most-entries
+  pub long-clock : length (k .clock) ≡ most-entries
+  pub long-positive : length (k .positive) ≡ most-entries
+  pub long-negative : length (k .negative) ≡ most-entries
+  pub long-active : length (k .active) ≡ most-entries
+  pub places : (i : ℕ) → i < k .depth → getD (k .active) i 0 ≤ most-places

@@ -9,6 +9,7 @@ use lib.Dec.{ltb}
 use Rattle.definitions.specs as said
 use Rattle.definitions.specs.Stop.{stop, go}
 use Rattle.definitions.specs.Table.{Table, push-answer, next-answer-index}
+use Rattle.rings.specs.Rings.{most-places}
 use Rattle.strands.specs.declared.Answer.{Answer}
 use Rattle.strands.specs.View.{answer}
 use Rattle.stores.specs.declared.places.Places.{Places}
@@ -16,7 +17,7 @@ use Rattle.stores.specs.declared.table.Answers.{Answers}
 use Rattle.stores.specs.declared.table.PushAnswer.{PushAnswer}
 use Rattle.stores.specs.declared.table.PushAnswer.the-variants.{Repeat, Stop, New}
 use Rattle.stores.specs.declared.tables.Tables.{Tables}
-use Rattle.stores.specs.Numbers.{free, flag, flag-number, written-at}
+use Rattle.stores.specs.Numbers.{most-literals, free, flag, flag-number, written-at}
 use Rattle.stores.specs.Places.{places, ring, enqueued, freed, free-place, moved-to, numbered, found-in, blank-places}
 use Rattle.stores.specs.View.{answer-at}
 
@@ -86,11 +87,11 @@ module _ (variant key ambiguous : List ℕ) (t : ℕ) (x : Answer) (p : Places) 
   same-place = found-in (numbered true variant (x .variant) key (key-of (answer x .delayed-subgoals))) (ring p t)
 
   abbrev pub push-outcome : PushAnswer
-  push-outcome = outcome-if (ltb same-place 256) (repeated-of (flag (getD ambiguous same-place 0)) (x .ambiguous))
-      (new-if (ltb (free-place p) 256) (free-place p))
+  push-outcome = outcome-if (ltb same-place most-places) (repeated-of (flag (getD ambiguous same-place 0)) (x .ambiguous))
+      (new-if (ltb (free-place p) most-places) (free-place p))
 
   abbrev pub pushed-places : Places
-  pushed-places = pushed-if (ltb same-place 256) p (room-if (ltb (free-place p) 256) t p)
+  pushed-places = pushed-if (ltb same-place most-places) p (room-if (ltb (free-place p) most-places) t p)
 
 pub record AnswerPushed (variant key ambiguous next tail len : List ℕ) (top t : ℕ) (x : Answer) (next′ tail′ len′ : List ℕ) (top′ : ℕ)
     (r : PushAnswer) : Type 0 where
@@ -107,7 +108,7 @@ PushMeans held x table new (New q) = push-answer held x table ≡ go (some (next
 abbrev pub PushLeaves : (before new after : Places) → PushAnswer → Type 0
 PushLeaves p new p′ Repeat = p′ ≡ p
 PushLeaves p new p′ (Stop n) = p′ ≡ p
-PushLeaves p new p′ (New q) = (q ≡ free-place p) × (q < 256) × (p′ ≡ new)
+PushLeaves p new p′ (New q) = (q ≡ free-place p) × (q < most-places) × (p′ ≡ new)
 
 -- `mark_floundered`, of the table's own numbers
 abbrev pub marked : (t : ℕ) → Tables → Tables
@@ -115,13 +116,13 @@ marked t ts = record { count = ts .count; goal = ts .goal; coinductive = ts .coi
 
 -- BLANK
 abbrev pub blank-answer : Answer
-blank-answer = record { variant = 0; ambiguous = false; «delayed_count» = 0; delayed = replicate 8 0 }
+blank-answer = record { variant = 0; ambiguous = false; «delayed_count» = 0; delayed = replicate most-literals 0 }
 
 abbrev pub blank-answers : Answers
 blank-answers = record {
-  answers = replicate 256 blank-answer;
-  variant = replicate 256 0;
-  key = replicate 256 0;
-  ambiguous = replicate 256 0;
+  answers = replicate most-places blank-answer;
+  variant = replicate most-places 0;
+  key = replicate most-places 0;
+  ambiguous = replicate most-places 0;
   places = blank-places;
 }

@@ -5,10 +5,10 @@ use mathlib.Core.List.{List}
 use lib.ListN.{getD, replicate}
 use lib.Dec.{ltb}
 use Rattle.stores.specs.declared.tables.Tables.{Tables}
-use Rattle.stores.specs.Numbers.{flag-number, number-if, count-after, written-at}
+use Rattle.stores.specs.Numbers.{most-tables, flag-number, number-if, count-after, written-at}
 
 abbrev pub table-goal-at : (t : ℕ) → List ℕ → ℕ
-table-goal-at t l = number-if (ltb t 64) (getD l t 0)
+table-goal-at t l = number-if (ltb t most-tables) (getD l t 0)
 
 -- `insert` of a new table, with its flags
 abbrev pub inserted : (goal : ℕ) → (coinductive floundered : Bool) → Tables → Tables
@@ -20,4 +20,4 @@ moded t b ts = record { count = ts .count; goal = ts .goal; coinductive = ts .co
 
 -- no table is made
 abbrev pub blank-tables : Tables
-blank-tables = record { count = 0; goal = replicate 64 0; coinductive = replicate 64 0; floundered = replicate 64 0; complete = replicate 64 0 }
+blank-tables = record { count = 0; goal = replicate most-tables 0; coinductive = replicate most-tables 0; floundered = replicate most-tables 0; complete = replicate most-tables 0 }

@@ -11,6 +11,7 @@ use Rattle.definitions.specs.Table as table
 use Rattle.definitions.specs.Tables as forest
 use Rattle.definitions.specs.Stack as stack
 use Rattle.book.specs.View.{span}
+use Rattle.rings.specs.Rings.{most-places}
 use Rattle.strands.specs.declared.Strand.{Strand}
 use Rattle.strands.specs.declared.Answer.{Answer}
 use Rattle.strands.specs.declared.Selected.the-variants.{Nothing}
@@ -48,7 +49,7 @@ tables ts s a = span (held-table ts s a) 0 (ts .count)
 
 -- an active strand by its place
 abbrev pub active-strand-at : Strands → ℕ → Option held.Strand
-active-strand-at s p = elim (eqb p 256) [ true ↦ none | false ↦ some (strand-at s p) ]
+active-strand-at s p = elim (eqb p most-places) [ true ↦ none | false ↦ some (strand-at s p) ]
 
 abbrev pub entry-at : Stack → Strands → ℕ → stack.StackEntry
 entry-at k s i = record { table = getD (k .table) i 0; clock = getD (k .clock) i 0; cyclic-minimums = record { positive = getD (k .positive) i 0; negative = getD (k .negative) i 0 }; active-strand = active-strand-at s (getD (k .active) i 0) }
@@ -65,4 +66,4 @@ entered k s = entries k s (k .depth)
 -- the places that the entries hold
 abbrev pub active-places : List ℕ → ℕ → List ℕ
 active-places active zero = []
-active-places active (suc n) = elim (eqb (getD active n 0) 256) [ true ↦ active-places active n | false ↦ getD active n 0 ∷ active-places active n ]
+active-places active (suc n) = elim (eqb (getD active n 0) most-places) [ true ↦ active-places active n | false ↦ getD active n 0 ∷ active-places active n ]

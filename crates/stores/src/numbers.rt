@@ -5,6 +5,21 @@ ghost use lib.ListN.{getD};
 ghost use lib.Dec.{eqb};
 ghost use Rattle.stores.specs.Numbers.{flag-number, written-at, flag-at, first-at, within};
 
+// THE LIMITS, which have the same names in `specs/Numbers.antt`; the places of a store are `PLACES` of crate `rings`.
+pub const MOST_TABLES: usize = 64;
+// A table is on the stack at most once.
+pub const MOST_ENTRIES: usize = 64;
+
+pub const MOST_LITERALS: usize = 8;
+// The ring of the free places: the first that is no table's.
+pub const FREE: u8 = 64;
+// What a strand waits on is a table, raised by this for a "not", or nothing.
+pub const WAITS_NOT: u8 = 64;
+
+pub const WAITS_NOTHING: u8 = 255;
+// No place, where a place is kept in two bytes.
+pub const NO_PLACE: u16 = 256;
+
 // A flag as it is kept in an array of numbers.
 pub fn flag_of(b: bool) -> u8
     ensures { λ r. ⌜ r ≡ flag-number b ⌝ }
@@ -13,34 +28,36 @@ pub fn flag_of(b: bool) -> u8
 }
 
 // Whether a flag of a table is set: floundered, coinductive, or that it wants complete answers.
-pub fn flag_at(flags: &[u8; 64], t: u8) -> bool
+pub fn flag_at(flags: &[u8; MOST_TABLES], t: u8) -> bool
     ensures { λ r. ⌜ r ≡ flag-at t (now (flags .entry)) ⌝ }
 {
-    if t >= 64 {
+    let i = t as usize;
+    if i >= MOST_TABLES {
         return false;
     }
-    flags[t as usize] != 0
+    flags[i] != 0
 }
 
 // A flag of a table is set: the answer mode, or floundered.
-pub fn set_flag(flags: &mut [u8; 64], t: u8, flag: bool)
+pub fn set_flag(flags: &mut [u8; MOST_TABLES], t: u8, flag: bool)
     ensures { λ _. ⌜ now (flags .exit) ≡ written-at t (flag-number flag) (now (flags .entry)) ⌝ }
 {
-    if t >= 64 {
+    let i = t as usize;
+    if i >= MOST_TABLES {
         return;
     }
-    flags[t as usize] = flag_of(flag);
+    flags[i] = flag_of(flag);
 }
 
 pub fn upto(n: usize) -> usize
     ensures { λ r. ⌜ r ≡ within n ⌝ }
 {
-    if n > 64 { 64 } else { n }
+    if n > MOST_TABLES { MOST_TABLES } else { n }
 }
 
 // Where x stands first among the first n, or n (64 at most) where it doesn't. `is_active` for the tables of the entries, `index_of` for
 // the goals of the tables.
-pub fn first_of(xs: &[u8; 64], n: usize, x: u8) -> usize
+pub fn first_of(xs: &[u8; MOST_TABLES], n: usize, x: u8) -> usize
     ensures { λ r. ⌜ r ≡ first-at (λ i. eqb (getD (now (xs .entry)) i 0) x) 0 (within n) ⌝ }
 {
     let m = upto(n);

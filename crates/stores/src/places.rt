@@ -1,5 +1,8 @@
 // Places of a store: a free one is found here, and one by the numbers that stand beside it; the rings' own operations are in the crate
 // `rings`.
+use crate::numbers::FREE;
+use crate::numbers::NO_PLACE;
+use rings::PLACES;
 use rings::ring_pop;
 ghost use mathlib.Core.Path.{_≡_};
 ghost use mathlib.Core.Bool.{_&&_};
@@ -7,14 +10,15 @@ ghost use Prim.Native.Nat.{_-_, _<_};
 ghost use lib.ListN.{drop, getD};
 ghost use lib.Dec.{eqb};
 ghost use Rattle.rings.specs.Rings.{ring-of};
+ghost use Rattle.stores.specs.Numbers.{free};
 ghost use Rattle.stores.specs.Places.{TookPlace, numbered-by, numbered, found-in, blank-places};
 
 // Rings of the places of a store: ring t is that of table t, ring 64 that of the places that were used and are free again. The places
 // from `top` on were never used.
 pub struct Places {
-    pub next: [u8; 256],
-    pub tail: [u8; 256],
-    pub len: [u16; 256],
+    pub next: [u8; PLACES],
+    pub tail: [u8; PLACES],
+    pub len: [u16; PLACES],
     pub top: u16,
 }
 
@@ -22,39 +26,39 @@ pub fn blank_places() -> Places
     ensures { λ r. ⌜ r ≡ blank-places ⌝ }
 {
     Places {
-        next: [0; 256],
-        tail: [0; 256],
-        len: [0; 256],
+        next: [0; PLACES],
+        tail: [0; PLACES],
+        len: [0; PLACES],
         top: 0,
     }
 }
 
 // A place that was used and is free again, else one that was never used; 256 where all are in use.
 pub fn take_place(
-    next: &mut [u8; 256],
-    tail: &[u8; 256],
-    len: &mut [u16; 256],
+    next: &mut [u8; PLACES],
+    tail: &[u8; PLACES],
+    len: &mut [u16; PLACES],
     top: &mut u16,
 ) -> usize
     ensures { λ r. ⌜ TookPlace (now (next .entry)) (now (tail .entry)) (now (len .entry)) (now (top .entry))
         (now (next .exit)) (now (len .exit)) (now (top .exit)) r ⌝ }
 {
-    if len[64] > 0 {
-        return ring_pop(next, tail, len, 64);
+    if len[FREE as usize] > 0 {
+        return ring_pop(next, tail, len, FREE);
     }
     let t = *top;
-    if t < 256 {
+    if t < NO_PLACE {
         *top = t + 1;
         return t as usize;
     }
-    256
+    PLACES
 }
 
 // How many places are in use: they wait in a table's ring, or are held.
-pub fn in_use(len: &[u16; 256], top: u16) -> u16
-    ensures { λ r. ⌜ r ≡ top - getD (now (len .entry)) 64 0 ⌝ }
+pub fn in_use(len: &[u16; PLACES], top: u16) -> u16
+    ensures { λ r. ⌜ r ≡ top - getD (now (len .entry)) free 0 ⌝ }
 {
-    let free = len[64];
+    let free = len[FREE as usize];
     if free < top { top - free } else { 0 }
 }
 
@@ -89,14 +93,14 @@ fn hit(skip: usize, by_key: bool, variant: u16, v: u16, key: u64, k: u64) -> boo
 // The first place of the table's ring, from an index on, whose variant is v and, where keys are looked for, whose key is k; 256 where
 // there is none.
 pub fn find_number(
-    next: &[u8; 256],
-    tail: &[u8; 256],
-    len: &[u16; 256],
+    next: &[u8; PLACES],
+    tail: &[u8; PLACES],
+    len: &[u16; PLACES],
     t: u8,
     from: usize,
-    variant: &[u16; 256],
+    variant: &[u16; PLACES],
     v: u16,
-    key: &[u64; 256],
+    key: &[u64; PLACES],
     k: u64,
     by_key: bool,
 ) -> usize
@@ -116,5 +120,5 @@ pub fn find_number(
         prev = p;
         left = left - 1;
     }
-    256
+    PLACES
 }

@@ -1,10 +1,15 @@
-// table.rs, the queue of strands: the strands stand at the places of a table's ring in the order in which they wait. `[Strand; 256]` is
+// table.rs, the queue of strands: the strands stand at the places of a table's ring in the order in which they wait. `[Strand; PLACES]` is
 // written by whoever owns it. What is read of a strand without the strand itself stands beside it in arrays of numbers, which can be lent.
+use crate::numbers::MOST_LITERALS;
+use crate::numbers::MOST_TABLES;
+use crate::numbers::WAITS_NOT;
+use crate::numbers::WAITS_NOTHING;
 use crate::numbers::flag_of;
 use crate::places::Places;
 use crate::places::blank_places;
 use crate::places::find_number;
 use book::Literal;
+use rings::PLACES;
 use rings::ring_unlink;
 use strands::Floundered;
 use strands::Selected;
@@ -17,19 +22,19 @@ ghost use Prim.Native.Nat.{_<_};
 ghost use lib.ListN.{take, getD, set, getElem?};
 ghost use lib.Dec.{ltb};
 ghost use Rattle.book.specs.View.{meant};
-ghost use Rattle.rings.specs.Rings.{ring-of};
-ghost use Rattle.stores.specs.Numbers.{flag-number};
+ghost use Rattle.rings.specs.Rings.{most-places, ring-of};
+ghost use Rattle.stores.specs.Numbers.{most-tables, flag-number};
 ghost use Rattle.stores.specs.Places.{numbered, found-in};
 ghost use Rattle.stores.specs.Queue.{is-not, waits-on, waits-of, wants-of, eligible-at, eligible, spot-from, TookStrand, blank-strands};
 
 // The strands by place, and the numbers beside them: `waits` is what a strand waits on and `wants` the answer index that it wants.
 pub struct Strands {
-    pub strands: [Strand; 256],
-    pub time: [u64; 256],
-    pub ambiguous: [u8; 256],
-    pub variant: [u16; 256],
-    pub waits: [u8; 256],
-    pub wants: [u16; 256],
+    pub strands: [Strand; PLACES],
+    pub time: [u64; PLACES],
+    pub ambiguous: [u8; PLACES],
+    pub variant: [u16; PLACES],
+    pub waits: [u8; PLACES],
+    pub wants: [u16; PLACES],
     pub places: Places,
 }
 
@@ -54,44 +59,46 @@ pub fn blank_strands() -> Strands
         literal_count: 0,
         floundered_count: 0,
         delayed_count: 0,
-        literals: [l; 8],
-        floundered: [f; 8],
-        delayed: [0; 8],
+        literals: [l; MOST_LITERALS],
+        floundered: [f; MOST_LITERALS],
+        delayed: [0; MOST_LITERALS],
         selected: Selected::Nothing,
     };
     let p = blank_places();
     Strands {
-        strands: [b; 256],
-        time: [0; 256],
-        ambiguous: [0; 256],
-        variant: [0; 256],
-        waits: [255; 256],
-        wants: [0; 256],
+        strands: [b; PLACES],
+        time: [0; PLACES],
+        ambiguous: [0; PLACES],
+        variant: [0; PLACES],
+        waits: [WAITS_NOTHING; PLACES],
+        wants: [0; PLACES],
         places: p,
     }
 }
 
 // Whether the literal at an index of the first `count` is a "not".
-fn is_not(literals: [Literal; 8], count: u8, index: u8) -> bool
+fn is_not(literals: [Literal; MOST_LITERALS], count: u8, index: u8) -> bool
     ensures { λ r. ⌜ r ≡ is-not (getElem? (map meant (take count literals)) index) ⌝ }
 {
     if index >= count {
         return false;
     }
-    if index >= 8 {
+    let i = index as usize;
+    if i >= MOST_LITERALS {
         return false;
     }
-    is_negative(literals[index as usize])
+    is_negative(literals[i])
 }
 
 fn waits_on(table: u8, negative: bool) -> u8
-    ensures { λ r. ⌜ r ≡ waits-on (ltb table 64) negative table ⌝ }
+    ensures { λ r. ⌜ r ≡ waits-on (ltb table most-tables) negative table ⌝ }
 {
-    if table >= 64 {
-        return 255;
+    let t = table as usize;
+    if t >= MOST_TABLES {
+        return WAITS_NOTHING;
     }
     if negative {
-        return table + 64;
+        return table + WAITS_NOT;
     }
     table
 }
@@ -102,7 +109,7 @@ pub fn waits_of(s: Strand) -> u8
 {
     let k = s.selected;
     match k {
-        Selected::Nothing => 255,
+        Selected::Nothing => WAITS_NOTHING,
         Selected::Subgoal {
             index,
             table,
@@ -132,11 +139,11 @@ pub fn wants_of(s: Strand) -> u16
 
 // The numbers beside the strand x, at its place: it was last pursued at the time `at`.
 pub fn number_strand(
-    time: &mut [u64; 256],
-    ambiguous: &mut [u8; 256],
-    variant: &mut [u16; 256],
-    waits: &mut [u8; 256],
-    wants: &mut [u16; 256],
+    time: &mut [u64; PLACES],
+    ambiguous: &mut [u8; PLACES],
+    variant: &mut [u16; PLACES],
+    waits: &mut [u8; PLACES],
+    wants: &mut [u16; PLACES],
     q: u8,
     at: u64,
     x: Strand,
@@ -184,12 +191,12 @@ fn may_take(time: u64, ambiguous: u8, clock: u64, complete: bool) -> bool
 // clock's time and, where the table wants complete answers, isn't ambiguous (logic.rs `ensure_root_answer`). It only looks: `ring_unlink`
 // takes what was found.
 pub fn find_strand(
-    next: &[u8; 256],
-    tail: &[u8; 256],
-    len: &[u16; 256],
+    next: &[u8; PLACES],
+    tail: &[u8; PLACES],
+    len: &[u16; PLACES],
     t: u8,
-    time: &[u64; 256],
-    ambiguous: &[u8; 256],
+    time: &[u64; PLACES],
+    ambiguous: &[u8; PLACES],
     clock: u64,
     complete: bool,
 ) -> Spot
@@ -220,12 +227,12 @@ pub fn find_strand(
 
 // `dequeue_next_strand_that`: the place of the first eligible strand, which is in no queue from now on; 256 where there is none.
 pub fn take_strand(
-    next: &mut [u8; 256],
-    tail: &mut [u8; 256],
-    len: &mut [u16; 256],
+    next: &mut [u8; PLACES],
+    tail: &mut [u8; PLACES],
+    len: &mut [u16; PLACES],
     t: u8,
-    time: &[u64; 256],
-    ambiguous: &[u8; 256],
+    time: &[u64; PLACES],
+    ambiguous: &[u8; PLACES],
     clock: u64,
     complete: bool,
 ) -> usize
@@ -236,21 +243,21 @@ pub fn take_strand(
     if s.found {
         return ring_unlink(next, tail, len, t, s.before);
     }
-    256
+    PLACES
 }
 
 // The test of `any_future_answer` over the queue. No key is looked for, and the times stand in for keys.
 pub fn any_strand(
-    next: &[u8; 256],
-    tail: &[u8; 256],
-    len: &[u16; 256],
+    next: &[u8; PLACES],
+    tail: &[u8; PLACES],
+    len: &[u16; PLACES],
     t: u8,
-    variant: &[u16; 256],
+    variant: &[u16; PLACES],
     v: u16,
-    time: &[u64; 256],
+    time: &[u64; PLACES],
 ) -> bool
     ensures { λ r. ⌜ r ≡ ltb (found-in (numbered false (now (variant .entry)) v (now (time .entry)) 0)
-        (ring-of (now (next .entry)) (now (tail .entry)) (now (len .entry)) t)) 256 ⌝ }
+        (ring-of (now (next .entry)) (now (tail .entry)) (now (len .entry)) t)) most-places ⌝ }
 {
-    find_number(next, tail, len, t, 0, variant, v, time, 0, false) < 256
+    find_number(next, tail, len, t, 0, variant, v, time, 0, false) < PLACES
 }

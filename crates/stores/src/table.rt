@@ -1,12 +1,16 @@
-// table.rs, the answers: they stand at the places of a table's ring in the order found. `[Answer; 256]` is written by whoever owns it; what
+// table.rs, the answers: they stand at the places of a table's ring in the order found. `[Answer; PLACES]` is written by whoever owns it; what
 // is looked for among the answers stands beside them in arrays of numbers, which are lent. And `mark_floundered`, which frees answers and
 // strands.
+use crate::numbers::FREE;
+use crate::numbers::MOST_LITERALS;
+use crate::numbers::MOST_TABLES;
 use crate::numbers::flag_of;
 use crate::numbers::set_flag;
 use crate::places::Places;
 use crate::places::blank_places;
 use crate::places::find_number;
 use crate::places::take_place;
+use rings::PLACES;
 use rings::ring_enqueue;
 use rings::ring_move;
 use strands::Answer;
@@ -16,18 +20,18 @@ ghost use mathlib.Core.Bool.{true, false};
 ghost use Prim.Native.Nat.{_+_, _*_, _%_, _<_};
 ghost use lib.ListN.{drop, getD, set};
 ghost use lib.Dec.{ltb};
-ghost use Rattle.rings.specs.Rings.{ring-of, RingMove};
+ghost use Rattle.rings.specs.Rings.{most-places, ring-of, RingMove};
 ghost use Rattle.strands.specs.View.{answer};
-ghost use Rattle.stores.specs.Numbers.{flag-number, written-at};
+ghost use Rattle.stores.specs.Numbers.{free, flag-number, written-at};
 ghost use Rattle.stores.specs.Places.{numbered, found-in};
 ghost use Rattle.stores.specs.Table.{key-of, repeated-of, AnswerPushed, blank-answers};
 
 // The answers by place, and the numbers beside them: `key` is a number for the list of delayed goals.
 pub struct Answers {
-    pub answers: [Answer; 256],
-    pub variant: [u16; 256],
-    pub key: [u64; 256],
-    pub ambiguous: [u8; 256],
+    pub answers: [Answer; PLACES],
+    pub variant: [u16; PLACES],
+    pub key: [u64; PLACES],
+    pub ambiguous: [u8; PLACES],
     pub places: Places,
 }
 
@@ -39,14 +43,14 @@ pub fn blank_answers() -> Answers
         variant: 0,
         ambiguous: false,
         delayed_count: 0,
-        delayed: [0; 8],
+        delayed: [0; MOST_LITERALS],
     };
     let p = blank_places();
     Answers {
-        answers: [b; 256],
-        variant: [0; 256],
-        key: [0; 256],
-        ambiguous: [0; 256],
+        answers: [b; PLACES],
+        variant: [0; PLACES],
+        key: [0; PLACES],
+        ambiguous: [0; PLACES],
         places: p,
     }
 }
@@ -74,9 +78,9 @@ fn digit(goal: u8) -> u64
 
 // The numbers beside the answer x, at its place.
 pub fn number_answer(
-    variant: &mut [u16; 256],
-    key: &mut [u64; 256],
-    ambiguous: &mut [u8; 256],
+    variant: &mut [u16; PLACES],
+    key: &mut [u64; PLACES],
+    ambiguous: &mut [u8; PLACES],
     q: u8,
     x: Answer,
 )
@@ -91,7 +95,7 @@ pub fn number_answer(
 }
 
 // `next_answer_index`: how many answers a table has.
-pub fn answer_count(len: &[u16; 256], t: u8) -> u16
+pub fn answer_count(len: &[u16; PLACES], t: u8) -> u16
     ensures { λ r. ⌜ r ≡ getD (now (len .entry)) t 0 ⌝ }
 {
     len[t as usize]
@@ -99,12 +103,12 @@ pub fn answer_count(len: &[u16; 256], t: u8) -> u16
 
 // The search of `push_answer` by variant and delayed goals: the place of the first answer that is the same, or 256.
 pub fn find_answer(
-    next: &[u8; 256],
-    tail: &[u8; 256],
-    len: &[u16; 256],
+    next: &[u8; PLACES],
+    tail: &[u8; PLACES],
+    len: &[u16; PLACES],
     t: u8,
-    variant: &[u16; 256],
-    key: &[u64; 256],
+    variant: &[u16; PLACES],
+    key: &[u64; PLACES],
     x: Answer,
 ) -> usize
     ensures { λ r. ⌜ r ≡ found-in (numbered true (now (variant .entry)) (x .variant) (now (key .entry)) (key-of (answer x .delayed-subgoals)))
@@ -134,14 +138,14 @@ pub enum PushAnswer {
 // `push_answer`. A new answer's place is in the table's ring; whoever owns the answers writes it there, with its numbers. 26 where the
 // stored one is ambiguous and this one isn't; 23 where 256 are held.
 pub fn push_answer(
-    next: &mut [u8; 256],
-    tail: &mut [u8; 256],
-    len: &mut [u16; 256],
+    next: &mut [u8; PLACES],
+    tail: &mut [u8; PLACES],
+    len: &mut [u16; PLACES],
     top: &mut u16,
     t: u8,
-    variant: &[u16; 256],
-    key: &[u64; 256],
-    ambiguous: &[u8; 256],
+    variant: &[u16; PLACES],
+    key: &[u64; PLACES],
+    ambiguous: &[u8; PLACES],
     x: Answer,
 ) -> PushAnswer
     ensures { λ r. ⌜ AnswerPushed (now (variant .entry)) (now (key .entry)) (now (ambiguous .entry))
@@ -149,11 +153,11 @@ pub fn push_answer(
         (now (next .exit)) (now (tail .exit)) (now (len .exit)) (now (top .exit)) r ⌝ }
 {
     let p = find_answer(next, tail, len, t, variant, key, x);
-    if p < 256 {
+    if p < PLACES {
         return repeated(ambiguous[p] != 0, x.ambiguous);
     }
     let q = take_place(next, tail, len, top);
-    if q >= 256 {
+    if q >= PLACES {
         return PushAnswer::Stop(23);
     }
     let k = q as u8;
@@ -175,38 +179,38 @@ fn repeated(was: bool, is: bool) -> PushAnswer
 
 // The test of `any_future_answer` over the answers from an index on.
 pub fn any_answer(
-    next: &[u8; 256],
-    tail: &[u8; 256],
-    len: &[u16; 256],
+    next: &[u8; PLACES],
+    tail: &[u8; PLACES],
+    len: &[u16; PLACES],
     t: u8,
     from: usize,
-    variant: &[u16; 256],
+    variant: &[u16; PLACES],
     v: u16,
-    key: &[u64; 256],
+    key: &[u64; PLACES],
 ) -> bool
     ensures { λ r. ⌜ r ≡ ltb (found-in (numbered false (now (variant .entry)) v (now (key .entry)) 0)
-        (drop from (ring-of (now (next .entry)) (now (tail .entry)) (now (len .entry)) t))) 256 ⌝ }
+        (drop from (ring-of (now (next .entry)) (now (tail .entry)) (now (len .entry)) t))) most-places ⌝ }
 {
-    find_number(next, tail, len, t, from, variant, v, key, 0, false) < 256
+    find_number(next, tail, len, t, from, variant, v, key, 0, false) < PLACES
 }
 
 // `mark_floundered`: the flag, and the places of the table's queue and of its answers, which are free again.
 pub fn mark_floundered(
-    floundered: &mut [u8; 64],
-    next: &mut [u8; 256],
-    tail: &mut [u8; 256],
-    len: &mut [u16; 256],
-    answer_next: &mut [u8; 256],
-    answer_tail: &mut [u8; 256],
-    answer_len: &mut [u16; 256],
+    floundered: &mut [u8; MOST_TABLES],
+    next: &mut [u8; PLACES],
+    tail: &mut [u8; PLACES],
+    len: &mut [u16; PLACES],
+    answer_next: &mut [u8; PLACES],
+    answer_tail: &mut [u8; PLACES],
+    answer_len: &mut [u16; PLACES],
     t: u8,
 )
     ensures { λ _. ⌜ (now (floundered .exit) ≡ written-at t 1 (now (floundered .entry)))
-        × RingMove (now (next .entry)) (now (tail .entry)) (now (len .entry)) t 64 (now (next .exit)) (now (tail .exit)) (now (len .exit))
-        × RingMove (now («answer_next» .entry)) (now («answer_tail» .entry)) (now («answer_len» .entry)) t 64
+        × RingMove (now (next .entry)) (now (tail .entry)) (now (len .entry)) t free (now (next .exit)) (now (tail .exit)) (now (len .exit))
+        × RingMove (now («answer_next» .entry)) (now («answer_tail» .entry)) (now («answer_len» .entry)) t free
         (now («answer_next» .exit)) (now («answer_tail» .exit)) (now («answer_len» .exit)) ⌝ }
 {
     set_flag(floundered, t, true);
-    ring_move(next, tail, len, t, 64);
-    ring_move(answer_next, answer_tail, answer_len, t, 64);
+    ring_move(next, tail, len, t, FREE);
+    ring_move(answer_next, answer_tail, answer_len, t, FREE);
 }

@@ -1,4 +1,5 @@
 // tables.rs: the tables' own numbers, in arrays that are lent. A table that can't be (64 and above) has no goal.
+use crate::numbers::MOST_TABLES;
 use crate::numbers::first_of;
 use crate::numbers::flag_of;
 ghost use mathlib.Core.Path.{_≡_};
@@ -10,10 +11,10 @@ ghost use Rattle.stores.specs.Tables.{table-goal-at, blank-tables};
 // The tables' own numbers; a flag is 0 or 1. `complete` is the answer mode.
 pub struct Tables {
     pub count: usize,
-    pub goal: [u8; 64],
-    pub coinductive: [u8; 64],
-    pub floundered: [u8; 64],
-    pub complete: [u8; 64],
+    pub goal: [u8; MOST_TABLES],
+    pub coinductive: [u8; MOST_TABLES],
+    pub floundered: [u8; MOST_TABLES],
+    pub complete: [u8; MOST_TABLES],
 }
 
 pub fn blank_tables() -> Tables
@@ -21,15 +22,15 @@ pub fn blank_tables() -> Tables
 {
     Tables {
         count: 0,
-        goal: [0; 64],
-        coinductive: [0; 64],
-        floundered: [0; 64],
-        complete: [0; 64],
+        goal: [0; MOST_TABLES],
+        coinductive: [0; MOST_TABLES],
+        floundered: [0; MOST_TABLES],
+        complete: [0; MOST_TABLES],
     }
 }
 
 // `index_of`: the table of a goal; the count where it has none.
-pub fn index_of(goal: &[u8; 64], count: usize, g: u8) -> usize
+pub fn index_of(goal: &[u8; MOST_TABLES], count: usize, g: u8) -> usize
     ensures { λ r. ⌜ r ≡ first-at (λ i. eqb (getD (now (goal .entry)) i 0) g) 0 (within count) ⌝ }
 {
     first_of(goal, count, g)
@@ -37,10 +38,10 @@ pub fn index_of(goal: &[u8; 64], count: usize, g: u8) -> usize
 
 // `insert`, with the flags of the new table, whose answer mode is complete: the count that it leaves; the same count where there are 64.
 pub fn insert(
-    goal: &mut [u8; 64],
-    coinductive: &mut [u8; 64],
-    floundered: &mut [u8; 64],
-    complete: &mut [u8; 64],
+    goal: &mut [u8; MOST_TABLES],
+    coinductive: &mut [u8; MOST_TABLES],
+    floundered: &mut [u8; MOST_TABLES],
+    complete: &mut [u8; MOST_TABLES],
     count: usize,
     g: u8,
     is_coinductive: bool,
@@ -52,7 +53,7 @@ pub fn insert(
         × (now (floundered .exit) ≡ written-at count (flag-number «is_floundered») (now (floundered .entry)))
         × (now (complete .exit) ≡ written-at count 1 (now (complete .entry))) ⌝ }
 {
-    if count >= 64 {
+    if count >= MOST_TABLES {
         return count;
     }
     goal[count] = g;
@@ -63,11 +64,12 @@ pub fn insert(
 }
 
 // The goal of a table.
-pub fn goal_at(goal: &[u8; 64], t: u8) -> u8
+pub fn goal_at(goal: &[u8; MOST_TABLES], t: u8) -> u8
     ensures { λ r. ⌜ r ≡ table-goal-at t (now (goal .entry)) ⌝ }
 {
-    if t >= 64 {
+    let i = t as usize;
+    if i >= MOST_TABLES {
         return 0;
     }
-    goal[t as usize]
+    goal[i]
 }

@@ -1,7 +1,7 @@
 -- Lists of delayed goals: the definitions' `other-than` and `same` at the head of a list, and the turns of the loops that follow them.
 use Prim.Native.Nat.{ℕ, suc, _+_, _≤_, _<_}
 use native.Mathlib.Omega.{arith}
-use mathlib.Core.Bool.{Bool, true, false, _&&_}
+use mathlib.Core.Bool.{Bool, true, false, _&&_, and-false}
 use mathlib.Core.List.{List, [], _∷_, _++_, append-nil}
 use mathlib.Core.Option.{Option, some}
 use mathlib.Core.Path.{_≡_, refl, sym, ap, ap₂, _∙_}
@@ -12,11 +12,11 @@ use Rattle.definitions.specs as said
 use Rattle.definitions.specs.Lists.{same}
 use Rattle.definitions.specs.Table.{equal-answer}
 use Rattle.definitions.specs.Turn.{other-than}
+use Rattle.laws.proofs.Takes.{drop-take-next, drop-take-none, take-next, sets-one-more}
 use Rattle.strands.specs.declared.Answer.{Answer}
 use Rattle.strands.specs.declared.answers.Goals.{Goals}
 use Rattle.strands.specs.Answers.{goals-of, same-answer}
 use Rattle.strands.specs.View.{answer}
-use Rattle.strands.proofs.Lists.{left-next, left-none, take-next, sets-one-more}
 
 abbrev kept-by : ℕ → ℕ → List ℕ → Bool → List ℕ
 kept-by goal d ds b = elim b [ true ↦ other-than goal ds | false ↦ d ∷ other-than goal ds ]
@@ -36,15 +36,6 @@ other-more-by goal d x ds false e = ap (λ (l : List ℕ). x ∷ l) e
 other-more : (goal d : ℕ) (ds : List ℕ) → other-than goal (ds ++ (d ∷ [])) ≡ other-than goal ds ++ other-than goal (d ∷ [])
 other-more goal d [] = refl
 other-more goal d (x ∷ ds) = other-more-by goal d x ds (eqb x goal) (other-more goal d ds)
-
-other-few-by : (goal x : ℕ) (ds : List ℕ) (b : Bool) → length (other-than goal ds) ≤ length ds
-    → length (kept-by goal x ds b) ≤ suc (length ds)
-other-few-by goal x ds true h = omega arith
-other-few-by goal x ds false h = omega arith
-
-pub other-few : (goal : ℕ) (ds : List ℕ) → length (other-than goal ds) ≤ length ds
-other-few goal [] = omega arith
-other-few goal (x ∷ ds) = other-few-by goal x ds (eqb x goal) (other-few goal ds)
 
 -- A turn of the loop: what is kept of the first i goals, and of one more.
 module _ (goal i : ℕ) (goals : List ℕ) (i-in : i < length goals) where
@@ -79,7 +70,7 @@ module _ (goal i : ℕ) (goals : List ℕ) (i-in : i < length goals) where
 module _ (n i : ℕ) (a b : List ℕ) (i-in : i < n) (n-a : n ≤ length a) (n-b : n ≤ length b) where
   heads : same (drop i (take n b)) (drop i (take n a))
       ≡ eqb (getD b i 0) (getD a i 0) && same (drop (i + 1) (take n b)) (drop (i + 1) (take n a))
-  heads = ap₂ same (left-next n i b 0 i-in n-b) (left-next n i a 0 i-in n-a)
+  heads = ap₂ same (drop-take-next n i b 0 i-in n-b) (drop-take-next n i a 0 i-in n-a)
 
   pub turn-same : getD b i 0 ≡ getD a i 0
       → same (drop i (take n b)) (drop i (take n a)) ≡ same (drop (i + 1) (take n b)) (drop (i + 1) (take n a))
@@ -89,11 +80,7 @@ module _ (n i : ℕ) (a b : List ℕ) (i-in : i < n) (n-a : n ≤ length a) (n-b
   turn-differs h = heads ∙ ap (λ (t : Bool). t && same (drop (i + 1) (take n b)) (drop (i + 1) (take n a))) (ne-eqb _ _ h)
 
 pub same-end : (n i : ℕ) (a b : List ℕ) → n ≤ i → same (drop i (take n b)) (drop i (take n a)) ≡ true
-same-end n i a b h = ap₂ same (left-none n i b h) (left-none n i a h)
-
-and-false : (b : Bool) → b && false ≡ false
-and-false true = refl
-and-false false = refl
+same-end n i a b h = ap₂ same (drop-take-none n i b h) (drop-take-none n i a h)
 
 -- lists that are not equally long are not the same
 pub unequal-lengths : (xs ys : List ℕ) → (length xs ≡ length ys → ⊥) → same xs ys ≡ false

@@ -7,11 +7,11 @@ use mathlib.Core.Path.{_≡_, refl, ap, _∙_}
 use lib.ListN.{length, replicate, length-take, length-replicate}
 use lib.Seq.{length-sets}
 use Rattle.definitions.specs.Turn.{other-than}
+use Rattle.definitions.proofs.Lists.{length-other-than}
+use Rattle.laws.proofs.Takes.{take-sets}
 use Rattle.strands.specs.declared.Strand.{Strand}
 use Rattle.strands.specs.Answers.{blank-answer, answer-from, answer-of}
 use Rattle.strands.specs.View.{SoundAnswer, clause, answer}
-use Rattle.strands.proofs.AnswerCases.{other-few}
-use Rattle.strands.proofs.Lists.{take-sets}
 
 pub blank-answer-view : answer blank-answer ≡ record { variant = 0; delayed-subgoals = []; ambiguous = false }
 blank-answer-view = refl
@@ -24,7 +24,7 @@ module _ (s : Strand) (goal : ℕ) (long : length (s .delayed) ≡ 8) where
   others = other-than goal (clause s .delayed-subgoals)
 
   others-few : length others ≤ 8
-  others-few = omega (arith, other-few goal (clause s .delayed-subgoals), length-take (s .«delayed_count») (s .delayed))
+  others-few = omega (arith, length-other-than goal (clause s .delayed-subgoals), length-take (s .«delayed_count») (s .delayed))
 
   pub answer-of-view : answer (answer-of s goal) ≡ answer-from s goal
   answer-of-view =

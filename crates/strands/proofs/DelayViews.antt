@@ -13,10 +13,10 @@ use Rattle.definitions.specs as said
 use Rattle.definitions.specs.Slg.{delay}
 use Rattle.definitions.specs.Stop.{Stops, stop, go, _>>_, stop-if}
 use Rattle.definitions.specs.Strand.{with-delayed}
+use Rattle.laws.proofs.Takes.{take-min, length-take-min, take-sets}
 use Rattle.strands.specs.declared.Strand.{Strand}
 use Rattle.strands.specs.Delaying.{delayed, held, delay-by, delay-goals}
 use Rattle.strands.specs.View.{Sound, clause, Kept}
-use Rattle.strands.proofs.Lists.{shown, shown-length, take-sets}
 
 -- The definition at each answer of its test.
 
@@ -33,7 +33,7 @@ room goals x h = ap (by-test goals x) (le-ltb _ _ h)
 module _ (goals : List ℕ) (s : Strand) where
   module _ (long : length (s .delayed) ≡ 8) where
     count-is : length (clause s .delayed-subgoals) ≡ held s
-    count-is = shown-length 8 (s .«delayed_count») (held s) (s .delayed) long refl
+    count-is = length-take-min 8 (s .«delayed_count») (held s) (s .delayed) long refl
 
     delay-by-view : (b : Bool) → ltb 8 (held s + length goals) ≡ b → delayed (delay-by b goals s) ≡ delay goals (clause s)
     delay-by-view true e =
@@ -43,7 +43,7 @@ module _ (goals : List ℕ) (s : Strand) where
         let few = ltb-false 8 (held s + length goals) e in
         ap (λ (ds : List ℕ). go (with-delayed (clause s) ds))
         (take-sets goals (s .delayed) (held s) (held s + length goals) (omega arith) refl
-        ∙ ap (λ (ds : List ℕ). ds ++ goals) (shown 8 (s .«delayed_count») (held s) (s .delayed) long refl))
+        ∙ ap (λ (ds : List ℕ). ds ++ goals) (take-min 8 (s .«delayed_count») (held s) (s .delayed) long refl))
         ∙ sym (room goals (clause s) (omega (arith, count-is)))
 
     pub delay-view : delayed (delay-goals goals s) ≡ delay goals (clause s)

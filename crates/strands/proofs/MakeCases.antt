@@ -8,12 +8,12 @@ use lib.ListN.{length, take, set, getD, replicate, length-map}
 use lib.Seq.{sets, length-take-le}
 use borrow.Author.Tests.{eq-eqb, ne-eqb}
 use Rattle.definitions.specs.Book.{bit0, bit1}
+use Rattle.laws.proofs.Takes.{take-min, take-next, sets-one-more}
 use Rattle.book.specs.declared.Literal.{Literal}
 use Rattle.strands.specs.declared.Answer.{Answer}
 use Rattle.strands.specs.declared.Strand.{Strand}
 use Rattle.strands.specs.Fields.{no-literal}
 use Rattle.strands.specs.Making.{new-strand, strand-of, wants-any, positives, refine-by, refine}
-use Rattle.strands.proofs.Lists.{shown, take-next, sets-one-more}
 
 pub positives-next : (goals : List ℕ) (i : ℕ) (made : List Literal) → i < length goals → made ≡ positives (take i goals)
     → set made i (wants-any (getD goals i 0)) ≡ positives (take (i + 1) goals)
@@ -46,5 +46,5 @@ says-refined a n literals r long n-is some-delayed made e =
     ap (λ (s : Strand). record { made = true; strand = s })
     (e
     ∙ ap₂ (λ (ls : List Literal) (k : ℕ). new-strand (a .variant) false (a .ambiguous) ls k)
-    (made ∙ ap positives (shown 8 (a .«delayed_count») n (a .delayed) long n-is)) n-is)
+    (made ∙ ap positives (take-min 8 (a .«delayed_count») n (a .delayed) long n-is)) n-is)
     ∙ sym (refine-some a some-delayed)

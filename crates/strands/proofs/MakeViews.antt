@@ -13,6 +13,8 @@ use Rattle.definitions.specs.Logic.{initial-strand}
 use Rattle.definitions.specs.Strand as held
 use Rattle.definitions.specs.Turn.{create-refinement-strand}
 use Rattle.definitions.specs as said
+use Rattle.definitions.proofs.Lists.{take-empty}
+use Rattle.laws.proofs.Takes.{take-min, length-take-min, take-sets}
 use Rattle.book.specs.View.{meant}
 use Rattle.book.specs.declared.Literal.{Literal}
 use Rattle.strands.specs.declared.Answer.{Answer}
@@ -20,7 +22,6 @@ use Rattle.strands.specs.Fields.{no-literal, no-floundered}
 use Rattle.strands.specs.Making.{new-strand, blank-strand, nothing, clause-of, strand-of}
 use Rattle.strands.specs.Making.{wants-any, positive, positives, refine-by, refine, refinement}
 use Rattle.strands.specs.View.{Sound, seen, answer}
-use Rattle.strands.proofs.Lists.{shown, shown-length, take-empty, take-sets}
 
 new-sound : (variant : ℕ) (outsized ambiguous : Bool) (literals : List Literal) (count : ℕ) → length literals ≡ 8 → count ≤ 8
     → Sound (new-strand variant outsized ambiguous literals count)
@@ -47,7 +48,7 @@ module _ (variant flags : ℕ) (literals : List Literal) (count : ℕ) (long : l
   pub initial-view : seen 0 (strand-of variant flags literals count) ≡ initial-strand (clause-of variant flags literals count)
   initial-view =
       ap (λ (ls : List Literal). meaning variant (books.bit1 flags) (books.bit0 flags) (map meant ls))
-      (shown 8 count (min count 8) literals long refl)
+      (take-min 8 count (min count 8) literals long refl)
 
   pub initial-sound : Sound (strand-of variant flags literals count)
   initial-sound = new-sound variant (books.bit1 flags) (books.bit0 flags) literals (min count 8) long (omega arith)
@@ -81,7 +82,7 @@ module _ (a : Answer) where
     refine-by-view true = refl
     refine-by-view false =
         let n : ℕ = min (a .«delayed_count») 8 in
-        let count = shown-length 8 (a .«delayed_count») n (a .delayed) long refl in
+        let count = length-take-min 8 (a .«delayed_count») n (a .delayed) long refl in
         let made = length-map goals wants-any in
         let whole = length-replicate 8 no-literal in
         ap (λ (ls : List books.Literal). some (meaning (a .variant) false (a .ambiguous) ls))

@@ -2,10 +2,10 @@
 -- goals are delayed or after comes to the same.
 use Prim.Native.Nat.{ℕ, suc, _+_, _<_}
 use native.Mathlib.Omega.{arith}
-use mathlib.Core.Bool.{Bool, true, false, _||_}
+use mathlib.Core.Bool.{Bool, true, false, _||_, or-true, or-false}
 use mathlib.Core.List.{List, _++_}
 use mathlib.Core.Option.{Option, none, some}
-use mathlib.Core.Path.{_≡_, refl, ap, _∙_}
+use mathlib.Core.Path.{_≡_, refl, ap, _∙_, sym}
 use lib.Dec.{eqb, ltb}
 use lib.ListN.{length}
 use borrow.Author.Tests.{ne-eqb}
@@ -27,14 +27,6 @@ use Rattle.strands.proofs.DelayViews.{delay-view, delay-kept, delay-sou
 use Rattle.strands.proofs.FieldViews.{kept-on, ambiguous-sound}
 use Rattle.strands.proofs.LiteralViews.{answered-view, answered-kept, answered-sound}
 
-or-true : (b : Bool) → true ≡ b || true
-or-true true = refl
-or-true false = refl
-
-or-false : (b : Bool) → b ≡ b || false
-or-false true = refl
-or-false false = refl
-
 abbrev then : (said.ExClause → said.ExClause) → Stops said.ExClause → Stops said.ExClause
 then f x = x >>= λ y. go (f y)
 
@@ -42,8 +34,8 @@ abbrev ambiguous-clause : Bool → said.ExClause → said.ExClause
 ambiguous-clause b x = held.with-ambiguous x (x .ambiguous || b)
 
 ambiguous-too-view : (b : Bool) (t : Strand) → clause (ambiguous-too b t) ≡ ambiguous-clause b (clause t)
-ambiguous-too-view true t = ap (held.with-ambiguous (clause t)) (or-true (t .ambiguous))
-ambiguous-too-view false t = ap (held.with-ambiguous (clause t)) (or-false (t .ambiguous))
+ambiguous-too-view true t = ap (held.with-ambiguous (clause t)) (sym (or-true (t .ambiguous)))
+ambiguous-too-view false t = ap (held.with-ambiguous (clause t)) (sym (or-false (t .ambiguous)))
 
 -- the ways out, as one change of the clause that delaying leaves
 take-by-view : (over b : Bool) (s t : Strand)

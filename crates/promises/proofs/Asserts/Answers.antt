@@ -17,10 +17,13 @@ use Rattle.definitions.specs.Table.{Table, with-answers, take-strands, mark-flo
 use Rattle.definitions.specs.Tables.{Tables, Forest, with-tables, queued, held}
 use Rattle.definitions.specs.Stack.{StackEntry, Stack, active}
 use Rattle.definitions.specs.Turn.{other-than, pursue-answer}
-use Rattle.laws.proofs.Lists.{total-set, last-one, set-here}
+use Rattle.definitions.proofs.Lists.{length-other-than, all-push}
+use Rattle.laws.proofs.Lists.{last-one, set-here, set-other}
 use Rattle.laws.proofs.Options.{no-such, same-some}
-use Rattle.promises.proofs.Asserts.Safe.{Safe, goes, after, known, guard, asserted, by-bool, by-option, case-bool}
-use Rattle.promises.proofs.Asserts.Lists.{All, end, more, all-first, all-rest, set-other, all-push}
+use Rattle.laws.proofs.All.{All, end, more, all-first, all-rest}
+use Rattle.laws.proofs.Bools.{case-bool}
+use Rattle.laws.proofs.Totals.{total-set}
+use Rattle.promises.proofs.Asserts.Safe.{Safe, goes, after, known, guard, asserted, by-bool, by-option}
 use Rattle.promises.proofs.Asserts.Sound.{Goals, SoundAnswer, SoundClause, SoundTable, SoundStack, Off}
 use Rattle.promises.proofs.Asserts.Keeping.{SameGoal, Above, Grows, calls-grow, Steady, above-same, grows-set, Kept, set-sound}
 use Rattle.promises.proofs.Asserts.Keeping.{set-kept, table-is, change-is, table-sound}
@@ -29,11 +32,6 @@ use Rattle.promises.proofs.Asserts.Unwinding.{Waits, Ended, searching-e
 other-goals : {n : ℕ} (goal : ℕ) {ds : List ℕ} → Goals n ds → Goals n (other-than goal ds)
 other-goals goal end = end
 other-goals {n} goal (more {a = d} p x) = case-bool (Goals n) (eqb d goal) (λ e. other-goals goal x) (λ e. more p (other-goals goal x))
-
-other-fewer : (goal : ℕ) (ds : List ℕ) → length (other-than goal ds) ≤ length ds
-other-fewer goal [] = omega arith
-other-fewer goal (d ∷ ds) = let x = other-fewer goal ds in
-    case-bool (λ (l : List ℕ). length l ≤ suc (length ds)) (eqb d goal) (λ e. omega arith) (λ e. omega arith)
 
 -- a table with one answer more
 record Longer (n : ℕ) (ts : Tables) (a : Answer) (t t' : Table) : Type 0 where
@@ -186,7 +184,7 @@ module _ (n root index first : ℕ) (f : Forest) (e : StackEntry) (es : Stack) (
           ambiguous = c .ambiguous;
         }) (
           other-goals (t .table-goal) (y .delayed-named),
-          (let o = y .few-delayed in let p = other-fewer (t .table-goal) (c .delayed-subgoals) in omega arith),
+          (let o = y .few-delayed in let p = length-other-than (t .table-goal) (c .delayed-subgoals) in omega arith),
         )) (λ r p. by-option (r .0)
         (λ w. goes {a = (none, f)} unchanged)
         (λ i w.

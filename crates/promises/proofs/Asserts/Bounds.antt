@@ -11,28 +11,25 @@ use Rattle.definitions.specs.Tables.{Tables, Forest}
 use Rattle.definitions.specs.Stack.{Stack}
 use Rattle.laws.proofs.Distinct.{Distinct, few-distinct}
 use Rattle.laws.proofs.Options.{no-such, same-some}
-use Rattle.promises.proofs.Asserts.Lists.{all-at, place-under, total-one}
+use Rattle.laws.proofs.Maps.{at-map}
+use Rattle.laws.proofs.All.{all-at}
+use Rattle.laws.proofs.Lists.{place-under}
+use Rattle.laws.proofs.Totals.{total-one}
 use Rattle.promises.proofs.Asserts.Sound.{SoundForest, Below, Off, Searching}
-
-map-at : {A B : Type 0} (h : A → B) (l : List A) (i : ℕ) (b : B) → getElem? (map h l) i ≡ some b
-    → (a : A) × (getElem? l i ≡ some a) × (h a ≡ b)
-map-at h [] i b e = absurd (no-such e)
-map-at h (a ∷ l) zero b e = (a, refl, same-some e)
-map-at h (a ∷ l) (suc i) b e = map-at h l i b e
 
 -- a table for a goal
 pub few-tables : {n : ℕ} {f : Forest} → SoundForest n f → length (f .tables) ≤ n
 few-tables {n} {f} s =
     let few = few-distinct n (map (λ t. t .table-goal) (f .tables)) distinct
-    (λ i g e. let r = map-at (λ t. t .table-goal) (f .tables) i g e in
+    (λ i g e. let r = at-map (λ t. t .table-goal) (f .tables) i g e in
     subst (λ z. z < n) (r .2) (all-at i (s .sound-tables) (r .1) .goal-named)) in
     let size = length-map (f .tables) (λ t. t .table-goal) in
     omega arith
   where
     distinct : Distinct (map (λ t. t .table-goal) (f .tables))
     distinct i j g a b =
-        let p = map-at (λ t. t .table-goal) (f .tables) i g a in
-        let q = map-at (λ t. t .table-goal) (f .tables) j g b in
+        let p = at-map (λ t. t .table-goal) (f .tables) i g a in
+        let q = at-map (λ t. t .table-goal) (f .tables) j g b in
         s .tables-apart i j (p .0) (q .0) (p .1) (q .1) (p .2 ∙ sym (q .2))
 
 pub tables-at-most : {n : ℕ} {f : Forest} → SoundForest n f → length (f .tables) ≤ 64
@@ -45,8 +42,8 @@ tables-of es = map (λ e. e .table) es
 
 distinct-more : (t : ℕ) (es : Stack) → Off t es → Distinct (tables-of es) → Distinct (t ∷ tables-of es)
 distinct-more t es o d zero zero g a b = refl
-distinct-more t es o d zero (suc j) g a b = let r = map-at (λ e. e .table) es j g b in absurd (all-at j o (r .1) (r .2 ∙ sym (same-some a)))
-distinct-more t es o d (suc i) zero g a b = let r = map-at (λ e. e .table) es i g a in absurd (all-at i o (r .1) (r .2 ∙ sym (same-some b)))
+distinct-more t es o d zero (suc j) g a b = let r = at-map (λ e. e .table) es j g b in absurd (all-at j o (r .1) (r .2 ∙ sym (same-some a)))
+distinct-more t es o d (suc i) zero g a b = let r = at-map (λ e. e .table) es i g a in absurd (all-at i o (r .1) (r .2 ∙ sym (same-some b)))
 distinct-more t es o d (suc i) (suc j) g a b = ap suc (d i j g a b)
 
 below-distinct : (n : ℕ) (ts : Tables) (root first table clock : ℕ) (es : Stack) → Below n ts root first table clock es

@@ -21,10 +21,11 @@ use Rattle.definitions.specs.Slg.{next-subgoal-index}
 use Rattle.definitions.specs.Logic.{SubGoalSelection, Selected, NotSelected, SolveState, Selection, selecting, flounder-subgoal}
 use Rattle.definitions.specs.Logic.{reconsider-floundered-subgoals, propagate-floundered-subgoal, get-or-create-table-for-subgoal}
 use Rattle.definitions.specs.Logic.{select-from, select-subgoal}
+use Rattle.definitions.proofs.Lists.{is-nil, not-nil, no-nil}
 use Rattle.laws.proofs.Lists.{at-place}
+use Rattle.laws.proofs.All.{all-at}
 use Rattle.promises.proofs.Asserts.Safe.{Safe, goes, after, weaker, known, asserted, by-bool, by-option}
 use Rattle.promises.proofs.Asserts.Safe.{unwraps}
-use Rattle.promises.proofs.Asserts.Lists.{all-at, is-nil, not-nil, no-nil}
 use Rattle.promises.proofs.Asserts.Sound.{Awaits, Selects, SoundClause, SoundStrand, SoundForest}
 use Rattle.promises.proofs.Asserts.Keeping.{Kept, kept-same, kept-trans, table-is}
 use Rattle.promises.proofs.Asserts.Making.{makes-for}

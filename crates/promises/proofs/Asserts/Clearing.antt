@@ -9,9 +9,9 @@ use Rattle.definitions.specs.Strand.{Strand}
 use Rattle.definitions.specs.Table.{take-strands}
 use Rattle.definitions.specs.Tables.{Forest, with-tables, queued}
 use Rattle.definitions.specs.Turn.{clear-each, clear-strands-after-cycle}
-use Rattle.laws.proofs.Lists.{total-set}
+use Rattle.laws.proofs.All.{All, end, all-first, all-rest, all-map}
+use Rattle.laws.proofs.Totals.{total-set}
 use Rattle.promises.proofs.Asserts.Safe.{Safe, stops, goes, after, weaker, known, by-option}
-use Rattle.promises.proofs.Asserts.Lists.{All, end, all-first, all-rest, all-map}
 use Rattle.promises.proofs.Asserts.Sound.{Awaits, Selects, SoundStrand, SoundForest}
 use Rattle.promises.proofs.Asserts.Keeping.{grows-above, strand-grows, Kept, kept-same, kept-trans, strands-kept, table-is}
 use Rattle.promises.proofs.Asserts.Keeping.{change-is, table-sound}

@@ -1,12 +1,12 @@
 -- A selected literal whose table is not floundered: it has the answer, stands on the stack already, or is pushed.
-use Prim.Native.Nat.{ℕ, zero, suc, _+_, _≤_, _<_}
+use Prim.Native.Nat.{ℕ, suc, _+_, _≤_, _<_}
 use native.Mathlib.Omega.{arith}
 use borrow.Author.Tests.{eq-eqb}
 use mathlib.Core.Path.{_≡_, refl, sym, subst, _∙_}
 use mathlib.Core.Bool.{Bool, true, false, not, _&&_, true≢false, and-eq-true-iff}
 use mathlib.Core.Logic.{inl, inr}
 use mathlib.Core.Option.{Option, none, some}
-use mathlib.Core.List.{List, [], _∷_}
+use mathlib.Core.List.{[], _∷_}
 use lib.ListN.{length, getElem?, take}
 use lib.Dec.{T, eqb, eqb→eq}
 use Rattle.definitions.specs.{MAX, Minimums, minimums-MAX}
@@ -21,11 +21,11 @@ use Rattle.definitions.specs.Slg.{delay}
 use Rattle.definitions.specs.Logic.{SolveState, QuantumExceeded, continue, return-err, Merge, merged, failed, activate}
 use Rattle.definitions.specs.Turn.{on-coinductive-subgoal, cycle-minimums, on-positive-cycle, coinductive-entries, on-cycle}
 use Rattle.definitions.specs.Turn.{on-subgoal-selected}
-use Rattle.laws.proofs.Lists.{at-place}
+use Rattle.laws.proofs.Lists.{at-place, at-take, no-place}
 use Rattle.laws.proofs.Options.{no-such, same-some}
+use Rattle.laws.proofs.All.{All, end, more, all-first, all-rest, all-take, all-at}
 use Rattle.promises.proofs.Asserts.Safe.{Safe, stops, goes, after, known, asserted, by-bool, by-option}
 use Rattle.promises.proofs.Asserts.Safe.{unwraps}
-use Rattle.promises.proofs.Asserts.Lists.{All, end, more, all-first, all-rest, all-take, all-at, no-place}
 use Rattle.promises.proofs.Asserts.Sound.{Off, Named, Reached, Awaits, Selects, SoundStrand, Standing, Below, SoundStack, SoundState}
 use Rattle.promises.proofs.Asserts.Keeping.{grows-above, strand-grows, ticks, table-is, table-sound, searching-kept}
 use Rattle.promises.proofs.Asserts.Choosing.{Ready}
@@ -75,11 +75,6 @@ not-active t (e ∷ es) k = at (is-active t es) refl k (not-active t es)
         → (is-active t es ≡ none → Off t es) → Off t (e ∷ es)
     at none q k h = more (here (eqb (e .table) t) refl k) (h q)
     at (some d) q k h = absurd (no-such (sym k))
-
-take-there : {A : Type 0} (l : List A) (i : ℕ) (a : A) → getElem? l i ≡ some a → getElem? (take (suc i) l) i ≡ some a
-take-there [] i a e = absurd (no-such e)
-take-there (b ∷ l) zero a e = e
-take-there (b ∷ l) (suc i) a e = take-there l i a e
 
 -- the state with a table pushed, over the strand that waits for it
 abbrev pushed : Forest → StackEntry → Stack → Strand → SelectedSubgoal → SolveState
@@ -212,7 +207,7 @@ module _ (n root index first : ℕ) where
         (after (entries f (take (suc depth) (e ∷ es)) (all-take (suc depth) stands)) (λ b z. by-bool b
         (λ q. let all = z q in coinductive
         (all-first all (x .0 .standing .own) (x .0 .standing .is-made))
-        (all-at depth all (take-there (e ∷ es) depth (r .0) (r .1)) (w .table)
+        (all-at depth all (at-take (e ∷ es) depth (r .0) (r .1)) (w .table)
         (subst (λ j. getElem? (f .tables) j ≡ some (w .table)) (sym (r .2)) (w .is-made))))
         (λ q. positive-cycle (record { positive = r .0 .clock; negative = MAX }) (all-at depth stands (r .1) .clock-late) max-late)))
 

@@ -12,9 +12,9 @@ use Rattle.definitions.specs.Book.{Book, Goal, Clause, Literal, Positive, Negat
 use Rattle.definitions.specs.Book.{end, unknown, command, width, is-end, with-clauses, add-clause, add-to-last, add-literal, last-literals}
 use Rattle.definitions.specs.Book.{literals-so-far, goals-name, whole-command, read-from, apply-command, literal-command, byte, u16, bit0}
 use Rattle.definitions.specs.Book.{bit1}
-use Rattle.promises.proofs.Reading.{same-accepted, not-accepted, all-pass}
-use Rattle.promises.proofs.Asserts.Lists.{All, more, all-first, all-rest, all-push}
-use Rattle.promises.proofs.Asserts.Lists as Lists
+use Rattle.definitions.proofs.Refusal.{same-accepted, not-accepted, all-pass}
+use Rattle.definitions.proofs.Lists.{all-push}
+use Rattle.laws.proofs.All.{All, more, all-first, all-rest}
 
 abbrev pub Few : List Clause → Type 0
 Few cs = All (λ c. length (c .literals) ≤ 8) cs
@@ -24,7 +24,7 @@ FewLiterals book = All (λ g. Few (g .clauses)) book
 
 few-clause : (c : Clause) → length (c .literals) ≤ 8 → (book : Book) → FewLiterals book → FewLiterals (add-clause c book)
 few-clause c o [] x = x
-few-clause c o (g ∷ []) x = more (all-push (all-first x) o) Lists.end
+few-clause c o (g ∷ []) x = more (all-push (all-first x) o) All.end
 few-clause c o (g ∷ h ∷ gs) x = more (all-first x) (few-clause c o (h ∷ gs) (all-rest x))
 
 few-last : (l : Literal) (cs : List Clause) → last-literals cs < 8 → Few cs → Few (add-to-last l cs)
@@ -32,7 +32,7 @@ few-last l [] o x = x
 few-last l (c ∷ []) o x =
     let y : length (c .literals ++ (l ∷ [])) ≡ length (c .literals) + 1 = length-append (c .literals) (l ∷ []) in
     let z : length (c .literals ++ (l ∷ [])) ≤ 8 = omega arith in
-    more z Lists.end
+    more z All.end
 few-last l (c ∷ d ∷ cs) o x = more (all-first x) (few-last l (d ∷ cs) o (all-rest x))
 
 few-literal : (l : Literal) (book : Book) → literals-so-far book < 8 → FewLiterals book → FewLiterals (add-literal l book)
@@ -58,7 +58,7 @@ command-few goal operands book next e x =
     let flags = byte operands 0 in
     let g : Goal = record { coinductive = bit0 flags; floundered = bit1 flags; clauses = [] } in
     subst FewLiterals (all-pass (ltb 3 flags refuses 4 ∷ leb 64 (length book) refuses 5 ∷ []) (book ++ (g ∷ [])) next e .1)
-    (all-push x Lists.end)
+    (all-push x All.end)
 command-few clause operands book next e x =
     let flags = byte operands 2 in
     let c : Clause = record { variant = u16 operands 0; cannot-prove = bit0 flags; outsized = bit1 flags; literals = [] } in

@@ -20,9 +20,10 @@ use Rattle.definitions.specs.Stack.{StackEntry, Stack, with-active, caller, act
 use Rattle.definitions.specs.Logic.{NoMoreSolutions, QuantumExceeded, NegativeCycle, continue, return-err, activate, unwound}
 use Rattle.definitions.specs.Logic.{enqueue-at-top}
 use Rattle.definitions.specs.Turn.{cycle-minimums, on-no-strands, on-own-cycle, on-part-of-cycle, on-no-strands-left}
-use Rattle.laws.proofs.Lists.{total-set, at-place}
+use Rattle.laws.proofs.Lists.{at-place}
+use Rattle.laws.proofs.All.{end, all-map}
+use Rattle.laws.proofs.Totals.{total-set}
 use Rattle.promises.proofs.Asserts.Safe.{Safe, goes, after, known, by-bool, unwraps}
-use Rattle.promises.proofs.Asserts.Lists.{end, all-map}
 use Rattle.promises.proofs.Asserts.Sound.{Awaits, Selects, Calls, Active, SoundStack}
 use Rattle.promises.proofs.Asserts.Keeping.{grows-above, strand-grows, kept-trans, set-kept, strands-kept, table-is, change-is}
 use Rattle.promises.proofs.Asserts.Keeping.{table-sound}

@@ -16,10 +16,12 @@ use Rattle.definitions.specs.Strand.{SelectedSubgoal, Strand}
 use Rattle.definitions.specs.Table.{Table, with-strands, enqueue-strand}
 use Rattle.definitions.specs.Tables.{Tables, Forest, with-tables, table-at, change-table, increment-clock, queued, held}
 use Rattle.definitions.specs.Stack.{Stack}
-use Rattle.laws.proofs.Lists.{total-set, set-here, at-append}
+use Rattle.definitions.proofs.Lists.{all-push}
+use Rattle.laws.proofs.Lists.{set-here, at-append, set-other}
 use Rattle.laws.proofs.Options.{same-some}
+use Rattle.laws.proofs.All.{All, all-at, all-set, all-map}
+use Rattle.laws.proofs.Totals.{total-set}
 use Rattle.promises.proofs.Asserts.Safe.{Safe, goes, guard}
-use Rattle.promises.proofs.Asserts.Lists.{All, all-at, all-set, all-map, all-push, set-there, set-other}
 use Rattle.promises.proofs.Asserts.Sound.{Reached, Selects, SoundStrand, SoundTable, SoundForest, Standing, Calls, Below, Rooted}
 use Rattle.promises.proofs.Asserts.Sound.{Searching, Active}
 
@@ -89,7 +91,7 @@ module _ {R : Table → Table → Type 0} (same : (t : Table) → R t t) where
         is-made = subst (λ z. getElem? (set ts i t') z ≡ some t') q (set-here ts i t t' e);
         related = subst (λ z. R z t') (same-some (sym e ∙ ap (getElem? ts) q ∙ k)) r;
       }
-      go j u k (no q) = record { after = u; is-made = set-there ts i j t' u q k; related = same u }
+      go j u k (no q) = record { after = u; is-made = set-other ts i j t' q ∙ k; related = same u }
 
 pub steady-same : (t : Table) → Steady t t
 steady-same t = record { same-floundered = refl; more-answers = omega arith }

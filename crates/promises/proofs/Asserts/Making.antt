@@ -15,11 +15,12 @@ use Rattle.definitions.specs.Fitting.{gets-table}
 use Rattle.definitions.specs.Table.{Table}
 use Rattle.definitions.specs.Tables.{Tables, Forest, with-tables, index-of, queued}
 use Rattle.definitions.specs.Logic.{initial-strand, build-table, get-or-create-table-for-ucanonical-goal, get-or-create-table-for-subgoal}
-use Rattle.laws.proofs.Lists.{last-one, at-place}
+use Rattle.definitions.proofs.Lists.{all-push, position-at, position-none}
+use Rattle.laws.proofs.Lists.{last-one, at-place, at-push}
 use Rattle.laws.proofs.Options.{no-such, same-some}
+use Rattle.laws.proofs.All.{All, end, more, all-at, all-map}
+use Rattle.laws.proofs.Totals.{total-append}
 use Rattle.promises.proofs.Asserts.Safe.{Safe, goes, after, known, guard, by-bool, by-option, unwraps}
-use Rattle.promises.proofs.Asserts.Lists.{All, end, more, all-at, all-map, all-push, position-at, position-none, at-push}
-use Rattle.promises.proofs.Asserts.Lists.{total-append}
 use Rattle.promises.proofs.Asserts.Sound.{AsGoal, Named, SoundStrand, SoundTable, SoundForest}
 use Rattle.promises.proofs.Asserts.Keeping.{Steady, grows-push, grows-above, steady-same, table-grows, Kept, kept-same}
 

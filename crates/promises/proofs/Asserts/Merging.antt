@@ -21,9 +21,10 @@ use Rattle.definitions.specs.Stack.{StackEntry, Stack, active}
 use Rattle.definitions.specs.Slg.{delay, apply-answer-subst}
 use Rattle.definitions.specs.Logic.{SolveState, Merge, merged, failed, next-answer-strand, enqueue-next-answer, no-solution, merge-into}
 use Rattle.definitions.specs.Logic.{merge-answer-into-strand}
-use Rattle.laws.proofs.Lists.{at-place}
+use Rattle.definitions.proofs.Lists.{all-remove, length-remove}
+use Rattle.laws.proofs.Lists.{at-place, place-under}
+use Rattle.laws.proofs.All.{all-append}
 use Rattle.promises.proofs.Asserts.Safe.{Safe, goes, after, known, guard, by-bool, passing, unwraps}
-use Rattle.promises.proofs.Asserts.Lists.{all-append, all-remove, remove-length, place-under}
 use Rattle.promises.proofs.Asserts.Sound.{Goals, size, SoundAnswer, Awaits, Selects, SoundClause, SoundStrand, SoundStack}
 use Rattle.promises.proofs.Asserts.Sound.{SoundState}
 use Rattle.promises.proofs.Asserts.Keeping.{table-is}
@@ -64,7 +65,7 @@ remove-sound x i lt s = record {
   subgoals-named = all-remove i (s .subgoals-named);
   floundered-named = s .floundered-named;
   delayed-named = s .delayed-named;
-  few-literals = let o = s .few-literals in let p = remove-length (x .subgoals) i lt in omega arith;
+  few-literals = let o = s .few-literals in let p = length-remove (x .subgoals) i lt in omega arith;
   few-delayed = s .few-delayed;
 }
 
@@ -157,5 +158,5 @@ module _ (n root index first : ℕ) where
         (with-ex-clause (with-selected strand none)
         (with-subgoals (strand .ex-clause) (remove (strand .ex-clause .subgoals) (selected .subgoal-index))))
         (remove-sound (strand .ex-clause) (selected .subgoal-index) (w .at-literal) y)
-        (let o = y .few-literals in let p = remove-length (strand .ex-clause .subgoals) (selected .subgoal-index) (w .at-literal) in
+        (let o = y .few-literals in let p = length-remove (strand .ex-clause .subgoals) (selected .subgoal-index) (w .at-literal) in
         omega arith) refl (l .0) a g))))

@@ -8,8 +8,8 @@ use lib.ListN.{length}
 use Rattle.definitions.specs.Tables.{Forest}
 use Rattle.definitions.specs.Turn.{Searched, root-answer}
 use Rattle.definitions.specs.Forest.{Peeked, is-invalid, is-exceeded, peeked, skip-invalid, peek-rounds}
-use Rattle.promises.proofs.Asserts.Safe.{case-bool}
-use Rattle.promises.proofs.Asserts.Lists.{total-one}
+use Rattle.laws.proofs.Totals.{total-one}
+use Rattle.laws.proofs.Bools.{case-bool}
 use Rattle.promises.proofs.Asserts.Unwinding.{Ended}
 use Rattle.promises.proofs.Asserts.Searches.{Fine, Well, root-answers}
 

@@ -12,10 +12,11 @@ use Rattle.definitions.specs.Refusal.{Refusable, refused, accepted, _refuses_, 
 use Rattle.definitions.specs.Book.{Book, Goal, Clause, Literal, goal-of, literals-name, clauses-name, goals-name, read}
 use Rattle.definitions.specs.Tables.{Forest}
 use Rattle.definitions.specs.Forest.{make}
+use Rattle.definitions.proofs.Refusal.{not-accepted, all-pass}
 use Rattle.laws.proofs.Options.{no-such}
-use Rattle.promises.proofs.Reading.{not-accepted, all-pass, read-good}
+use Rattle.promises.proofs.Reading.{read-good}
 use Rattle.laws.proofs.Bools.{both-true, both-false}
-use Rattle.promises.proofs.Asserts.Lists.{All, end, more, all-first, all-rest}
+use Rattle.laws.proofs.All.{All, end, more, all-first, all-rest}
 use Rattle.promises.proofs.Asserts.Few.{Few, FewLiterals, read-few}
 use Rattle.promises.proofs.Asserts.Sound.{Named, SoundBook, SoundForest}
 

@@ -17,8 +17,9 @@ use Rattle.definitions.specs.Stack.{StackEntry, Stack, with-active, caller, act
 use Rattle.definitions.specs.Logic.{QuantumExceeded, continue, return-ok, return-err, unwound}
 use Rattle.definitions.specs.Turn.{create-refinement-strand, on-answer, on-no-remaining-subgoals}
 use Rattle.laws.proofs.Options.{no-such, same-some}
-use Rattle.promises.proofs.Asserts.Safe.{Safe, goes, after, known, by-bool, by-option, unwraps, case-bool}
-use Rattle.promises.proofs.Asserts.Lists.{All, end, more, all-at}
+use Rattle.laws.proofs.All.{All, end, more, all-at}
+use Rattle.laws.proofs.Bools.{case-bool}
+use Rattle.promises.proofs.Asserts.Safe.{Safe, goes, after, known, by-bool, by-option, unwraps}
 use Rattle.promises.proofs.Asserts.Sound.{Named, Goals, SoundAnswer, SoundStrand, Rooted, SoundStack}
 use Rattle.promises.proofs.Asserts.Keeping.{rooted-grows, enqueue-kept, table-is, change-is, table-sound, searching-kept}
 use Rattle.promises.proofs.Asserts.Unwinding.{Flows, unwinding}

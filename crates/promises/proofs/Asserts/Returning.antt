@@ -9,15 +9,19 @@ use mathlib.Core.Option.{some}
 use mathlib.Core.List.{List, [], _∷_, _++_}
 use lib.ListN.{length, getElem?, take, length-append}
 use lib.Dec.{ltb}
+use lib.Seq.{take-length}
 use Rattle.definitions.specs.{ExClause, FlounderedSubgoal}
 use Rattle.definitions.specs.Lists.{total, push, swap-remove}
 use Rattle.definitions.specs.Strand.{with-floundered}
 use Rattle.definitions.specs.Logic.{flounder-subgoal, reconsider-from, reconsider-floundered-subgoals}
+use Rattle.definitions.proofs.Lists.{all-push, all-remove, all-swap-remove, length-remove, swapped}
 use Rattle.promises.specs.NeverAsserts.{PassesFind}
 use Rattle.laws.proofs.Lists.{at-place}
-use Rattle.promises.proofs.Asserts.Safe.{Safe, goes, known, unwraps, case-option, case-bool}
-use Rattle.promises.proofs.Asserts.Lists.{all-at, all-push, all-remove, all-swap-remove, remove-length, total-append, total-length}
-use Rattle.promises.proofs.Asserts.Lists.{take-whole, take-next, take-none, swapped}
+use Rattle.laws.proofs.All.{all-at}
+use Rattle.laws.proofs.Totals.{total-append, total-length, total-take-suc, total-take-past}
+use Rattle.laws.proofs.Options.{case-option}
+use Rattle.laws.proofs.Bools.{case-bool}
+use Rattle.promises.proofs.Asserts.Safe.{Safe, goes, known, unwraps}
 use Rattle.promises.proofs.Asserts.Sound.{SoundClause}
 
 -- 1 for a literal that would return at this answer time
@@ -45,12 +49,12 @@ flounders {n} {x} s i lt =
         subgoals-named = all-remove i (s .subgoals-named);
         floundered-named = all-push (s .floundered-named) (all-at i (s .subgoals-named) (l .1));
         delayed-named = s .delayed-named;
-        few-literals = let o = s .few-literals in let p = remove-length (x .subgoals) i lt in
+        few-literals = let o = s .few-literals in let p = length-remove (x .subgoals) i lt in
             let q : length (x .floundered-subgoals ++ (new ∷ [])) ≡ length (x .floundered-subgoals) + 1 = length-append
             (x .floundered-subgoals) (new ∷ []) in omega arith;
         few-delayed = s .few-delayed;
       };
-      fewer = remove-length (x .subgoals) i lt;
+      fewer = length-remove (x .subgoals) i lt;
       same-lates = omega arith;
     }))
 
@@ -105,7 +109,7 @@ module _ (n i : ℕ) (ih : Reconsiders n i) (x : ExClause) (s : SoundClause n x)
       (swap-remove (x .floundered-subgoals) i)))
   comes-back l e one =
       let fs = x .floundered-subgoals in
-      let next = take-next (late (x .answer-time)) fs i l e in
+      let next = total-take-suc (late (x .answer-time)) fs i l e in
       let out = swapped (late (x .answer-time)) fs i l e in
       let size = swapped (λ a. 1) fs i l e in
       let size-before = total-length fs in
@@ -133,11 +137,11 @@ module _ (n i : ℕ) (ih : Reconsiders n i) (x : ExClause) (s : SoundClause n x)
 
   at-next : Reconsidered n x (suc i) (reconsider-from (suc i) x)
   at-next = case-option (Reconsidered n x (suc i)) (getElem? (x .floundered-subgoals) i)
-      (λ e. passed-by (take-none (late (x .answer-time)) (x .floundered-subgoals) i e))
+      (λ e. passed-by (total-take-past (late (x .answer-time)) (x .floundered-subgoals) i e))
       (λ l e. case-bool (Reconsidered n x (suc i)) (ltb (l .floundered-time) (x .answer-time))
       (λ b. comes-back l e (ap (λ b. elim b [ true ↦ 1 | false ↦ 0 ]) b))
       (λ b. let z : late (x .answer-time) l ≡ 0 = ap (λ b. elim b [ true ↦ 1 | false ↦ 0 ]) b in
-      let y = take-next (late (x .answer-time)) (x .floundered-subgoals) i l e in passed-by (omega arith)))
+      let y = total-take-suc (late (x .answer-time)) (x .floundered-subgoals) i l e in passed-by (omega arith)))
 
 reconsiders : (n i : ℕ) → Reconsiders n i
 reconsiders n zero x s = record {
@@ -166,7 +170,7 @@ pub record Returned (n : ℕ) (x x' : ExClause) : Type 0 where
 pub returns : {n : ℕ} (x : ExClause) → SoundClause n x → Returned n x (reconsider-floundered-subgoals x)
 returns {n} x s =
     let r = reconsiders n (length (x .floundered-subgoals)) x s in
-    let whole = take-whole (late (x .answer-time)) (x .floundered-subgoals) in
+    let whole = ap (total (late (x .answer-time))) (take-length (x .floundered-subgoals)) in
     record {
       clause = r .clause;
       returned = let y = r .returned in omega arith;

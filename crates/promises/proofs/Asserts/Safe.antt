@@ -53,18 +53,6 @@ module _ {A B : Type 0} {Q : B → Type 0} where
 pub unwraps : {A : Type 0} (o : Option A) (a : A) → o ≡ some a → unwrap o ≡ go a
 unwraps o a e = rw e
 
--- the same for a statement of any kind
-module _ {A B : Type 0} (P : B → Type 0) where
-  pub case-option : (o : Option A) {x : B} {y : A → B} → (o ≡ none → P x) → ((a : A) → o ≡ some a → P (y a))
-      → P (elim o [ none ↦ x | some a ↦ y a ])
-  case-option none h k = h refl
-  case-option (some a) h k = k a refl
-
-module _ {B : Type 0} (P : B → Type 0) where
-  pub case-bool : (b : Bool) {x y : B} → (b ≡ true → P x) → (b ≡ false → P y) → P (elim b [ true ↦ x | false ↦ y ])
-  case-bool true h k = h refl
-  case-bool false h k = k refl
-
 -- a stop that is passed on
 module _ {A B : Type 0} {P : A → Type 0} {Q : B → Type 0} where
   pub passing : {r : Stops A} {k : A → Stops B} → Safe P r → ((a : A) → P a → Safe Q (k a))

@@ -18,11 +18,12 @@ use Rattle.definitions.specs.Logic.{InvalidAnswer, SolveState, with-forest, Flo
 use Rattle.definitions.specs.Turn.{Ending, found, fail, cut, stopped, Searched, put-back, stored-answer, ok-ending, search-turns, begin}
 use Rattle.definitions.specs.Turn.{root-answer}
 use Rattle.definitions.specs.Forest.{is-invalid}
-use Rattle.laws.proofs.Lists.{at-place}
-use Rattle.laws.proofs.Options.{same-some}
-use Rattle.promises.proofs.Asserts.Safe.{NotZero, case-option, case-bool, case-stops, case-safe, stop-go}
+use Rattle.laws.proofs.Lists.{at-place, place-under, no-place}
+use Rattle.laws.proofs.Options.{same-some, case-option}
+use Rattle.laws.proofs.All.{end}
+use Rattle.laws.proofs.Bools.{case-bool}
+use Rattle.promises.proofs.Asserts.Safe.{NotZero, case-stops, case-safe, stop-go}
 use Rattle.promises.proofs.Asserts.Safe.{unwrapped, unwraps}
-use Rattle.promises.proofs.Asserts.Lists.{end, place-under, no-place}
 use Rattle.promises.proofs.Asserts.Sound.{Reached, SoundForest, Rooted, SoundState}
 use Rattle.promises.proofs.Asserts.Keeping.{grows-same, steady-same, Kept, ticks, table-is}
 use Rattle.promises.proofs.Asserts.Unwinding.{Ended, ended-kept, Left, Flows}

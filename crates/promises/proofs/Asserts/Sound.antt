@@ -14,7 +14,7 @@ use Rattle.definitions.specs.Table.{Table}
 use Rattle.definitions.specs.Tables.{Tables, Forest, queued, held}
 use Rattle.definitions.specs.Stack.{Stack, active}
 use Rattle.definitions.specs.Logic.{SolveState}
-use Rattle.promises.proofs.Asserts.Lists.{All}
+use Rattle.laws.proofs.All.{All}
 
 -- A literal, a list of delayed goals: each names a goal of the book, which has n.
 

@@ -18,8 +18,8 @@ use Rattle.definitions.specs.Forest.{is-marked, Opened, opened, open-goal, not-
 use Rattle.definitions.specs.Forest.{peek-rounds, any-future-answer}
 use Rattle.definitions.specs.Calls.{Call, opens, searches, peeks, asks-future, Reply, refusal, table, searched, peeked, future, call, calls}
 use Rattle.definitions.specs.Model.{Each}
+use Rattle.definitions.proofs.Refusal.{all-pass}
 use Rattle.laws.proofs.Lists.{at-place}
-use Rattle.promises.proofs.Reading.{all-pass}
 use Rattle.promises.proofs.Asserts.Safe.{NotZero, case-safe}
 use Rattle.promises.proofs.Asserts.Sound.{Reached, SoundForest}
 use Rattle.promises.proofs.Asserts.Making.{makes}

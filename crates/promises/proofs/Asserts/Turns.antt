@@ -14,9 +14,11 @@ use Rattle.definitions.specs.Tables.{Tables, Forest, with-tables, change-table,
 use Rattle.definitions.specs.Stack.{StackEntry, Stack, with-active, active, active-count}
 use Rattle.definitions.specs.Logic.{SolveState, with-forest, SubGoalSelection, Selected, NotSelected, select-subgoal}
 use Rattle.definitions.specs.Turn.{on-subgoal-selected, on-no-remaining-subgoals, on-no-strands-left, eligible, next-strand, turn}
-use Rattle.laws.proofs.Lists.{total-set}
-use Rattle.promises.proofs.Asserts.Safe.{Safe, goes, after, known, by-option, case-option}
-use Rattle.promises.proofs.Asserts.Lists.{All, all-first, all-rest, all-rotate, rotate-length}
+use Rattle.definitions.proofs.Lists.{all-rotate, length-rotate-left}
+use Rattle.laws.proofs.All.{All, all-first, all-rest}
+use Rattle.laws.proofs.Options.{case-option}
+use Rattle.laws.proofs.Totals.{total-set}
+use Rattle.promises.proofs.Asserts.Safe.{Safe, goes, after, known, by-option}
 use Rattle.promises.proofs.Asserts.Sound.{SoundStrand, SoundForest, Active, SoundStack, SoundState}
 use Rattle.promises.proofs.Asserts.Keeping.{grows-above, strand-grows, Kept, strands-kept, table-is, change-is, table-sound}
 use Rattle.promises.proofs.Asserts.Choosing.{Choice, selects-safely}
@@ -40,7 +42,7 @@ popped n ts t (s ∷ ss) e x = (all-first x, (ss, refl, all-rest x, e))
 dequeued : (n : ℕ) (ts : Tables) (test : Strand → Bool) (t : Table) → All (SoundStrand n ts) (t .strands)
     → Dequeued n ts t (dequeue-next-strand-that test t)
 dequeued n ts test t x = case-option (Dequeued n ts t) (position test (t .strands)) (λ e. tt)
-    (λ i e. popped n ts t (rotate-left (t .strands) i) (rotate-length (t .strands) i) (all-rotate i x))
+    (λ i e. popped n ts t (rotate-left (t .strands) i) (length-rotate-left (t .strands) i) (all-rotate i x))
 
 module _ (n root index first : ℕ) where
   -- what is taken

@@ -16,8 +16,8 @@ use Rattle.definitions.specs.Logic.{SolveState, RootSearchFail, Flow, continue,
 use Rattle.definitions.specs.Logic.{drop-state, unwound}
 use Rattle.definitions.specs.Turn.{fail}
 use Rattle.definitions.specs.Forest.{is-invalid}
+use Rattle.laws.proofs.All.{All, end, more, all-map, all-first, all-rest}
 use Rattle.promises.proofs.Asserts.Safe.{Safe, goes, after, weaker, known, unwraps}
-use Rattle.promises.proofs.Asserts.Lists.{All, end, more, all-map, all-first, all-rest}
 use Rattle.promises.proofs.Asserts.Sound.{Reached, SoundForest, Calls, Below, Rooted, Searching, Active, SoundState}
 use Rattle.promises.proofs.Asserts.Keeping.{Steady, Grows, grows-above, calls-grow, Kept, kept-same, kept-trans, enqueue-kept}
 use Rattle.promises.proofs.Asserts.Keeping.{queued-enqueue, change-is}

@@ -10,10 +10,10 @@ use Rattle.definitions.specs.Table.{Table}
 use Rattle.definitions.specs.Tables.{Forest}
 use Rattle.definitions.specs.Logic.{Selected, selecting, select-from, get-or-create-table-for-ucanonical-goal}
 use Rattle.definitions.specs.Logic.{get-or-create-table-for-subgoal}
+use Rattle.definitions.proofs.Lists.{is-empty-push}
 use Rattle.laws.proofs.Lists.{last-place, last-one}
 use Rattle.promises.proofs.Plain.Model.{Lit, pos, neg, Body, literal-goal}
 use Rattle.promises.proofs.Link.View.{literal, literals, strand-of, selection}
-use Rattle.promises.proofs.Link.Lists.{last-some}
 
 -- a strand with its last literal selected, at any index k that is so
 module _ (others : ℕ) (f : Forest) (a : ℕ) (l : Lit) (b : Body) (t i : ℕ) (tb : Table) (made : getElem? (f .tables) i ≡ some tb)
@@ -39,7 +39,7 @@ pub select-free : (passes others : ℕ) (f : Forest) (a : ℕ) (l : Lit) (b : Bo
     → select-from (suc (suc passes)) others f (strand-of a (l ∷ b) none t) ≡ go
     (selecting Selected (strand-of a (l ∷ b) (some (selection j b)) t) f')
 select-free passes others f a l b t j f' tb e e' n =
-    rw (last-some (literals b) (literal l), select-from)
+    rw (is-empty-push (literals b) (literal l), select-from)
     (rw (last-place (literals b) (literal l)) (rw (last-one (literals b) (literal l)) (rw (goal-same l f others j f' e)
     (select-at others f' a l b t j tb e' n (length (literals (l ∷ b)) - 1) passes
     ∙ ap (λ k. go (selecting Selected (strand-of a (l ∷ b) (some (record { subgoal-index = k; subgoal-table = j; answer-index = 0 })) t)

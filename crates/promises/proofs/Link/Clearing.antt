@@ -11,8 +11,8 @@ use Rattle.definitions.specs.Lists.{total}
 use Rattle.definitions.specs.Strand.{Strand}
 use Rattle.definitions.specs.Tables.{Tables, Forest}
 use Rattle.definitions.specs.Turn.{clear-each, clear-strands-after-cycle}
-use Rattle.laws.proofs.Lists.{total-set}
 use Rattle.laws.proofs.Options.{no-such}
+use Rattle.laws.proofs.Totals.{total-set}
 use Rattle.promises.proofs.Plain.Model.{literal-goal}
 use Rattle.promises.proofs.Plain.Machine as M
 use Rattle.promises.proofs.Link.View.{free, bound, QueueIs, q-end, q-more, table-of}

@@ -16,14 +16,15 @@ use Rattle.definitions.specs.Stack.{Stack}
 use Rattle.definitions.specs.Stop.{go}
 use Rattle.definitions.specs.Logic.{return-err, QuantumExceeded}
 use Rattle.definitions.specs.Turn.{on-no-strands, on-own-cycle, on-part-of-cycle, on-no-strands-left}
+use Rattle.definitions.proofs.Lists.{remove-push}
 use Rattle.laws.proofs.Lists.{last-one}
 use Rattle.laws.proofs.Options.{no-such, same-some}
+use Rattle.laws.proofs.Sums.{sum}
 use Rattle.promises.proofs.Plain.Model.{pos, neg, Body}
 use Rattle.promises.proofs.Plain.Machine as M
 use Rattle.promises.proofs.Plain.Steps.{put-here, put-there}
 use Rattle.promises.proofs.Link.View.{literals, strand-of, selection, machine-strand, free, bound, QueueIs, q-end, q-more, table-of}
 use Rattle.promises.proofs.Link.View.{table-is, no-active, an-active, entry-of, machine-entry, StackIs, s-end, s-more}
-use Rattle.promises.proofs.Link.Lists.{last-gone}
 use Rattle.promises.proofs.Link.Tables.{Agree, agree-set}
 use Rattle.promises.proofs.Link.Back.{table-here, queue-set, enqueued, unwound-is}
 use Rattle.promises.proofs.Link.Turn.{state-of, TurnIs, going, gave-up, no-more, lost, Lined, lined-busy}
@@ -54,7 +55,7 @@ module _ (book : Book) (limit : ℕ) {gs : List ℕ} {ts : Tables} {p : M.Forest
       agree in
       rw (last-one (literals b) (Positive h 0 false)) (rw (d .is) (gave-up (λ i h o. o) refl (d .agree)))
   emptied-is (s-more i' g' c' pm' nm' e' (an-active (bound a (neg h) b t j w k)) xs) lined =
-      rw (last-one (literals b) (Negative h false)) (rw (last-gone (literals b) (Negative h false))
+      rw (last-one (literals b) (Negative h false)) (rw (remove-push (literals b) (Negative h false))
       (going (λ i h o. o) agree (s-more i' g' c' pm' nm' e' (an-active (free a b t (names-tail w))) xs)))
 
   -- part of a cycle that ends further down
@@ -80,7 +81,7 @@ module _ (book : Book) (limit : ℕ) {gs : List ℕ} {ts : Tables} {p : M.Forest
   cleared-is : {ds : Stack} {es : List M.Entry} → StackIs (length book) gs ds es
       → Lined (limits-of book limit) (machine-entry g c pm nm none) es → (a m : Bool) (ss : List Strand)
       → QueueIs (length book) gs ss (p .queue g) → getElem? ts i ≡ some (table-of g a m ss)
-      → (o : Option M.Queues) → M.clear (M.total (length book) (λ g. length (p .queue g))) (p .queue g) (M.put (p .queue) g []) ≡ o
+      → (o : Option M.Queues) → M.clear (sum (length book) (λ g. length (p .queue g))) (p .queue g) (M.put (p .queue) g []) ≡ o
       → nm ≡ MAX
       → TurnIs book limit gs before r (on-own-cycle (state-of book limit ts (p .clock) (entry-of i c pm nm none ∷ ds))
       (entry-of i c pm nm none) (table-of g a m ss)) (M.cleared (limits-of book limit) o p es)
@@ -90,8 +91,8 @@ module _ (book : Book) (limit : ℕ) {gs : List ℕ} {ts : Tables} {p : M.Forest
       let emptied = table-of g (p .answered g) (p .first g) [] in
       let ts' = set ts i emptied in
       let d = clears book limit 0 (p .clock) gs p (suc (strands-in ts')) ss (p .queue g) x ts' (M.put (p .queue) g [])
-      (queue-set agree i g at [] [] q-end) (omega arith) (M.total (length book) (λ g. length (p .queue g))) [] q'
-      (ap (λ z. M.clear (M.total (length book) (λ g. length (p .queue g))) z (M.put (p .queue) g [])) (append-nil (p .queue g)) ∙ k) in
+      (queue-set agree i g at [] [] q-end) (omega arith) (sum (length book) (λ g. length (p .queue g))) [] q'
+      (ap (λ z. M.clear (sum (length book) (λ g. length (p .queue g))) z (M.put (p .queue) g [])) (append-nil (p .queue g)) ∙ k) in
       let done : Agree book gs (d .after) (M.with-queue p q') =
       subst (λ z. Agree book gs (d .after) (M.with-queue p z)) (finished (d .fuel) (d .queues) q' (d .onward)) (d .agree) in
       let b = unwound-is book limit 0 (p .clock) xs (lined-busy (limits-of book limit) (machine-entry g c pm nm none) es lined) done in
@@ -108,7 +109,7 @@ module _ (book : Book) (limit : ℕ) {gs : List ℕ} {ts : Tables} {p : M.Forest
       → TurnIs book limit gs before r (on-own-cycle (state-of book limit ts (p .clock) (entry-of i c pm nm none ∷ ds))
       (entry-of i c pm nm none) (table-of g a m ss)) (M.clearing (limits-of book limit) d p (machine-entry g c pm nm none) es)
   own-is xs lined a m ss x e (yes k) = cleared-is xs lined a m ss x e
-      (M.clear (M.total (length book) (λ g. length (p .queue g))) (p .queue g) (M.put (p .queue) g [])) refl k
+      (M.clear (sum (length book) (λ g. length (p .queue g))) (p .queue g) (M.put (p .queue) g [])) refl k
   own-is xs lined a m ss x e (no o) = lost tt
 
   mode-agree : (ss : List Strand) → QueueIs (length book) gs ss (p .queue g)

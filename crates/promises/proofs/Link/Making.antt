@@ -17,6 +17,7 @@ use Rattle.definitions.specs.Model.{Each, PlainLiteral, PlainClause, PlainGoal}
 use Rattle.definitions.specs.Logic.{initial-strand, build-table, get-or-create-table-for-ucanonical-goal}
 use Rattle.laws.proofs.Lists.{at-append, last-one}
 use Rattle.laws.proofs.Options.{no-such, same-some}
+use Rattle.laws.proofs.Sums.{sum}
 use Rattle.promises.proofs.Plain.Model.{Lit, Body}
 use Rattle.promises.proofs.Plain.Machine as M
 use Rattle.promises.proofs.Link.View.{literal, literals, Names, strand-of, StrandIs, free, QueueIs, q-end, q-more, table-of}
@@ -158,7 +159,7 @@ new-agree {book} {gs} {ts} {p} a h lt none-yet t x = record {
     made i g (last e k) = made-new (p .made) h g e
 
 module _ {book : Book} (sound : Sound book) (limit mark : ℕ) {gs : List ℕ} {ts : Tables} {p : M.Forest} (a : Agree book gs ts p)
-    (c others h : ℕ) (lt : h < length book) (room : others + M.total (length book) (λ g. length (p .queue g)) ≤ 256) where
+    (c others h : ℕ) (lt : h < length book) (room : others + sum (length book) (λ g. length (p .queue g)) ≤ 256) where
   new-table : Absent h gs → (G : Goal) → getElem? book h ≡ some G
       → TableAt (length book) (gs ++ (h ∷ [])) (M.make p h) h (table-of h false true (map initial-strand (G .clauses)))
   new-table none-yet G e =

@@ -11,6 +11,7 @@ use lib.ListN.{length, getElem?}
 use Rattle.definitions.specs.Book.{Book, Goal, Clause, Literal, Positive, Negative, clause-count}
 use Rattle.definitions.specs.Model as D
 use Rattle.definitions.specs.Model.{Each, PlainClause, clauses-of, LevelLiteral, Holds, holds-end, holds-below, holds-here, holds-not}
+use Rattle.laws.proofs.Sums.{sum, sum-shift}
 use Rattle.promises.proofs.Plain.Model as P
 use Rattle.promises.proofs.Plain.Model.{Lit, pos, neg, Body, LevelLit, LevelBody, levels, levels-end, Derived, done, lower, here}
 use Rattle.promises.proofs.Plain.Model.{absent, either}
@@ -80,13 +81,9 @@ bodies-length : (cs : List Clause) → length (bodies cs) ≡ length cs
 bodies-length [] = refl
 bodies-length (c ∷ cs) = ap suc (bodies-length cs)
 
-total-shift : (n : ℕ) (f : ℕ → ℕ) → M.total (suc n) f ≡ f 0 + M.total n (λ g. f (suc g))
-total-shift zero f = refl
-total-shift (suc n) f = let x = total-shift n f in omega arith
-
-pub clauses-total : (book : Book) → M.total (length book) (λ g. length (book-of book g)) ≡ clause-count book
+pub clauses-total : (book : Book) → sum (length book) (λ g. length (book-of book g)) ≡ clause-count book
 clauses-total [] = refl
-clauses-total (G ∷ book) = total-shift (length book) (λ g. length (book-of (G ∷ book) g))
+clauses-total (G ∷ book) = sum-shift (length book) (λ g. length (book-of (G ∷ book) g))
     ∙ (let x = clauses-total book in let y = bodies-length (G .clauses) in omega arith)
 
 -- The models.

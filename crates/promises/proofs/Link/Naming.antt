@@ -15,8 +15,8 @@ use Rattle.definitions.specs.Tables.{Tables, Forest}
 use Rattle.definitions.specs.Forest.{Opened, opened}
 use Rattle.definitions.specs.Claim.{Names, Named}
 use Rattle.definitions.specs.Model.{Each}
+use Rattle.definitions.proofs.Refusal.{all-pass}
 use Rattle.laws.proofs.Options.{same-some}
-use Rattle.promises.proofs.Reading.{all-pass}
 use Rattle.promises.proofs.Plain.Machine as M
 use Rattle.promises.proofs.Plain.Whole.{Ready, ready-strands}
 use Rattle.promises.proofs.Link.Tables.{Agree}

@@ -5,6 +5,7 @@ use lib.ListN.{length}
 use Rattle.definitions.specs.{MAX}
 use Rattle.definitions.specs.Book.{Book}
 use Rattle.definitions.specs.Tables.{Tables, Forest}
+use Rattle.laws.proofs.Sums.{sum}
 use Rattle.promises.proofs.Plain.Model.{Levelled}
 use Rattle.promises.proofs.Plain.Claim.{Inside}
 use Rattle.promises.proofs.Plain.Machine as M
@@ -22,7 +23,7 @@ pub record Premises : Type 0 where
   pub levelled : Levelled (book-of book) level
   pub inside : Inside (book-of book) (length book)
   pub room : limit ≤ MAX
-  pub few : M.total (length book) (λ g. length (book-of book g)) ≤ 256
+  pub few : sum (length book) (λ g. length (book-of book g)) ≤ 256
 
 -- the setting of the plain machine's theorems
 abbrev pub setting-of : Premises → Setting

@@ -17,13 +17,13 @@ use Rattle.definitions.specs.Logic.{SolveState, with-forest, Flow, continue, re
 use Rattle.definitions.specs.Logic.{drop-state}
 use Rattle.definitions.specs.Turn.{turn, Ending, found, fail, cut, stopped, Searched, put-back, stored-answer, ok-ending, search-turns}
 use Rattle.definitions.specs.Turn.{begin}
+use Rattle.laws.proofs.Sums.{sum-add, sum-zeros}
 use Rattle.promises.proofs.Plain.Machine as M
 use Rattle.promises.proofs.Plain.Steps.{Setting}
 use Rattle.promises.proofs.Plain.Turns.{size, Ends, Going, TurnOK, turn-ok}
 use Rattle.promises.proofs.Plain.Whole.{clauses, Ready, begin-inv, turn-stored, no-member, going-strands, ready-strands}
 use Rattle.promises.proofs.Link.View.{table-of, no-active, entry-of, StackIs, s-end, s-more}
 use Rattle.promises.proofs.Link.Tables.{Extends, forest-of, Agree}
-use Rattle.promises.proofs.Link.Sums.{total-add}
 use Rattle.promises.proofs.Link.Back.{table-here, Became, dropped-is}
 use Rattle.promises.proofs.Link.Turn.{state-of, Lost, TurnIs, going, gave-up, no-more, answered, clock-out, lost, lined-busy}
 use Rattle.promises.proofs.Link.Turn.{piled-lined}
@@ -73,10 +73,6 @@ lost-never S r b a M.cut l e = l
 lost-never S r b a M.clock-ended l e = l
 lost-never S r b a M.noted l e = l
 lost-never S r b a (M.refused n) l e = l
-
-total-zero : (n : ℕ) → M.total n (λ u. 0) ≡ 0
-total-zero zero = refl
-total-zero (suc n) = let x = total-zero n in omega arith
 
 -- what the loop does with a turn's result
 abbrev turned : Stops Flow → (limit done t i : ℕ) → SolveState → Searched
@@ -239,9 +235,9 @@ module _ (G : Premises) where
       let none-left : p .queue g ≡ [] = no-member (p .queue g) (λ s m. ready .fine .quiet g yes-g s (inl m)) in
       let first : M.turn (limits-in G) p' e [] ≡ M.stop M.no-more-left p' = turn-stored (setting-of G) p' g c none-left in
       let strands = ready-strands (setting-of G) p ready in
-      let sum = total-add (length (G .book)) (λ u. length (p .queue u)) (λ u. 0) in
+      let sums = sum-add (length (G .book)) (λ u. length (p .queue u)) (λ u. 0) in
       let y = turn-is (G .sound) (G .limit) (ticked a {c = suc (p .clock)}) (s-more t g c MAX MAX at no-active s-end) refl
-      (let z = total-zero (length (G .book)) in omega arith) in
+      (let z = sum-zeros (length (G .book)) in omega arith) in
       rw (tick-is ts (p .clock) lt, begin) (rw first
       (after-stored y first n 0 t (state-of (G .book) (G .limit) ts c (entry-of t c MAX MAX none ∷ []))))
   stored-search {gs} {ts} {p} a ready t g n at yes-g (no o) =

@@ -17,12 +17,12 @@ use Rattle.definitions.specs.Tables.{Tables, Forest}
 use Rattle.definitions.specs.Stack.{StackEntry, Stack, is-active}
 use Rattle.definitions.specs.Logic.{merge-answer-into-strand, merged, failed, unwind-stack}
 use Rattle.definitions.specs.Turn.{on-subgoal-selected, coinductive-entries, on-cycle}
+use Rattle.definitions.proofs.Lists.{remove-push}
 use Rattle.laws.proofs.Lists.{last-one}
 use Rattle.promises.proofs.Plain.Model.{Lit, pos, neg, Body, literal-goal}
 use Rattle.promises.proofs.Plain.Machine as M
 use Rattle.promises.proofs.Link.View.{literals, Names, names, strand-of, selection, machine-strand, free, bound, table-of, no-active}
 use Rattle.promises.proofs.Link.View.{an-active, entry-of, machine-entry, StackIs, s-end, s-more}
-use Rattle.promises.proofs.Link.Lists.{last-gone}
 use Rattle.promises.proofs.Link.Tables.{tables-map, forest-of, Agree}
 use Rattle.promises.proofs.Link.Back.{table-here, enqueued, unwound-is}
 use Rattle.promises.proofs.Link.Turn.{state-of, TurnIs, going, gave-up, clock-out, Lined, lined-top, lined-busy, lined-apart}
@@ -40,7 +40,7 @@ module _ (book : Book) (limit : ℕ) (ts : Tables) (k i c pm nm : ℕ) (ds : Sta
       (strand-of a (pos h ∷ b) (some (selection j b)) t) (selection j b) the-answer
       ≡ go (merged (strand-of (suc a) b none t) (state-of book limit ts k (entry-of i c pm nm none ∷ ds)))
   merge-positive = rw here (rw (and-false (is-complete (tb .answer-mode)))
-      (rw (last-one (literals b) (Positive h 0 false)) (rw (last-gone (literals b) (Positive h 0 false)))))
+      (rw (last-one (literals b) (Positive h 0 false)) (rw (remove-push (literals b) (Positive h 0 false)))))
 
   merge-negative : merge-answer-into-strand (state-of book limit ts k (entry-of i c pm nm none ∷ ds))
       (strand-of a (neg h ∷ b) (some (selection j b)) t) (selection j b) the-answer

@@ -14,16 +14,16 @@ use Rattle.definitions.specs.Tables.{Tables, Forest}
 use Rattle.definitions.specs.Stack.{StackEntry, Stack, active}
 use Rattle.definitions.specs.Logic.{SolveState, with-forest, Flow, Selected, NotSelected, selecting, select-from, select-subgoal}
 use Rattle.definitions.specs.Turn.{on-subgoal-selected, on-no-remaining-subgoals, eligible, turn}
+use Rattle.laws.proofs.Sums.{sum, sum-mono, sum-add}
 use Rattle.promises.proofs.Plain.Model.{Lit, Body, literal-goal}
 use Rattle.promises.proofs.Plain.Machine as M
-use Rattle.promises.proofs.Plain.Clear.{total-mono}
 use Rattle.promises.proofs.Plain.Taking.{taken, put-length}
 use Rattle.promises.proofs.Plain.Turns.{root-of, count}
 use Rattle.promises.proofs.Link.View.{literals, Names, names, strand-of, selection, StrandIs, free, bound, q-end, table-of, mode-of}
 use Rattle.promises.proofs.Link.View.{no-active, an-active, entry-of, machine-entry, StackIs, s-more}
 use Rattle.promises.proofs.Link.Choose.{select-bound, select-free}
 use Rattle.promises.proofs.Link.Tables.{stack-more, forest-of, Agree}
-use Rattle.promises.proofs.Link.Sums.{total-add, active-under}
+use Rattle.promises.proofs.Link.Sums.{active-under}
 use Rattle.promises.proofs.Link.Making.{Sound, make-table, found-made}
 use Rattle.promises.proofs.Link.Back.{TableHere, table-here, queue-set}
 use Rattle.promises.proofs.Link.Turn.{state-of, TurnIs, from-more, Lined}
@@ -44,7 +44,7 @@ pursuing s clock strand = do
 
 -- all strands together, queued and active, are at most 256
 abbrev pub Room : ℕ → M.Forest → List M.Entry → Type 0
-Room n p es = M.total n (λ u. length (p .queue u) + count es u) ≤ 256
+Room n p es = sum n (λ u. length (p .queue u) + count es u) ≤ 256
 
 lined-same : (N : M.Limits) (g c p n : ℕ) (a b : Option M.Strand) (es : List M.Entry) → Lined N (machine-entry g c p n a) es
     → Lined N (machine-entry g c p n b) es
@@ -83,7 +83,7 @@ module _ {book : Book} (sound : Sound book) (limit : ℕ) {gs : List ℕ} {ts : 
 
   pursue-free : (a : ℕ) (l : Lit) (b : Body) (t : ℕ) → Names (length book) (l ∷ b) → (m : M.Strand)
       → Lined (limits-of book limit) (machine-entry g c pm nm (some m)) es
-      → active ds + 1 + M.total (length book) (λ u. length (p .queue u)) ≤ 256
+      → active ds + 1 + sum (length book) (λ u. length (p .queue u)) ≤ 256
       → TurnIs book limit gs before (root-of (machine-entry g c pm nm (some m)) es)
       (pursuing (state-of book limit ts (p .clock) (entry-of i c pm nm none ∷ ds)) c (strand-of a (l ∷ b) none t))
       (M.pursue (limits-of book limit) (l ∷ b) before p (machine-entry g c pm nm (some m)) es)
@@ -104,7 +104,7 @@ module _ {book : Book} (sound : Sound book) (limit : ℕ) {gs : List ℕ} {ts : 
 
   pursue-is : {s : Strand} {m : M.Strand} → StrandIs (length book) gs s m
       → Lined (limits-of book limit) (machine-entry g c pm nm (some m)) es
-      → active ds + 1 + M.total (length book) (λ u. length (p .queue u)) ≤ 256
+      → active ds + 1 + sum (length book) (λ u. length (p .queue u)) ≤ 256
       → TurnIs book limit gs before (root-of (machine-entry g c pm nm (some m)) es)
       (pursuing (state-of book limit ts (p .clock) (entry-of i c pm nm none ∷ ds)) c s)
       (M.pursue (limits-of book limit) (m .lits) before p (machine-entry g c pm nm (some m)) es)
@@ -126,7 +126,7 @@ module _ {book : Book} (sound : Sound book) (limit : ℕ) {gs : List ℕ} {ts : 
       let stack : StackIs (length book) gs (entry-of i c pm nm (some s) ∷ ds) (machine-entry g c pm nm (some m) ∷ es) =
       s-more i g c pm nm at (an-active x) xs in
       let few = active-under stack (agree .within) in
-      let sum = total-add (length book) (λ u. length (p .queue u)) (λ u. count (machine-entry g c pm nm (some m) ∷ es) u) in
+      let sums = sum-add (length book) (λ u. length (p .queue u)) (λ u. count (machine-entry g c pm nm (some m) ∷ es) u) in
       rw (t .is) (pursue-is sound limit agree i g c pm nm at xs
       (M.with-queue p (M.all-back (p .queue) (machine-entry g c pm nm (some m) ∷ es))) refl x lined (omega arith))
 
@@ -153,8 +153,8 @@ module _ {book : Book} (sound : Sound book) (limit : ℕ) {gs : List ℕ} {ts : 
       let stack : StackIs (length book) gs (entry-of i c pm nm (some s) ∷ ds) (machine-entry g c pm nm (some q) ∷ es) =
       s-more i g c pm nm at (an-active x) xs in
       let few = active-under stack (agree .within) in
-      let sum = total-add (length book) (λ u. length (M.put (p .queue) g r u)) (λ u. count (machine-entry g c pm nm (some q) ∷ es) u) in
-      let less = total-mono (length book) (λ u. length (p .queue u) + count (machine-entry g c pm nm none ∷ es) u)
+      let sums = sum-add (length book) (λ u. length (M.put (p .queue) g r u)) (λ u. count (machine-entry g c pm nm (some q) ∷ es) u) in
+      let less = sum-mono (length book) (λ u. length (p .queue u) + count (machine-entry g c pm nm none ∷ es) u)
       (λ u. length (M.put (p .queue) g r u) + count (machine-entry g c pm nm (some q) ∷ es) u)
       (λ u. let y = put-length (p .queue) g u r (omega arith) in omega arith) in
       rw (t .is) (rw front (rw (t .is) (rw (root-same g c pm nm none (some q) es)

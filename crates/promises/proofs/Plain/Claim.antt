@@ -4,10 +4,11 @@ use mathlib.Core.Path.{_≡_}
 use mathlib.Core.Bool.{false}
 use mathlib.Core.List.{List, [], _∷_, List·Memᴰ}
 use lib.ListN.{length}
+use Rattle.laws.proofs.Sums.{sum}
 use Rattle.promises.proofs.Plain.Model.{Body, Book, In}
 use Rattle.promises.proofs.Plain.Machine.{Limits, Outcome, found, no-more-left, again, cut, clock-ended, noted, refused}
 use Rattle.promises.proofs.Plain.Machine.{negative-cycled, unselected, repeated, broken, Call, opens-goal, searches-goal, peeks-goal}
-use Rattle.promises.proofs.Plain.Machine.{asks-any-future, initial, calls, total}
+use Rattle.promises.proofs.Plain.Machine.{asks-any-future, initial, calls}
 
 -- what the outcome of a search or peek for g at index i says
 abbrev pub Reply : (ℕ → Type 0) → (g i : ℕ) → Outcome → Type 0
@@ -62,4 +63,4 @@ Inside book n = (g : ℕ) (c : Body) → List·Memᴰ c (book g) → g < n
 abbrev pub Demand : Book → (ℕ → ℕ) → Limits → Type 0
 Demand book level N = (cs : List Call) →
     AllSay (In book level) (calls N cs false (initial book))
-    × (agains (calls N cs false (initial book)) ≤ N .goals + total (N .goals) (λ g. length (book g)))
+    × (agains (calls N cs false (initial book)) ≤ N .goals + sum (N .goals) (λ g. length (book g)))

@@ -8,25 +8,14 @@ use mathlib.Core.Logic.{_⊎_, inl, inr}
 use mathlib.Core.Option.{none, some}
 use mathlib.Core.List.{List, [], _∷_, _++_, List·Memᴰ, List·Memᴰ·head, List·Memᴰ·tail, List·Memᴰ·not-nil, List·Memᴰ·append-cases}
 use Rattle.promises.proofs.Plain.Model.{pos, Body, FalseBody, either}
-use Rattle.promises.proofs.Plain.Machine.{Strand, Entry, Queues, pick, put, awaited-goal, clear-next, clear, total}
+use Rattle.promises.proofs.Plain.Machine.{Strand, Entry, Queues, pick, put, awaited-goal, clear-next, clear}
 use Rattle.promises.proofs.Plain.Steps.{Setting, Holds, at-put, put-here}
 use Rattle.promises.proofs.Plain.Stack.{On, OnFrom, Waits, Place, SettledAt, Piled, settled-waits}
 use Rattle.promises.proofs.Plain.Cases.{Inv, top-new}
 use Rattle.promises.proofs.Plain.Pops.{act-on}
 use lib.ListN.{length, length-append}
 use Rattle.laws.proofs.Options.{no-such}
-
-pub total-mono : (n : ℕ) (f f' : ℕ → ℕ) → ((g : ℕ) → f' g ≤ f g) → total n f' ≤ total n f
-total-mono zero f f' h = omega arith
-total-mono (suc n) f f' h = let a = h n in let b = total-mono n f f' h in omega arith
-
-pub total-drop : (n : ℕ) (f f' : ℕ → ℕ) (u j : ℕ) → ((g : ℕ) → f' g ≤ f g) → u < n → f' u + j ≤ f u → total n f' + j ≤ total n f
-total-drop zero f f' u j h lt o = absurd (omega arith)
-total-drop (suc n) f f' u j h lt o = go (ℕ-discrete u n) (total-drop n f f' u j h)
-  where
-    go : Dec (u ≡ n) → (u < n → f' u + j ≤ f u → total n f' + j ≤ total n f) → f' n + total n f' + j ≤ f n + total n f
-    go (yes p) r = let a = total-mono n f f' h in let b : f' n + j ≤ f n = subst (λ v. f' v + j ≤ f v) p o in omega arith
-    go (no p) r = let a = r (omega arith) o in let b = h n in omega arith
+use Rattle.laws.proofs.Sums.{sum, sum-mono, sum-drop}
 
 pub record Stuck (U : ℕ → Type 0) (s : Strand) : Type 0 where
   pub table : ℕ
@@ -69,7 +58,7 @@ module _ (S : Setting) (U : ℕ → Type 0) (out : (u : ℕ) → U u → S .I u 
 
   emptied-total : (q : Queues) (u : ℕ) → ((s : Strand) → List·Memᴰ s (q u) → Stuck U s)
       → ((s : Strand) → List·Memᴰ s (q u) → u < S .limits .goals)
-      → total (S .limits .goals) (λ g. length (put q u [] g)) + length (q u) ≤ total (S .limits .goals) (λ g. length (q g))
+      → sum (S .limits .goals) (λ g. length (put q u [] g)) + length (q u) ≤ sum (S .limits .goals) (λ g. length (q g))
   emptied-total q u stuck inside = go (q u) refl
     where
       l : Less S q (put q u [])
@@ -78,11 +67,11 @@ module _ (S : Setting) (U : ℕ → Type 0) (out : (u : ℕ) → U u → S .I u 
       none-here : length (put q u [] u) ≡ 0
       none-here = ap length (put-here q u u [] refl)
 
-      go : (x : List Strand) → q u ≡ x → total (S .limits .goals) (λ g. length (put q u [] g)) + length (q u) ≤ total (S .limits .goals)
+      go : (x : List Strand) → q u ≡ x → sum (S .limits .goals) (λ g. length (put q u [] g)) + length (q u) ≤ sum (S .limits .goals)
           (λ g. length (q g))
-      go [] p = let a = total-mono (S .limits .goals) (λ g. length (q g)) (λ g. length (put q u [] g)) (l .size) in
+      go [] p = let a = sum-mono (S .limits .goals) (λ g. length (q g)) (λ g. length (put q u [] g)) (l .size) in
           let b : length (q u) ≡ 0 = ap length p in omega arith
-      go (x ∷ xs) p = total-drop (S .limits .goals) (λ g. length (q g)) (λ g. length (put q u [] g)) u (length (q u)) (l .size)
+      go (x ∷ xs) p = sum-drop (S .limits .goals) (λ g. length (q g)) (λ g. length (put q u [] g)) u (length (q u)) (l .size)
           (inside x (subst (List·Memᴰ x) (sym p) (List·Memᴰ·head refl))) (omega (arith, none-here))
 
   waits-some : (s : Strand) (k : Stuck U s) → awaited-goal (s .chosen) (s .lits) ≡ some (k .table)
@@ -90,7 +79,7 @@ module _ (S : Setting) (U : ℕ → Type 0) (out : (u : ℕ) → U u → S .I u 
 
   pub clear-ok : (n : ℕ) (w : List Strand) (q : Queues) → ((s : Strand) → List·Memᴰ s w → Stuck U s)
       → ((u : ℕ) → U u → (s : Strand) → List·Memᴰ s (q u) → Stuck U s) → ((u : ℕ) (s : Strand) → List·Memᴰ s (q u) → u < S .limits .goals)
-      → length w + total (S .limits .goals) (λ g. length (q g)) ≤ n → (q' : Queues) × (clear n w q ≡ some q') × Less S q q'
+      → length w + sum (S .limits .goals) (λ g. length (q g)) ≤ n → (q' : Queues) × (clear n w q ≡ some q') × Less S q q'
   clear-ok zero [] q work queues inside o = (q, refl, record { less = λ u t m. m; most = λ u t m. inr m; size = λ u. omega arith })
   clear-ok zero (s ∷ w) q work queues inside o = absurd (omega arith)
   clear-ok (suc n) [] q work queues inside o = (q, refl, record { less = λ u t m. m; most = λ u t m. inr m; size = λ u. omega arith })
@@ -160,7 +149,7 @@ module _ (S : Setting) (ans : ℕ → Bool) (q : Queues) (k : ℕ) (e : Entry) (
   unfolding Unfounded
   own = inl refl
 
-  pub case-clear : (q' : Queues) × (clear (total (S .limits .goals) (λ g. length (q g))) (q (e .goal)) (put q (e .goal) []) ≡ some q')
+  pub case-clear : (q' : Queues) × (clear (sum (S .limits .goals) (λ g. length (q g))) (q (e .goal)) (put q (e .goal) []) ≡ some q')
       × Less S (put q (e .goal) []) q' × Less S q (put q (e .goal) [])
   case-clear =
       let g = e .goal in
@@ -168,6 +157,6 @@ module _ (S : Setting) (ans : ℕ → Bool) (q : Queues) (k : ℕ) (e : Entry) (
       let inside : (u : ℕ) (s : Strand) → List·Memᴰ s (q u) → u < S .limits .goals = λ u s m. inv .fine .good u s (inl m) .inside in
       let l = less-put S Unfounded no-goal q g here in
       let o = emptied-total S Unfounded no-goal q g here (inside g) in
-      let r = clear-ok S Unfounded no-goal (total (S .limits .goals) (λ g. length (q g))) (q g) (put q g []) here
+      let r = clear-ok S Unfounded no-goal (sum (S .limits .goals) (λ g. length (q g))) (q g) (put q g []) here
       (λ u x s m. stuck u x s (inl (l .less u s m))) (λ u s m. inside u s (l .less u s m)) (omega arith) in
       (r .0, r .1, r .2, l)

@@ -6,6 +6,7 @@ use mathlib.Core.Bool.{Bool, true, false}
 use mathlib.Core.Option.{Option, none, some}
 use mathlib.Core.List.{List, [], _∷_, _++_, map}
 use lib.ListN.{length}
+use Rattle.laws.proofs.Sums.{sum}
 use Rattle.promises.proofs.Plain.Model.{Lit, pos, neg, Body, Book, literal-goal}
 
 -- the book's number of goals, the clock's limit, and the number that stands for "no minimum"
@@ -105,10 +106,6 @@ clear zero (s ∷ w) q = none
 clear (suc n) [] q = some q
 clear (suc n) (s ∷ w) q = clear-next (awaited-goal (s .chosen) (s .lits)) (λ u. clear n (q u ++ w) (put q u []))
 
-abbrev pub total : ℕ → (ℕ → ℕ) → ℕ
-total zero f = 0
-total (suc n) f = f n + total n f
-
 pub data Outcome : Type 0 where
   found : Outcome
   no-more-left : Outcome
@@ -199,7 +196,7 @@ module _ (N : Limits) where
 
   abbrev pub clearing : {P : Type 0} → Dec P → Forest → Entry → List Entry → Turn
   clearing (yes p) f e es =
-      cleared (clear (total (N .goals) (λ g. length (f .queue g))) (f .queue (e .goal)) (put (f .queue) (e .goal) [])) f es
+      cleared (clear (sum (N .goals) (λ g. length (f .queue g))) (f .queue (e .goal)) (put (f .queue) (e .goal) [])) f es
   clearing (no n) f e es = ended negative-cycled f es
 
   abbrev pub cycle-at : Body → Strand → Forest → Entry → Entry → List Entry → Turn

@@ -6,7 +6,7 @@ use mathlib.Core.Path.{_≡_, refl, sym, ap, subst, _∙_}
 use mathlib.Core.Bool.{Bool, true, false}
 use mathlib.Core.Logic.{_⊎_, inl, inr}
 use mathlib.Core.Option.{none, some}
-use mathlib.Core.List.{List, [], _∷_, List·Memᴰ}
+use mathlib.Core.List.{List, [], _∷_, List·Memᴰ, nil≢cons}
 use Rattle.laws.proofs.Options.{no-such, same-some}
 use Rattle.promises.proofs.Plain.Model.{Lit, pos, neg, Body, literal-goal, LevelLit, LevelBody, level-head}
 use Rattle.promises.proofs.Plain.Machine.{Strand, Entry, Queues, pick, put, find-clock}
@@ -184,9 +184,6 @@ pub settled-waits : (S : Setting) {ans : ℕ → Bool} {H : ℕ → Strand → T
     → Settled S ans H q g c m n es P → (s : Strand) → List·Memᴰ s (q g) → (s .time < c → ⊥) → Waits ans (Place P m g c es) s
 settled-waits S i s x late = i .parked s x (let y = i .timed s x in omega arith)
 
-pub nil-cons : {A : Type 0} {l : A} {b : List A} → [] ≡ l ∷ b → ⊥
-nil-cons {A} {l} {b} e = let z : _≡_ {A = ℕ} 0 1 = cc in omega arith
-
 pub still : (ans : ℕ → Bool) (T u : ℕ) → ans u ≡ false → (T ≡ u → ⊥) → put ans T true u ≡ false
 still ans T u a n = put-there ans T u true n ∙ a
 
@@ -207,7 +204,7 @@ module _ (S : Setting) (ans : ℕ → Bool) (H H' : ℕ → Strand → Type 0) (
   }
     where
       apart : (u : ℕ) → List·Memᴰ u P → T ≡ u → ⊥
-      apart u p e = let w = i .others u p s (subst (λ v. H v s) e holds) in nil-cons (sym none-left ∙ w .lits)
+      apart u p e = let w = i .others u p s (subst (λ v. H v s) e holds) in nil≢cons (sym none-left ∙ w .lits)
 
       placed : (u : ℕ) → Place P m g c es u → T ≡ u → ⊥
       placed u (inl p) e = apart u p e

@@ -6,19 +6,19 @@ use mathlib.Core.Path.{_≡_, refl, sym, ap, subst, _∙_}
 use mathlib.Core.Bool.{Bool, true, false, true≢false}
 use mathlib.Core.Logic.{inl, inr}
 use mathlib.Core.Option.{Option, none, some}
-use mathlib.Core.List.{List, [], _∷_, _++_, List·Memᴰ, List·Memᴰ·head, List·Memᴰ·not-nil}
+use mathlib.Core.List.{List, [], _∷_, _++_, List·Memᴰ, List·Memᴰ·head, List·Memᴰ·not-nil, nil≢cons}
 use Rattle.promises.proofs.Plain.Model.{Lit, pos, neg, Body, literal-goal, either}
 use Rattle.promises.proofs.Plain.Steps.{Setting, Fine, Step, fine-step, step-trans, Holds, moved, put-here}
 use Rattle.promises.proofs.Plain.Steps.{step-off, step-back, step-drop, step-less}
-use Rattle.promises.proofs.Plain.Stack.{nil-cons}
 use Rattle.promises.proofs.Plain.Cases.{Inv, remade, top-new, case-take, case-popped, case-park, case-no-cycle}
 use Rattle.promises.proofs.Plain.Cases.{case-push}
 use Rattle.promises.proofs.Plain.Pops.{top-pending, fine-answered, case-proved, case-unproved, case-answered, case-not, case-false}
 use Rattle.promises.proofs.Plain.Pops.{case-no-not, case-cycle, case-no-root}
 use lib.ListN.{length, length-append}
 use Rattle.laws.proofs.Options.{no-such, same-some}
+use Rattle.laws.proofs.Sums.{sum}
 use Rattle.promises.proofs.Plain.Machine.{Strand, Entry, Queues, Forest, pick, put, with-queue, make, entry-with, append, popped}
-use Rattle.promises.proofs.Plain.Machine.{pursued, restore, all-back, take-from, find-clock, clear, total, Outcome, found}
+use Rattle.promises.proofs.Plain.Machine.{pursued, restore, all-back, take-from, find-clock, clear, Outcome, found}
 use Rattle.promises.proofs.Plain.Machine.{no-more-left, again, cut, clock-ended, noted, refused, negative-cycled, unselected}
 use Rattle.promises.proofs.Plain.Machine.{repeated, broken, Turn, turn-goes-on, stop, answering, parking, pushing, unanswered}
 use Rattle.promises.proofs.Plain.Machine.{selected, pursue, empty-at, empty, emptied, cleared, clearing, cycle-at, cycle, part-of}
@@ -225,7 +225,7 @@ module _ (S : Setting) (B L : ℕ → ℕ) where
       → ((u : ℕ) → Fits B L f (e ∷ c ∷ es) u) → TurnOK S (root-of c es) B L (empty-at (S .limits) b s f c es)
   empty-at-ok [] f e c es s inv a n a' p few =
       let k = inv .piled .2 in
-      absurd (nil-cons (sym p ∙ sym (ap (λ z. z .lits) (same-some (sym (k .active) ∙ a'))) ∙ k .lits))
+      absurd (nil≢cons (sym p ∙ sym (ap (λ z. z .lits) (same-some (sym (k .active) ∙ a'))) ∙ k .lits))
   empty-at-ok (pos h ∷ b) f e c es s inv a n a' p few = record {
     rest = rest-after S f e (c ∷ es) (f .made) (f .first) (f .queue) es inv
         (step-trans S (step-off S (f .queue) e (c ∷ es) a)
@@ -288,7 +288,7 @@ module _ (S : Setting) (B L : ℕ → ℕ) where
       → ((u : ℕ) → Fits B L f (e ∷ es) u) → TurnOK S (root-of e es) B L (clearing (S .limits) d f e es)
   clearing-ok f e es (yes p) x xs inv a n late high few =
       let r = case-clear S (f .answered) (f .queue) (f .clock) e es inv a late high in
-      cleared-ok (clear (total (S .limits .goals) (λ g. length (f .queue g))) (f .queue (e .goal)) (put (f .queue) (e .goal) [])) f e es x
+      cleared-ok (clear (sum (S .limits .goals) (λ g. length (f .queue g))) (f .queue (e .goal)) (put (f .queue) (e .goal) [])) f e es x
       xs inv a n (r .0) (r .1) (r .2) (r .3) few
   clearing-ok f e es (no o) x xs inv a n late high few =
       absurd (o (top-new S (f .answered) (Holds (f .queue) (e ∷ es)) (f .queue) e es (inv .piled) .1 .plain))
@@ -299,7 +299,7 @@ module _ (S : Setting) (B L : ℕ → ℕ) where
       → ((u : ℕ) → Fits B L f (e ∷ c ∷ es) u) → TurnOK S (root-of c es) B L (cycle-at (S .limits) b s f e c es)
   cycle-at-ok [] f e c es s inv a late a' p lt few =
       let k = inv .piled .2 in
-      absurd (nil-cons (sym p ∙ sym (ap (λ z. z .lits) (same-some (sym (k .active) ∙ a'))) ∙ k .lits))
+      absurd (nil≢cons (sym p ∙ sym (ap (λ z. z .lits) (same-some (sym (k .active) ∙ a'))) ∙ k .lits))
   cycle-at-ok (pos h ∷ b) f e c es s inv a late a' p lt few = record {
     inv = case-cycle S (f .answered) (f .queue) (f .clock) e c es inv s h b a late a' p lt;
     root = root-remade c (min (c .positive-min) (e .positive-min)) (min (c .negative-min) (e .negative-min)) none es;

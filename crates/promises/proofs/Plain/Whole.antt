@@ -10,13 +10,13 @@ use Rattle.promises.proofs.Plain.Model.{Body, Book, either, In, Levelle
 use Rattle.promises.proofs.Plain.Steps.{Setting, Good, Fine, fine-step, step-trans, Holds, moved, step-on, step-tick}
 use Rattle.promises.proofs.Plain.Cases.{Inv}
 use lib.ListN.{length}
+use Rattle.laws.proofs.Sums.{sum, sum-mono, sum-drop}
 use Rattle.promises.proofs.Plain.Claim.{Reply, Plainly, Says, AllSay, agains, Inside, Demand}
-use Rattle.promises.proofs.Plain.Machine.{Limits, Strand, Entry, Forest, take-from, total, Outcome, found, no-more-left, again, cut}
+use Rattle.promises.proofs.Plain.Machine.{Limits, Strand, Entry, Forest, take-from, Outcome, found, no-more-left, again, cut}
 use Rattle.promises.proofs.Plain.Machine.{clock-ended, noted, refused, negative-cycled, unselected, repeated, broken, Turn}
 use Rattle.promises.proofs.Plain.Machine.{turn-goes-on, stop, entry-pushed, tick, idle, taking, turn, follow, run, begin, search-at}
 use Rattle.promises.proofs.Plain.Machine.{search, peek-next, rounds, peek, Call, opens-goal, searches-goal, peeks-goal}
 use Rattle.promises.proofs.Plain.Machine.{asks-any-future, fresh, initial, marked, counts, opening, call-on, calls}
-use Rattle.promises.proofs.Plain.Clear.{total-mono, total-drop}
 use Rattle.promises.proofs.Plain.Turns.{count, size, back-length, Ends, Going, Ended, TurnOK, rest-after, turn-ok}
 
 module _ (S : Setting) (r : ℕ) (B L : ℕ → ℕ) where
@@ -38,7 +38,7 @@ module _ (S : Setting) (r : ℕ) (B L : ℕ → ℕ) where
       (subst (λ z. TurnOK S z B L (turn (S .limits) f e es)) (g .root) (turn-ok S B L f e es (g .inv) (g .fewer)))
 
 abbrev pub potential : Setting → Forest → ℕ
-potential S f = total (S .limits .goals) (size f [])
+potential S f = sum (S .limits .goals) (size f [])
 
 -- a forest between two calls
 pub record Ready (S : Setting) (f : Forest) : Type 0 where
@@ -69,12 +69,12 @@ ended-reply S g i before after repeated x = x
 ended-reply S g i before after broken x = x
 
 ended-falls : (S : Setting) (g : ℕ) (before after : ℕ → ℕ) (o : Outcome) → ((u : ℕ) → after u ≤ before u) → Ends S g before after o
-    → total (S .limits .goals) after + counts o ≤ total (S .limits .goals) before
-ended-falls S g before after found h x = let y = total-mono (S .limits .goals) before after h in omega arith
-ended-falls S g before after no-more-left h x = let y = total-mono (S .limits .goals) before after h in omega arith
-ended-falls S g before after again h (u, l, x) = total-drop (S .limits .goals) before after u 1 h l (omega arith)
-ended-falls S g before after cut h x = let y = total-mono (S .limits .goals) before after h in omega arith
-ended-falls S g before after clock-ended h x = let y = total-mono (S .limits .goals) before after h in omega arith
+    → sum (S .limits .goals) after + counts o ≤ sum (S .limits .goals) before
+ended-falls S g before after found h x = let y = sum-mono (S .limits .goals) before after h in omega arith
+ended-falls S g before after no-more-left h x = let y = sum-mono (S .limits .goals) before after h in omega arith
+ended-falls S g before after again h (u, l, x) = sum-drop (S .limits .goals) before after u 1 h l (omega arith)
+ended-falls S g before after cut h x = let y = sum-mono (S .limits .goals) before after h in omega arith
+ended-falls S g before after clock-ended h x = let y = sum-mono (S .limits .goals) before after h in omega arith
 ended-falls S g before after noted h x = absurd x
 ended-falls S g before after (refused n) h x = absurd x
 ended-falls S g before after negative-cycled h x = absurd x
@@ -271,18 +271,18 @@ initial-ok S = record {
         → Good S g s
     from g s h k = let r = mem-map (S .book g) s (queued g s h) in subst (Good S g) (r .2) (k (r .0) (r .1))
 
-pub initial-total : (n : ℕ) (book : Book) → total n (size (initial book) []) ≤ n + total n (λ g. length (book g))
+pub initial-total : (n : ℕ) (book : Book) → sum n (size (initial book) []) ≤ n + sum n (λ g. length (book g))
 initial-total zero book = omega arith
 initial-total (suc n) book = let x = initial-total n book in let y = map-length (book n) in omega arith
 
 -- the strands of all tables are never more than the clauses
 pub ready-strands : (S : Setting) (f : Forest) → Ready S f
-    → total (S .limits .goals) (λ u. length (f .queue u)) ≤ total (S .limits .goals) (clauses S)
-ready-strands S f r = total-mono (S .limits .goals) (clauses S) (λ u. length (f .queue u)) (r .live)
+    → sum (S .limits .goals) (λ u. length (f .queue u)) ≤ sum (S .limits .goals) (clauses S)
+ready-strands S f r = sum-mono (S .limits .goals) (clauses S) (λ u. length (f .queue u)) (r .live)
 
 pub going-strands : (S : Setting) (r : ℕ) (B : ℕ → ℕ) (f : Forest) (e : Entry) (es : List Entry) → Going S r B (clauses S) f e es
-    → total (S .limits .goals) (λ u. length (f .queue u) + count (e ∷ es) u) ≤ total (S .limits .goals) (clauses S)
-going-strands S r B f e es g = total-mono (S .limits .goals) (clauses S) (λ u. length (f .queue u) + count (e ∷ es) u) (λ u. g .fewer u .1)
+    → sum (S .limits .goals) (λ u. length (f .queue u) + count (e ∷ es) u) ≤ sum (S .limits .goals) (clauses S)
+going-strands S r B f e es g = sum-mono (S .limits .goals) (clauses S) (λ u. length (f .queue u) + count (e ∷ es) u) (λ u. g .fewer u .1)
 
 abbrev pub setting : (book : Book) (level : ℕ → ℕ) (N : Limits) → Levelled book level → Inside book (N .goals) → N .limit ≤ N .max → Setting
 setting book level N levelled inside room = record {

@@ -5,8 +5,8 @@ use native.Mathlib.Omega.{arith}
 use mathlib.Core.Path.{_≡_, ap, _∙_}
 use borrow.Author.Needs.{needs}
 use Rattle.definitions.specs.Book.{command}
+use Rattle.laws.proofs.Spans.{getD-span}
 use Rattle.book.specs.Faults.{marked}
-use Rattle.book.proofs.Spans.{span-getD}
 use Rattle.book.proofs.widths.width.Statement.{statement}
 use Rattle.book.proofs.widths.width.Tie as tie
 
@@ -19,7 +19,7 @@ array-read-result c = search needs
 returns : tie.Need-returns
 returns c =
     let z : 0 + c .args .b ≡ c .args .b = omega arith in
-    span-getD rule 0 256 (c .args .b) 0 (search needs) ∙ ap rule z
+    getD-span rule 0 256 (c .args .b) 0 (search needs) ∙ ap rule z
 
 pub width-spec : {M : Type 1} → statement M
 width-spec = tie.close (tie.spec array-read-result returns)

@@ -4,6 +4,12 @@ use borrow.Author.Needs.{needs}
 use Rattle.stores.proofs.places.take_place.Statement.{statement}
 use Rattle.stores.proofs.places.take_place.Tie as tie
 
+cast-if1 : tie.Need-cast-if1
+cast-if1 c = search needs
+
+mul-if1 : tie.Need-mul-if1
+mul-if1 c = search needs
+
 element-copy-out-if1 : tie.Need-element-copy-out-if1
 element-copy-out-if1 c = search needs
 
@@ -33,4 +39,4 @@ returns-3 c =
 
 pub take-place-spec : {M : Type 1} → statement M
 take-place-spec =
-    tie.close (tie.spec element-copy-out-if1 ring-pop-requires returns add-top returns-2 returns-3)
+    tie.close (tie.spec cast-if1 mul-if1 element-copy-out-if1 ring-pop-requires returns add-top returns-2 returns-3)

@@ -6,10 +6,10 @@ use mathlib.Core.Path.{_≡_, ap, _∙_}
 use lib.ListN.{length, take, length-take}
 use borrow.Author.Needs.{needs}
 use Rattle.definitions.specs.Turn.{other-than}
+use Rattle.definitions.proofs.Lists.{length-other-than}
+use Rattle.laws.proofs.Takes.{take-min}
 use Rattle.strands.specs.declared.answers.Goals.{Goals}
 use Rattle.strands.specs.Answers.{goals-of}
-use Rattle.strands.proofs.AnswerCases.{other-few}
-use Rattle.strands.proofs.Lists.{shown}
 use Rattle.strands.proofs.answers.answer_of.Statement.{statement}
 use Rattle.strands.proofs.answers.answer_of.Tie as tie
 
@@ -30,7 +30,7 @@ cast-t7 c =
     let a = called .before .args in
     let n = called .within in
     let kept = ap (λ (g : Goals). g .count) (o .ensures) in
-    let few = other-few (a .goal) (take (n .result) (a .s .delayed)) in
+    let few = length-other-than (a .goal) (take (n .result) (a .s .delayed)) in
     let shows = length-take (n .result) (a .s .delayed) in
     record { fits = omega (arith, n .ensures) }
 
@@ -45,7 +45,7 @@ returns c =
     let long : length (s .delayed) ≡ 8 = strand-long (called .before) in
     ap (λ (g : Goals). record { variant = s .variant; ambiguous = s .ambiguous; «delayed_count» = g .count; delayed = g .goals })
     (o .ensures
-    ∙ ap (λ (ds : List ℕ). goals-of (other-than (a .goal) ds)) (shown 8 (s .«delayed_count») (n .result) (s .delayed) long (n .ensures)))
+    ∙ ap (λ (ds : List ℕ). goals-of (other-than (a .goal) ds)) (take-min 8 (s .«delayed_count») (n .result) (s .delayed) long (n .ensures)))
 
 pub answer-of-spec : {M : Type 1} → statement M
 answer-of-spec = tie.close (tie.spec within-requires other-than-requires cast-t7 returns)

@@ -3,9 +3,9 @@ use mathlib.Core.Path.{_≡_, sym, ap₂, _∙_}
 use lib.ListN.{length}
 use borrow.Author.Needs.{needs}
 use Rattle.definitions.specs.Lists.{same}
+use Rattle.laws.proofs.Takes.{take-min, length-take-min}
 use Rattle.strands.specs.View.{answer}
 use Rattle.strands.proofs.AnswerCases.{other-variants, same-variants, unequal-lengths}
-use Rattle.strands.proofs.Lists.{shown, shown-length}
 use Rattle.strands.proofs.answers.same_answer.Statement.{statement}
 use Rattle.strands.proofs.answers.same_answer.Tie as tie
 
@@ -29,8 +29,8 @@ returns-2 c =
     let a = start .args in
     let p = long start .0 in
     let q = long start .1 in
-    let n = shown-length 8 (a .a .«delayed_count») (k .before .within .result) (a .a .delayed) p (k .before .within .ensures) in
-    let m = shown-length 8 (a .b .«delayed_count») (k .within2 .result) (a .b .delayed) q (k .within2 .ensures) in
+    let n = length-take-min 8 (a .a .«delayed_count») (k .before .within .result) (a .a .delayed) p (k .before .within .ensures) in
+    let m = length-take-min 8 (a .b .«delayed_count») (k .within2 .result) (a .b .delayed) q (k .within2 .ensures) in
     sym (same-variants (a .a) (a .b) (same-variant .if1 .left)
     ∙ unequal-lengths (answer (a .b) .delayed-subgoals) (answer (a .a) .delayed-subgoals) (λ e. c .if2 .taken (sym m ∙ e ∙ n)))
 
@@ -49,8 +49,8 @@ returns-3 c =
     let n = k .before .within .ensures in
     let m = sym (same-count .if2 .left) ∙ k .within2 .ensures in
     c .same-first .ensures
-    ∙ ap₂ same (shown 8 (a .b .«delayed_count») (k .before .within .result) (a .b .delayed) q m)
-    (shown 8 (a .a .«delayed_count») (k .before .within .result) (a .a .delayed) p n)
+    ∙ ap₂ same (take-min 8 (a .b .«delayed_count») (k .before .within .result) (a .b .delayed) q m)
+    (take-min 8 (a .a .«delayed_count») (k .before .within .result) (a .a .delayed) p n)
     ∙ sym (same-variants (a .a) (a .b) (same-variant .if1 .left))
 
 pub same-answer-spec : {M : Type 1} → statement M

@@ -5,7 +5,7 @@ use mathlib.Core.Path.{_≡_, refl, _∙_}
 use lib.ListN.{length, take, getD, length-set}
 use lib.Seq.{sets}
 use borrow.Author.Needs.{needs}
-use Rattle.strands.proofs.Lists.{sets-next}
+use Rattle.laws.proofs.Takes.{sets-next}
 use Rattle.strands.proofs.delaying.appended.Statement.{statement}
 use Rattle.strands.proofs.delaying.appended.Tie as tie
 

@@ -6,9 +6,9 @@ use mathlib.Core.Path.{_≡_, sym, ap, _∙_}
 use lib.ListN.{length}
 use lib.Seq.{sets}
 use borrow.Author.Needs.{needs}
+use Rattle.laws.proofs.Takes.{take-min, length-take-min}
 use Rattle.strands.specs.View.{answer}
 use Rattle.strands.proofs.DelayCases.{says-over, says-room}
-use Rattle.strands.proofs.Lists.{shown, shown-length}
 use Rattle.strands.proofs.delaying.delay_answer.Statement.{statement}
 use Rattle.strands.proofs.delaying.delay_answer.Tie as tie
 
@@ -32,7 +32,7 @@ returns c =
     let arg = start .args in
     let a = arg .a in
     let long = answer-long start in
-    let few = sym (shown-length 8 (a .«delayed_count») (m .result) (a .delayed) long (m .ensures)) in
+    let few = sym (length-take-min 8 (a .«delayed_count») (m .result) (a .delayed) long (m .ensures)) in
     says-over (arg .s) (answer a .delayed-subgoals) (n .result) (m .result) (n .ensures) few (omega arith)
 
 appended-requires : tie.Need-appended-requires
@@ -54,10 +54,11 @@ returns-2 c =
     let arg = start .args in
     let a = arg .a in
     let long = answer-long start in
-    let few = sym (shown-length 8 (a .«delayed_count») (m .result) (a .delayed) long (m .ensures)) in
+    let few = sym (length-take-min 8 (a .«delayed_count») (m .result) (a .delayed) long (m .ensures)) in
     says-room (arg .s) (answer a .delayed-subgoals) (n .result) (m .result) (n .ensures) few (c .appended .result) (omega arith)
     (c .appended .ensures
-    ∙ ap (λ (gs : List ℕ). sets (arg .s .delayed) (n .result) gs) (shown 8 (a .«delayed_count») (m .result) (a .delayed) long (m .ensures)))
+    ∙ ap (λ (gs : List ℕ). sets (arg .s .delayed) (n .result) gs)
+    (take-min 8 (a .«delayed_count») (m .result) (a .delayed) long (m .ensures)))
 
 pub delay-answer-spec : {M : Type 1} → statement M
 delay-answer-spec =

@@ -3,7 +3,7 @@ use native.Mathlib.Omega.{arith}
 use mathlib.Core.Path.{_≡_}
 use lib.ListN.{length}
 use borrow.Author.Needs.{needs}
-use Rattle.strands.proofs.Lists.{length-mapped}
+use Rattle.laws.proofs.Maps.{length-mapped}
 use Rattle.strands.proofs.LiteralCases.{index-is}
 use Rattle.strands.proofs.literals.next_subgoal_index.Statement.{statement}
 use Rattle.strands.proofs.literals.next_subgoal_index.Tie as tie

@@ -3,8 +3,9 @@ use native.Mathlib.Omega.{arith}
 use mathlib.Core.Path.{_≡_}
 use lib.ListN.{length}
 use borrow.Author.Needs.{needs}
+use Rattle.laws.proofs.Maps.{length-mapped}
 use Rattle.strands.specs.View.{floundered}
-use Rattle.strands.proofs.Lists.{length-mapped, view-empty}
+use Rattle.strands.proofs.Lists.{view-empty}
 use Rattle.strands.proofs.literals.no_floundered.Statement.{statement}
 use Rattle.strands.proofs.literals.no_floundered.Tie as tie
 

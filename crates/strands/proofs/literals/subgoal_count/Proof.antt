@@ -2,7 +2,7 @@
 use mathlib.Core.Path.{_≡_, sym, _∙_}
 use lib.ListN.{length}
 use borrow.Author.Needs.{needs}
-use Rattle.strands.proofs.Lists.{length-mapped}
+use Rattle.laws.proofs.Maps.{length-mapped}
 use Rattle.strands.proofs.LiteralCases.{count-is}
 use Rattle.strands.proofs.literals.subgoal_count.Statement.{statement}
 use Rattle.strands.proofs.literals.subgoal_count.Tie as tie

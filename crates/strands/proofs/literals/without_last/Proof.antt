@@ -4,8 +4,8 @@ use native.Mathlib.Omega.{arith}
 use mathlib.Core.Path.{_≡_, ap, _∙_}
 use lib.ListN.{length}
 use borrow.Author.Needs.{needs}
+use Rattle.laws.proofs.Maps.{length-mapped}
 use Rattle.strands.specs.Fields.{with-literals}
-use Rattle.strands.proofs.Lists.{length-mapped}
 use Rattle.strands.proofs.LiteralCases.{index-is}
 use Rattle.strands.proofs.literals.without_last.Statement.{statement}
 use Rattle.strands.proofs.literals.without_last.Tie as tie

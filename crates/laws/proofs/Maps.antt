@@ -1,0 +1,34 @@
+-- A list with a function at each one: its length, its places, its first ones, and a place written.
+use Prim.Native.Nat.{ℕ, zero, suc, _<_}
+use native.Mathlib.Omega.{arith}
+use mathlib.Core.Path.{_≡_, refl, sym, ap, _∙_}
+use mathlib.Core.Option.{some}
+use mathlib.Core.List.{List, [], _∷_, map}
+use lib.ListN.{length, take, set, getD, getElem?, length-map}
+use Rattle.laws.proofs.Options.{no-such, same-some}
+
+-- how long an array of structs is: what owning it tells stands at the list's image
+pub length-mapped : (X Y : Type 0) (f : X → Y) (l : List X) (n : ℕ) → length (map f l) ≡ n → length l ≡ n
+length-mapped X Y f l n p = sym (length-map l f) ∙ p
+
+module _ {A B : Type 0} (f : A → B) where
+  pub map-take : (n : ℕ) (l : List A) → map f (take n l) ≡ take n (map f l)
+  map-take zero l = refl
+  map-take (suc n) [] = refl
+  map-take (suc n) (a ∷ l) = ap (λ (r : List B). f a ∷ r) (map-take n l)
+
+  pub map-set : (l : List A) (i : ℕ) (a : A) → map f (set l i a) ≡ set (map f l) i (f a)
+  map-set [] i a = refl
+  map-set (b ∷ l) zero a = refl
+  map-set (b ∷ l) (suc i) a = ap (λ (r : List B). f b ∷ r) (map-set l i a)
+
+  pub getElem?-map : (l : List A) (i : ℕ) (d : A) → i < length l → getElem? (map f l) i ≡ some (f (getD l i d))
+  getElem?-map [] i d h = absurd (omega arith)
+  getElem?-map (a ∷ l) zero d h = refl
+  getElem?-map (a ∷ l) (suc i) d h = getElem?-map l i d (omega arith)
+
+  -- what stands at a place comes from what stood there
+  pub at-map : (l : List A) (i : ℕ) (b : B) → getElem? (map f l) i ≡ some b → (a : A) × (getElem? l i ≡ some a) × (f a ≡ b)
+  at-map [] i b e = absurd (no-such e)
+  at-map (a ∷ l) zero b e = (a, refl, same-some e)
+  at-map (a ∷ l) (suc i) b e = at-map l i b e

@@ -1,0 +1,2 @@
+-- Definitions on lists that name no store and no book, for whichever crate wants them.
+pub mod Spans
