@@ -1,4 +1,4 @@
--- Decisions with no copy; strands as they are seen; for each file of src/ the ways out of its functions over variables (Cases), what its
+-- Decisions with no copy; the last literal; for each file of src/ the ways out of its functions over variables (Cases), what its
 -- models mean, and what they keep and leave (Leaves).
 pub mod Decisions
 pub mod Seen

@@ -14,9 +14,9 @@ use Rattle.split.specs.Decide.{decide-answer, decide-no-remaining}
 use Rattle.strands.specs.declared.Answer.{Answer}
 use Rattle.strands.specs.declared.Strand.{Strand}
 use Rattle.strands.specs.Answers.{answer-from, answer-of}
-use Rattle.strands.specs.View.{Sound, SoundAnswer, clause, answer}
+use Rattle.strands.specs.View.{Sound, SoundAnswer, seen, clause, answer}
 use Rattle.strands.proofs.AnswerViews.{answer-of-view}
-use Rattle.control.specs.Decision.{seen, meaning, SoundDecision, Leaves}
+use Rattle.control.specs.Decision.{meaning, SoundDecision, Leaves}
 use Rattle.control.specs.OnNoRemainingSubgoals.{outsized, empties, answer-again-by, answer-anew-by, pursue-by, pursue-answer}
 use Rattle.control.specs.OnNoRemainingSubgoals.{no-remaining-by, no-remaining, Stored}
 use Rattle.control.proofs.Decisions.{alone-sound, alone-leaves}

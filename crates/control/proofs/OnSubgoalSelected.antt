@@ -33,22 +33,22 @@ use Rattle.strands.specs.Fields.{with-selected, next-of}
 use Rattle.strands.specs.Floundering.{flounder}
 use Rattle.strands.specs.Literals.{without-last, last-removed}
 use Rattle.strands.specs.Merging.{taking, take-answer}
-use Rattle.strands.specs.View.{Sound, SoundAnswer, Kept, clause, answer, is-negative}
+use Rattle.strands.specs.View.{Sound, SoundAnswer, Kept, seen, clause, answer, is-negative}
 use Rattle.strands.proofs.DelayViews.{delay-view, delay-kept}
-use Rattle.strands.proofs.FieldViews.{kept-on, selected-sound}
+use Rattle.strands.proofs.FieldViews.{kept-on, kept-seen, next-answer-view, selected-sound}
 use Rattle.strands.proofs.FlounderViews.{flounder-kept}
 use Rattle.strands.proofs.Lists.{take-empty}
 use Rattle.strands.proofs.MergeViews.{take-view, take-kept}
 use Rattle.control.specs.declared.decision.Decision.{Decision}
 use Rattle.control.specs.declared.on_subgoal_selected.Look.the-variants as looks
 use Rattle.control.specs.declared.on_subgoal_selected.Look.{Look}
-use Rattle.control.specs.Decision.{seen, copy-by, last-literal, meaning}
+use Rattle.control.specs.Decision.{copy-by, last-literal, meaning}
 use Rattle.control.specs.OnSubgoalSelected.{deselected, coinductive-by, coinductive, Selects, merge-not-by, merge-not, merge-into-by}
 use Rattle.control.specs.OnSubgoalSelected.{merge-into, merge-positive-by, merge-positive, merge-literal-by, merge-literal}
 use Rattle.control.specs.OnSubgoalSelected.{merge-answer-by, merge-answer, push-table, selected-deed, LookMeans, holds-answer}
 use Rattle.control.specs.OnSubgoalSelected.{all-are-coinductive, is-on-stack, is-to-push}
 use Rattle.control.specs.SelectSubgoal.{chosen}
-use Rattle.control.proofs.Seen.{kept-seen, next-answer-seen, chosen-means, last-removed-clause, some-left, flounder-clause}
+use Rattle.control.proofs.Seen.{chosen-means, last-removed-clause, some-left, flounder-clause}
 
 index-is : (s : Strand) (k : held.SelectedSubgoal) → Selects s k → k .subgoal-index ≡ next-subgoal-index (clause s)
 index-is s k c = let last = c .is-last in omega arith
@@ -149,7 +149,7 @@ module _ (time : TimeStamp) (clock-at : ℕ → TimeStamp) (s : Strand) (a : Ans
         positive-by-view false true l e = refl
         positive-by-view false false l e =
             into-view l e true (with-selected s (next-of (s .selected)))
-            ∙ ap (λ (r : held.Strand). decide-into (some r) less positive (answer a)) (next-answer-seen time s k (c .selects) (c .goes-on))
+            ∙ ap (λ (r : held.Strand). decide-into (some r) less positive (answer a)) (next-answer-view time s k (c .selects) (c .goes-on))
 
         positive-view : (live : ℕ) (l : Literal) → meant l ≡ positive
             → means (merge-positive s a l live) ≡ then-into (decide-copy live (seen time s) k positive (answer a))

@@ -32,7 +32,6 @@ use Rattle.control.specs.OnSubgoalSelected.{merge-into, merge-positive-b
 use Rattle.control.specs.OnSubgoalSelected.{push-table, selected-deed}
 use Rattle.control.specs.SelectSubgoal.{chosen}
 use Rattle.control.proofs.Decisions.{alone-sound, alone-leaves}
-use Rattle.control.proofs.Seen.{kept-nothing}
 
 module _ (s : Strand) (a : Answer) where
   -- Soundness.
@@ -116,7 +115,7 @@ module _ (s : Strand) (a : Answer) where
   into-leaves l copies copy r =
       let d : Delayed = take-answer a (deselected s) in
       into-by-leaves (answer-fits (meant l) (a .variant)) (d .over) (d .strand) copies copy
-      (kept-nothing (deselected s) (d .strand) (take-kept a (deselected s)) refl) r
+      (take-kept a (deselected s)) r
 
   positive-by-leaves : (trivial full : Bool) (l : Literal) → Leaves s a a (merge-positive-by trivial full s a l)
   positive-by-leaves true full l = into-leaves l false s (λ never. cc)
@@ -130,7 +129,7 @@ module _ (s : Strand) (a : Answer) where
   merge-by-leaves : (unwanted : Bool) (live : ℕ) → Leaves s a a (merge-answer-by unwanted s a live)
   merge-by-leaves true live =
       let t : Strand = flounder (deselected s) in
-      alone-leaves GoesOn s t a a a (kept-nothing (deselected s) t (flounder-kept (deselected s)) refl) refl
+      alone-leaves GoesOn s t a a a (flounder-kept (deselected s)) refl
   merge-by-leaves false live = literal-by-leaves (is-negative (meant (chosen s))) live
 
   pub merge-answer-leaves : (complete : Bool) (live : ℕ) → Leaves s a a (merge-answer s a complete live)
@@ -147,7 +146,7 @@ module _ (s : Strand) (a : Answer) where
       let t : Strand = last-removed (deselected s) in
       let u : Strand = goal-delayed s .strand in
       coinductive-by-leaves (is-negative (meant (chosen s))) (goal-delayed s .over) u
-      (kept-nothing (deselected s) u (kept-on (deselected s) t u refl (delay-kept goals t)) refl)
+      (kept-on (deselected s) t u refl (delay-kept goals t))
 
   push-leaves : (late : Bool) (table : ℕ) → Leaves s a a (push-table late table s a)
   push-leaves true table = alone-leaves _ s s a a a refl refl

@@ -1,58 +1,28 @@
--- What the theorems on strands say, of a strand as it is seen at a time: the time stands beside the strands, and no model touches it.
+-- What the theorems on strands say of the last literal, as deciding reads it.
 use Prim.Native.Nat.{ℕ, suc, _<_}
 use native.Mathlib.Omega.{arith}
 use mathlib.Core.Option.{Option, none, some}
 use mathlib.Core.Path.{_≡_, refl, ap, _∙_}
 use lib.ListN.{length, getElem?}
-use Rattle.definitions.specs.{TimeStamp}
 use Rattle.definitions.specs as said
 use Rattle.definitions.specs.Book as books
 use Rattle.definitions.specs.Lists.{push, remove}
-use Rattle.definitions.specs.Logic.{next-answer-strand}
 use Rattle.definitions.specs.Slg.{next-subgoal-index}
 use Rattle.definitions.specs.Stop.{go, _>>=_, unwrap}
 use Rattle.definitions.specs.Strand as held
 use Rattle.split.specs.Decide.{or, no-literal, with-literal-floundered}
 use Rattle.book.specs.View.{meant}
-use Rattle.strands.specs.declared.Selected.the-variants.{Nothing, Subgoal}
-use Rattle.strands.specs.declared.Selected.{Selected}
 use Rattle.strands.specs.declared.Strand.{Strand}
 use Rattle.strands.specs.declared.literals.Found.the-variants as finds
 use Rattle.strands.specs.declared.literals.Found.{Found}
-use Rattle.strands.specs.Fields.{with-selected, next-of}
 use Rattle.strands.specs.Floundering.{flounder}
 use Rattle.strands.specs.Literals.{literal-of, subgoal-at, without-last, last-removed}
-use Rattle.strands.specs.View.{Sound, Kept, clause, selected}
-use Rattle.strands.proofs.FieldViews.{next-answer-view}
+use Rattle.strands.specs.View.{Sound, clause}
 use Rattle.strands.proofs.FlounderViews.{flounder-view}
 use Rattle.strands.proofs.LiteralCases.{count-is}
 use Rattle.strands.proofs.LiteralViews.{subgoal-at-view, last-removed-view}
-use Rattle.control.specs.Decision.{seen, last-literal}
+use Rattle.control.specs.Decision.{last-literal}
 use Rattle.control.specs.SelectSubgoal.{chosen-by, chosen}
-
--- Where nothing but the clause changes, what is selected stays.
-module _ (s r : Strand) (k : Kept s r) where
-  kept-selected : selected (r .selected) ≡ selected (s .selected)
-  kept-selected = ap (λ (v : held.Strand). v .selected-subgoal) k
-
-  pub kept-seen : (time : TimeStamp) → seen time r ≡ held.with-ex-clause (seen time s) (clause r)
-  kept-seen time =
-      ap (λ (o : Option held.SelectedSubgoal). record { ex-clause = clause r; selected-subgoal = o; last-pursued-time = time })
-      kept-selected
-
-  nothing-is : (c : Selected) → selected c ≡ none → c ≡ Nothing
-  nothing-is Nothing e = refl
-  nothing-is (Subgoal index table answer) e = cc
-
-  pub kept-nothing : s .selected ≡ Nothing → r .selected ≡ Nothing
-  kept-nothing e = nothing-is (r .selected) (kept-selected ∙ ap selected e)
-
--- the copy for the next answer
-pub next-answer-seen : (time : TimeStamp) (s : Strand) (k : held.SelectedSubgoal) → selected (s .selected) ≡ some k
-    → k .answer-index < 65535
-    → seen time (with-selected s (next-of (s .selected))) ≡ next-answer-strand (seen time s) k
-next-answer-seen time s k e h =
-    ap (λ (v : held.Strand). held.with-selected (seen time s) (v .selected-subgoal)) (next-answer-view s k e h)
 
 -- The last literal.
 
@@ -67,7 +37,7 @@ module _ (s : Strand) (o : Sound s) where
       found-means (subgoal-at s i) ∙ ap (or no-literal) (subgoal-at-view s (o .literals-long) i)
 
   pub last-removed-clause : clause (last-removed s) ≡ without-last (clause s)
-  last-removed-clause = ap (λ (v : held.Strand). v .ex-clause) (last-removed-view s (o .literals-long))
+  last-removed-clause = ap (λ (v : held.Strand). v .ex-clause) (last-removed-view s (o .literals-long) 0)
 
   pub some-left : (i : ℕ) → suc i ≡ length (clause s .subgoals) → 0 < s .«literal_count»
   some-left i e =

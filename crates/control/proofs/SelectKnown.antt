@@ -24,12 +24,11 @@ use Rattle.split.specs.Decide.{View, Picked, picking, table-of, literal-at, wit
 use Rattle.strands.specs.declared.Selected.the-variants.{Nothing, Subgoal}
 use Rattle.strands.specs.declared.Selected.{Selected}
 use Rattle.strands.specs.declared.Strand.{Strand}
-use Rattle.strands.specs.View.{Sound, clause, selected}
+use Rattle.strands.specs.View.{Sound, seen, clause, selected}
 use Rattle.control.specs.declared.select_subgoal.Made.{Made}
 use Rattle.control.specs.declared.select_subgoal.Selection.the-variants as selection
 use Rattle.control.specs.declared.select_subgoal.Selection.{Selection}
 use Rattle.control.specs.declared.select_subgoal.Choice.{Choice}
-use Rattle.control.specs.Decision.{seen}
 use Rattle.control.specs.SelectSubgoal.{note-if, leaves, noted-down, noted-goals, noted-view, picks, TablesMean, with-noted, FlounderedGoal, Noted, Awaits, clause-of, literals, Outcome, Ended}
 
 -- One more goal noted.

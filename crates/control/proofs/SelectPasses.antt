@@ -24,14 +24,13 @@ use Rattle.strands.specs.declared.Selected.{Selected}
 use Rattle.strands.specs.declared.Strand.{Strand}
 use Rattle.strands.specs.Fields.{with-selected, with-ambiguous}
 use Rattle.strands.specs.Floundering.{flounder, reconsider}
-use Rattle.strands.specs.View.{Sound, clause, selected, is-negative}
+use Rattle.strands.specs.View.{Sound, seen, clause, selected, is-negative}
 use Rattle.strands.proofs.FieldViews.{selected-sound, ambiguous-sound}
 use Rattle.strands.proofs.FlounderViews.{flounder-kept, flounder-sound, reconsider-kept, reconsider-sound, reconsider-view}
 use Rattle.control.specs.declared.select_subgoal.Selection.the-variants as selection
 use Rattle.control.specs.declared.select_subgoal.Choice.{Choice}
-use Rattle.control.specs.Decision.{seen}
 use Rattle.control.specs.SelectSubgoal.{chosen, table-floundered, leaves, propagated-by, reconsidered-by, held-by, held-against, noted-goals, noted-view, FlounderedGoal, clause-of, literals}
-use Rattle.control.proofs.Seen.{kept-nothing, chosen-means, flounder-clause}
+use Rattle.control.proofs.Seen.{chosen-means, flounder-clause}
 use Rattle.control.proofs.SelectKnown.{busy, Waits, Going, After, room-less, falls-less, falls-back, room-back, busy-once, Setting, Leads, leads-from, seen-in, made-in, seen-as, ends, stuck, held-as, looked, none-left}
 use Rattle.control.proofs.SelectStrands.{counted, flounder-keeps, reconsider-keeps}
 use Rattle.control.proofs.SelectTables.{table-flag}
@@ -44,7 +43,7 @@ module _ (z : Setting) (c : Choice) (g : Going (z .forest) (z .start) c) where
     there = let e = ap (λ (y : ExClause). length (y .subgoals)) same in omega arith
 
     next-idle : flounder t .selected ≡ Nothing
-    next-idle = kept-nothing t (flounder t) (flounder-kept t) idle
+    next-idle = flounder-kept t ∙ idle
 
     pub floundered-keeps : After (z .forest) (z .start) c (leaves selection.Again (flounder t) c) selection.Again
     floundered-keeps =
@@ -140,10 +139,10 @@ module _ (z : Setting) (c : Choice) (g : Going (z .forest) (z .start) c) where
     returned = reconsider-keeps (c .strand) (g .sound) (g .named)
 
     back-idle : back .selected ≡ Nothing
-    back-idle = kept-nothing (c .strand) back (reconsider-kept (c .strand)) is
+    back-idle = reconsider-kept (c .strand) ∙ is
 
     back-is : (y : ExClause) → held.with-ex-clause (seen-in z c) y ≡ seen-as z y (selected (back .selected))
-    back-is y = ap (λ (k : Selected). seen-as z y (selected k)) (is ∙ sym back-idle)
+    back-is y = ap (λ (k : Selected). seen-as z y (selected k)) (sym (reconsider-kept (c .strand)))
 
     by-back : is-empty (clause-of c .subgoals) ≡ true → (b : Bool) → is-empty (clause back .subgoals) ≡ b
         → Leads z (λ p. looked z c p (clause back) b) c (reconsidered-by false b c)

@@ -20,13 +20,12 @@ use Rattle.strands.specs.declared.Selected.the-variants.{Nothing, Subgoal}
 use Rattle.strands.specs.declared.Selected.{Selected}
 use Rattle.strands.specs.declared.Strand.{Strand}
 use Rattle.strands.specs.View as strands
-use Rattle.strands.specs.View.{Sound, clause, selected}
+use Rattle.strands.specs.View.{Sound, seen, clause, selected}
 use Rattle.strands.proofs.Lists.{length-view}
 use Rattle.strands.proofs.LiteralCases.{count-is}
 use Rattle.control.specs.declared.select_subgoal.Selection.the-variants as selection
 use Rattle.control.specs.declared.select_subgoal.Selection.{Selection}
 use Rattle.control.specs.declared.select_subgoal.Choice.{Choice}
-use Rattle.control.specs.Decision.{seen}
 use Rattle.control.specs.SelectSubgoal.{goes-on, passes-for, begun, idle-by, passed-by, passed, select-from, select-subgoal, choice-means-by, choice-means, TablesMean, Noted, clause-of, Ended}
 use Rattle.control.proofs.SelectKnown.{busy, Waits, Going, needs, After, Setting, from, goes, Leads, idle-as, step}
 use Rattle.control.proofs.SelectPasses.{by-none, holds}

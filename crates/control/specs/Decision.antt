@@ -14,17 +14,13 @@ use Rattle.strands.specs.declared.Answer.{Answer}
 use Rattle.strands.specs.declared.Selected.the-variants.{Nothing}
 use Rattle.strands.specs.declared.Strand.{Strand}
 use Rattle.strands.specs.Fields.{with-selected, next-of}
-use Rattle.strands.specs.View.{Sound, SoundAnswer, clause, selected, answer}
+use Rattle.strands.specs.View.{Sound, SoundAnswer, seen, clause, answer}
 use Rattle.control.specs.declared.decision.Deed.{Deed}
 use Rattle.control.specs.declared.decision.Deed.the-variants.{Stop, GoesOn, GivesUp, Cycles, Pushes, Requeues, Flounders, Answers}
 use Rattle.control.specs.declared.decision.Decision.{Decision}
 
 abbrev pub decided : Deed → (copies : Bool) → (strand copy : Strand) → Answer → Decision
 decided deed copies strand copy a = record { deed = deed; copies = copies; strand = strand; copy = copy; answer = a }
-
--- a strand that was pursued at this time: the time stands beside the strands, by place
-abbrev pub seen : (time : TimeStamp) → Strand → held.Strand
-seen time s = record { ex-clause = clause s; selected-subgoal = selected (s .selected); last-pursued-time = time }
 
 abbrev pub copy-by : (copies : Bool) → held.Strand → Option held.Strand
 copy-by true s = some s

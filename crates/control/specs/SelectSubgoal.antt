@@ -32,9 +32,8 @@ use Rattle.strands.specs.declared.literals.Found.{Found}
 use Rattle.strands.specs.Fields.{no-literal, with-selected, with-ambiguous}
 use Rattle.strands.specs.Floundering.{flounder, reconsider}
 use Rattle.strands.specs.Literals.{subgoal-at}
-use Rattle.strands.specs.View.{Sound, clause, is-negative}
+use Rattle.strands.specs.View.{Sound, seen, clause, is-negative}
 use Rattle.stores.specs.Numbers.{within, first-at, flag, flag-at}
-use Rattle.control.specs.Decision.{seen}
 use Rattle.control.specs.declared.select_subgoal.Made.{Made}
 use Rattle.control.specs.declared.select_subgoal.Selection.the-variants as selection
 use Rattle.control.specs.declared.select_subgoal.Selection.{Selection}

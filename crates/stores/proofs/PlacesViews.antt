@@ -15,7 +15,7 @@ use Rattle.rings.proofs.Walks.{length-walk}
 use Rattle.rings.proofs.RingViews.{ring-enqueue-own, ring-enqueue-other, ring-enqueue-sound, ring-unlink-own, ring-unlink-other, ring-unlink-sound, ring-unlink-out, ring-unlink-used, ring-fresh-top, ring-start, ring-start-sound}
 use Rattle.stores.specs.declared.places.Places.{Places}
 use Rattle.stores.specs.Numbers.{free}
-use Rattle.stores.specs.Places.{ring, enqueued, taken-at, popped, fresh, blank-places}
+use Rattle.stores.specs.Places.{ring, enqueued, taken-at, popped, begun, blank-places}
 use Rattle.stores.specs.Sound.{waiting, SoundPlaces}
 use Rattle.stores.proofs.ListsAlike.{times-at}
 use Rattle.stores.proofs.PlacesWaiting.{waiting-same, waiting-one}
@@ -174,8 +174,8 @@ popped-other p n held sound there u d =
     subst (λ (r : Places). ring r u ≡ ring p u) (popped-is p) (taken-other p n held free 0 sound (omega arith) there u d)
 
 -- the first place that was never used
-pub fresh-sound : (p : Places) (n : ℕ) (held : List ℕ) → SoundPlaces p n held → p .top < 256 → SoundPlaces (fresh p) n (p .top ∷ held)
-fresh-sound p n held sound room =
+pub begun-sound : (p : Places) (n : ℕ) (held : List ℕ) → SoundPlaces p n held → p .top < 256 → SoundPlaces (begun p) n (p .top ∷ held)
+begun-sound p n held sound room =
     let f = ring-fresh-top (p .next) (p .tail) (p .len) (p .top) (sound .rings) room in
     record {
       rings = f .0;
@@ -184,7 +184,7 @@ fresh-sound p n held sound room =
       apart = λ x u h. either x u (eqb x (p .top)) refl h;
       once = λ x. once-each x (eqb x (p .top)) refl;
       used = λ x h. used-each x (eqb x (p .top)) refl h;
-      all = omega (arith, sound .all, waiting-same p (fresh p) n (λ u k. refl));
+      all = omega (arith, sound .all, waiting-same p (begun p) n (λ u k. refl));
     }
   where
     either : (x u : ℕ) (b : Bool) → eqb x (p .top) ≡ b → 1 ≤ times x (p .top ∷ held) → times x (ring p u) ≡ 0

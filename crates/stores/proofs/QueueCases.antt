@@ -1,28 +1,35 @@
 -- The sign of a strand's selected literal; looking along a queue: what `find_strand` finds by where the first eligible strand stands, and that looking and then unlinking is taking.
 -- From the laws of walks.
-use Prim.Native.Nat.{ℕ, suc, _-_, _≤_, _<_}
+use Prim.Native.Nat.{ℕ, zero, suc, _+_, _-_, _≤_, _<_}
+use native.Mathlib.Numerals.{add-one}
 use native.Mathlib.Omega.{arith}
-use mathlib.Core.Path.{_≡_, refl, sym, ap, _∙_}
+use mathlib.Core.Path.{_≡_, refl, sym, ap, ap₂, _∙_}
 use mathlib.Core.Bool.{Bool, true, false}
-use mathlib.Core.Option.{some}
+use mathlib.Core.Option.{Option, none, some}
 use mathlib.Core.List.{List, [], _∷_, map}
 use lib.ListN.{length, take, getD, set, getElem?, length-take}
 use lib.Seq.{getD-take}
-use lib.Dec.{ltb}
-use borrow.Author.Tests.{lt-ltb, ltb-true}
+use lib.Dec.{eqb, ltb}
+use borrow.Author.Tests.{lt-ltb, le-ltb, ltb-true, ne-eqb}
+use Rattle.definitions.specs.Book as books
+use Rattle.definitions.specs.Strand.{SelectedSubgoal}
 use Rattle.book.specs.declared.Literal.{Literal}
 use Rattle.book.specs.View.{meant}
-use Rattle.strands.specs.View.{is-negative}
+use Rattle.strands.specs.declared.Strand.{Strand}
+use Rattle.strands.specs.View.{clause, selected, is-negative}
 use Rattle.rings.specs.Lists.{stop, first-index}
-use Rattle.rings.specs.Rings.{walk, ring-of, end, place-if, unlinked, shortened}
+use Rattle.rings.specs.Rings.{most-places, walk, ring-of, end, place-if, unlinked, shortened, linked, lengthened}
 use Rattle.rings.proofs.Walks.{walk-step, walk-at}
 use Rattle.stores.specs.declared.places.Places.{Places}
 use Rattle.stores.specs.declared.queue.Spot.{Spot}
-use Rattle.stores.specs.Places.{places, ring, unlinked-at, taken-if, taken, taken-place, has-one, first-of}
-use Rattle.stores.specs.Queue.{is-not, spot-if, spot-from, TookStrand}
+use Rattle.stores.specs.declared.queue.Strands.{Strands}
+use Rattle.stores.specs.Places.{places, ring, unlinked-at, taken-if, taken, taken-place, has-one, first-of, TookPlace}
+use Rattle.stores.specs.Numbers.{waits-fresh, flag-number}
+use Rattle.stores.specs.Queue.{is-not, waits-on, waits-for, waits-of, spot-if, spot-from, TookStrand}
+use Rattle.stores.specs.Queue.{with-places, made-fresh, fresh-if, fresh-stored, fresh-each, store, Does}
 use Rattle.stores.proofs.ListsSpans.{ltb-suc, map-elem, map-elem-past}
 use Rattle.stores.proofs.PlacesViews.{length-ring}
-use Rattle.stores.proofs.PlacesMoves.{places-is}
+use Rattle.stores.proofs.PlacesMoves.{places-is, freed-enqueued-is}
 
 -- THE NUMBERS BESIDE A STRAND: `is_not`, `waits_on` and `waits_of` at their tests' answers
 module _ (l : List Literal) (count index : ℕ) (long : length l ≡ 8) where
@@ -36,6 +43,19 @@ module _ (l : List Literal) (count index : ℕ) (long : length l ≡ 8) where
   not-there h k d =
       ap is-not (ap (λ (x : Literal). some (meant x)) (sym (getD-take count l index d h))
       ∙ sym (map-elem meant (take count l) index d (omega (arith, length-take count l))))
+
+-- a strand that is written never waits on the number that says that a place is fresh
+on-no-mark : (can-be negative : Bool) (t : ℕ) → ltb t 64 ≡ can-be → eqb (waits-on can-be negative t) waits-fresh ≡ false
+on-no-mark true true t e = ne-eqb (t + 64) waits-fresh (λ z. omega (arith, ltb-true t 64 e))
+on-no-mark true false t e = ne-eqb t waits-fresh (λ z. omega (arith, ltb-true t 64 e))
+on-no-mark false negative t e = ne-eqb 255 waits-fresh (λ z. omega arith)
+
+for-no-mark : (l : List books.Literal) (k : Option SelectedSubgoal) → eqb (waits-for l k) waits-fresh ≡ false
+for-no-mark l none = ne-eqb 255 waits-fresh (λ z. omega arith)
+for-no-mark l (some w) = on-no-mark (ltb (w .subgoal-table) 64) (is-not (getElem? l (w .subgoal-index))) (w .subgoal-table) refl
+
+pub waits-written : (x : Strand) → eqb (waits-of x) waits-fresh ≡ false
+waits-written x = for-no-mark (clause x .subgoals) (selected (x .selected))
 
 -- THE LOOP
 module _ (test : ℕ → Bool) (next : List ℕ) (n a : ℕ) (h : 0 < n) where
@@ -129,3 +149,44 @@ module _ (test : ℕ → Bool) (t : ℕ) (next tail len : List ℕ) (s : Spot)
         left = λ top. places-is next′ (unlinked next (s .before)) tail′ (set tail t (s .before)) len′ (shortened len t) top top en et el refl
             ∙ ap (λ (b : ℕ). unlinked-at t b (places next tail len top)) before ∙ looked-unlinked test t (places next tail len top) found .1;
       }
+
+-- A FRESH PLACE, by what `take_place` found
+module _ (t c v f : ℕ) (time ambiguous variant waits wants next tail len : List ℕ) (top : ℕ) (n′ l′ : List ℕ) (m′ q : ℕ)
+    (took : TookPlace next tail len top n′ l′ m′ q) where
+  abbrev was : List Strand → Strands
+  was strands = store strands time ambiguous variant waits wants (places next tail len top)
+
+  by-room : (b : Bool) → ltb q most-places ≡ b → (strands : List Strand)
+      → fresh-if b t c v f (was strands) ≡ fresh-stored t c v f (was strands)
+  by-room b e strands = ap (λ (x : Bool). fresh-if x t c v f (was strands)) (sym (ap (λ (i : ℕ). ltb i most-places) (sym (took .is)) ∙ e))
+
+  pub fresh-none : most-places ≤ q
+      → Does (fresh-stored t c v f) (λ strands. store strands time ambiguous variant waits wants (places next tail len top))
+      (λ strands. store strands time ambiguous variant waits wants (places n′ tail l′ m′))
+  fresh-none h strands =
+      ap (store strands time ambiguous variant waits wants) (took .left) ∙ by-room false (le-ltb q most-places h) strands
+
+  pub fresh-some : q < most-places → (a : ℕ) → a ≡ flag-number (books.bit0 f)
+      → (n″ t″ l″ : List ℕ) → n″ ≡ linked n′ tail l′ t q → t″ ≡ set tail t q → l″ ≡ lengthened l′ t
+      → Does (fresh-stored t c v f) (λ strands. store strands time ambiguous variant waits wants (places next tail len top))
+      (λ strands. store strands (set time q 0) (set ambiguous q a) (set variant q v) (set waits q waits-fresh) (set wants q c)
+      (places n″ t″ l″ m′))
+  fresh-some h a ea n″ t″ l″ en et el strands =
+      ap (λ (x : ℕ). store strands (set time q 0) (set ambiguous q x) (set variant q v) (set waits q waits-fresh) (set wants q c)
+      (places n″ t″ l″ m′)) ea
+      ∙ ap₂ (λ (i : ℕ) (r : Places). with-places (made-fresh i c v f (was strands)) r) (took .is)
+      (freed-enqueued-is (places next tail len top) t n′ l′ m′ q took n″ t″ l″ en et el)
+      ∙ by-room true (lt-ltb q most-places h) strands
+
+-- THE LOOP over clauses
+module _ (variants flags : List ℕ) (t : ℕ) where
+  pub fresh-step : (left c : ℕ) (s s′ : Strands) → 0 < left → s′ ≡ fresh-stored t c (getD variants c 0) (getD flags c 0) s
+      → fresh-each variants flags t (left - 1) (c + 1) s′ ≡ fresh-each variants flags t left c s
+  fresh-step zero c s s′ h e = absurd (omega arith)
+  fresh-step (suc left) c s s′ h e =
+      let less : suc left - 1 ≡ left = omega arith in
+      ap₂ (λ (m d : ℕ). fresh-each variants flags t m d s′) less (add-one c) ∙ ap (fresh-each variants flags t left (suc c)) e
+
+  pub fresh-over : (left c : ℕ) (s : Strands) → left ≤ 0 → fresh-each variants flags t left c s ≡ s
+  fresh-over zero c s h = refl
+  fresh-over (suc left) c s h = absurd (omega arith)

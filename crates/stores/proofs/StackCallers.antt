@@ -14,26 +14,28 @@ use borrow.Author.Tests.{lt-ltb, eq-eqb, ne-eqb, eqb-true, eqb-false}
 use Rattle.definitions.specs.Stop.{go, _>>=_, unwrap}
 use Rattle.definitions.specs.Stack.{StackEntry, with-active, no-caller, caller, pop-and-take-caller-strand, pop-and-borrow-caller-strand, active, active-count}
 use Rattle.definitions.specs.Strand as said-strand
-use Rattle.rings.specs.Rings.{place-if}
+use Rattle.rings.specs.Lists.{times}
+use Rattle.rings.specs.Rings.{most-places, place-if}
+use Rattle.rings.proofs.Counts.{times-self}
 use Rattle.stores.specs.declared.queue.Strands.{Strands}
 use Rattle.stores.specs.declared.stack.Stack.{Stack}
-use Rattle.stores.specs.View.{strand-at, active-strand-at, entry-at, entries, entered, active-places}
+use Rattle.stores.specs.View.{FirstStrands, strand-at, active-strand-at, entry-at, entries, entered, active-places}
 use Rattle.stores.specs.Sound.{SoundStack}
 use Rattle.stores.specs.Numbers.{set-if, add-if}
 use Rattle.stores.specs.Stack.{has-caller, caller-place, caller-written, top-written, pushed, popped, caller-taken, activated}
 use Rattle.stores.proofs.StackCases.{some-caller, some-top}
-use Rattle.stores.proofs.StackViews.{entries-same}
+use Rattle.stores.proofs.StackViews.{entries-same, entered-kept}
 
-pub no-caller-view : (k : Stack) (s : Strands) → k .depth < 2
-    → (pop-and-take-caller-strand (entered k s) ≡ go no-caller) × (pop-and-borrow-caller-strand (entered k s) ≡ go no-caller)
-no-caller-view k s h = go-on (k .depth) h
+pub no-caller-view : (fresh : FirstStrands) (k : Stack) (s : Strands) → k .depth < 2
+    → (pop-and-take-caller-strand (entered fresh k s) ≡ go no-caller) × (pop-and-borrow-caller-strand (entered fresh k s) ≡ go no-caller)
+no-caller-view fresh k s h = go-on (k .depth) h
   where
-    go-on : (n : ℕ) → n < 2 → (pop-and-take-caller-strand (entries k s n) ≡ go no-caller) × (pop-and-borrow-caller-strand (entries k s n) ≡ go no-caller)
+    go-on : (n : ℕ) → n < 2 → (pop-and-take-caller-strand (entries fresh k s n) ≡ go no-caller) × (pop-and-borrow-caller-strand (entries fresh k s n) ≡ go no-caller)
     go-on zero h = (refl, refl)
     go-on (suc zero) h = (refl, refl)
     go-on (suc (suc n)) h = absurd (omega arith)
 
-module _ (k : Stack) (s : Strands) (sound : SoundStack k) (two : 2 ≤ k .depth) where
+module _ (fresh : FirstStrands) (k : Stack) (s : Strands) (sound : SoundStack k) (two : 2 ≤ k .depth) where
   abbrev j : ℕ
   j = k .depth - 2
 
@@ -52,35 +54,35 @@ module _ (k : Stack) (s : Strands) (sound : SoundStack k) (two : 2 ≤ k .depth)
   taken-is : caller-taken k ≡ k′
   taken-is = ap (λ (b : Bool). record { depth = k .depth - 1; table = k .table; clock = k .clock; positive = k .positive; negative = k .negative; active = set-if b j 256 (k .active) }) has
 
-  whole : entered k s ≡ entry-at k s (suc j) ∷ entry-at k s j ∷ entries k s j
-  whole = let e : k .depth ≡ suc (suc j) = omega arith in ap (entries k s) e
+  whole : entered fresh k s ≡ entry-at fresh k s (suc j) ∷ entry-at fresh k s j ∷ entries fresh k s j
+  whole = let e : k .depth ≡ suc (suc j) = omega arith in ap (entries fresh k s) e
 
   module _ (some-strand : caller-place (k .depth) (k .active) ≡ 256 → ⊥) where
-    is-some : active-strand-at s p ≡ some (strand-at s p)
-    is-some = ap (λ (b : Bool). elim b as (λ (c : Bool). Option said-strand.Strand) [ true ↦ none | false ↦ some (strand-at s p) ]) (ne-eqb p 256 (λ e. some-strand (caller-place-is ∙ e)))
+    is-some : active-strand-at fresh s p ≡ some (strand-at fresh s p)
+    is-some = ap (λ (b : Bool). elim b as (λ (c : Bool). Option said-strand.Strand) [ true ↦ none | false ↦ some (strand-at fresh s p) ]) (ne-eqb p 256 (λ e. some-strand (caller-place-is ∙ e)))
 
-    popped-top : entered (popped k) s ≡ entry-at k s j ∷ entries k s j
-    popped-top = let e : k .depth - 1 ≡ suc j = omega arith in ap (entries (popped k) s) e ∙ ap (λ (es : List StackEntry). entry-at k s j ∷ es) (entries-same k (popped k) s s j (λ i h. refl))
+    popped-top : entered fresh (popped k) s ≡ entry-at fresh k s j ∷ entries fresh k s j
+    popped-top = let e : k .depth - 1 ≡ suc j = omega arith in ap (entries fresh (popped k) s) e ∙ ap (λ (es : List StackEntry). entry-at fresh k s j ∷ es) (entries-same fresh k (popped k) s s j (λ i h. refl))
 
-    taken-top : entered (caller-taken k) s ≡ with-active (entry-at k s j) none ∷ entries k s j
+    taken-top : entered fresh (caller-taken k) s ≡ with-active (entry-at fresh k s j) none ∷ entries fresh k s j
     taken-top =
         let e : k .depth - 1 ≡ suc j = omega arith in
-        ap (λ (r : Stack). entered r s) taken-is ∙ ap (entries k′ s) e
-        ∙ ap₂ (λ (x : Option said-strand.Strand) (es : List StackEntry). with-active (entry-at k s j) x ∷ es)
-        (ap (active-strand-at s) (getD-set-same (k .active) j 256 0 (omega (arith, sound .few, sound .long-active))))
-        (entries-same k k′ s s j (λ i h. ap (λ (q : ℕ). with-active (entry-at k s i) (active-strand-at s q)) (getD-set-other (k .active) j i 256 0 (λ e. omega arith))))
+        ap (λ (r : Stack). entered fresh r s) taken-is ∙ ap (entries fresh k′ s) e
+        ∙ ap₂ (λ (x : Option said-strand.Strand) (es : List StackEntry). with-active (entry-at fresh k s j) x ∷ es)
+        (ap (active-strand-at fresh s) (getD-set-same (k .active) j 256 0 (omega (arith, sound .few, sound .long-active))))
+        (entries-same fresh k k′ s s j (λ i h. ap (λ (q : ℕ). with-active (entry-at fresh k s i) (active-strand-at fresh s q)) (getD-set-other (k .active) j i 256 0 (λ e. omega arith))))
 
-    pub borrow-caller-view : pop-and-borrow-caller-strand (entered k s) ≡ go (caller (strand-at s (caller-place (k .depth) (k .active))) (entered (popped k) s))
+    pub borrow-caller-view : pop-and-borrow-caller-strand (entered fresh k s) ≡ go (caller (strand-at fresh s (caller-place (k .depth) (k .active))) (entered fresh (popped k) s))
     borrow-caller-view =
         ap pop-and-borrow-caller-strand whole
-        ∙ ap (λ (o : Option said-strand.Strand). unwrap o >>= λ x. go (caller x (entry-at k s j ∷ entries k s j))) is-some
-        ∙ ap₂ (λ (x : said-strand.Strand) (es : List StackEntry). go (caller x es)) (ap (strand-at s) (sym caller-place-is)) (sym popped-top)
+        ∙ ap (λ (o : Option said-strand.Strand). unwrap o >>= λ x. go (caller x (entry-at fresh k s j ∷ entries fresh k s j))) is-some
+        ∙ ap₂ (λ (x : said-strand.Strand) (es : List StackEntry). go (caller x es)) (ap (strand-at fresh s) (sym caller-place-is)) (sym popped-top)
 
-    pub take-caller-view : pop-and-take-caller-strand (entered k s) ≡ go (caller (strand-at s (caller-place (k .depth) (k .active))) (entered (caller-taken k) s))
+    pub take-caller-view : pop-and-take-caller-strand (entered fresh k s) ≡ go (caller (strand-at fresh s (caller-place (k .depth) (k .active))) (entered fresh (caller-taken k) s))
     take-caller-view =
         ap pop-and-take-caller-strand whole
-        ∙ ap (λ (o : Option said-strand.Strand). unwrap o >>= λ x. go (caller x (with-active (entry-at k s j) none ∷ entries k s j))) is-some
-        ∙ ap₂ (λ (x : said-strand.Strand) (es : List StackEntry). go (caller x es)) (ap (strand-at s) (sym caller-place-is)) (sym taken-top)
+        ∙ ap (λ (o : Option said-strand.Strand). unwrap o >>= λ x. go (caller x (with-active (entry-at fresh k s j) none ∷ entries fresh k s j))) is-some
+        ∙ ap₂ (λ (x : said-strand.Strand) (es : List StackEntry). go (caller x es)) (ap (strand-at fresh s) (sym caller-place-is)) (sym taken-top)
 
   pub take-caller-sound : SoundStack (caller-taken k)
   take-caller-sound = subst SoundStack (sym taken-is) (record {
@@ -111,13 +113,37 @@ place-none l n e = ap (λ (b : Bool). elim b as (λ (c : Bool). List ℕ) [ true
 place-some : (l : List ℕ) (n : ℕ) → (getD l n 0 ≡ 256 → ⊥) → active-places l (suc n) ≡ getD l n 0 ∷ active-places l n
 place-some l n d = ap (λ (b : Bool). elim b as (λ (c : Bool). List ℕ) [ true ↦ active-places l n | false ↦ getD l n 0 ∷ active-places l n ]) (ne-eqb (getD l n 0) 256 d)
 
--- as many as the definitions count
-pub active-is : (k : Stack) (s : Strands) (n : ℕ) → active (entries k s n) ≡ length (active-places (k .active) n)
-active-is k s zero = refl
-active-is k s (suc n) = at (eqb (getD (k .active) n 0) 256) (active-is k s n)
+-- each place that an entry has is among them, so that a change of no held place is none of the stack
+held-more : (l : List ℕ) (n q : ℕ) (b : Bool) → 1 ≤ times q (active-places l n)
+    → 1 ≤ times q (elim b as (λ (c : Bool). List ℕ) [ true ↦ active-places l n | false ↦ getD l n 0 ∷ active-places l n ])
+held-more l n q true h = h
+held-more l n q false h = omega arith
+
+active-held : (l : List ℕ) (n i : ℕ) → i < n → (getD l i 0 ≡ most-places → ⊥) → 1 ≤ times (getD l i 0) (active-places l n)
+active-held l zero i h d = absurd (omega arith)
+active-held l (suc n) i h d = at (eqb i n) refl (λ k. active-held l n i k d)
   where
-    at : (b : Bool) → active (entries k s n) ≡ length (active-places (k .active) n)
-        → active-count (elim b as (λ (c : Bool). Option said-strand.Strand) [ true ↦ none | false ↦ some (strand-at s (getD (k .active) n 0)) ]) + active (entries k s n)
+    at : (b : Bool) → eqb i n ≡ b → (i < n → 1 ≤ times (getD l i 0) (active-places l n)) → 1 ≤ times (getD l i 0) (active-places l (suc n))
+    at true e below =
+        subst (λ (j : ℕ). (getD l j 0 ≡ most-places → ⊥) → 1 ≤ times (getD l j 0) (active-places l (suc n))) (sym (eqb-true i n e))
+        (λ o. rw (place-some l n o) (omega (arith, times-self (getD l n 0)))) d
+    at false e below =
+        let apart : i ≡ n → ⊥ = eqb-false i n e in
+        held-more l n (getD l i 0) (eqb (getD l n 0) most-places) (below (omega arith))
+
+pub entered-holds : (fresh : FirstStrands) (k : Stack) (s s′ : Strands)
+    → ((q : ℕ) → 1 ≤ times q (active-places (k .active) (k .depth)) → strand-at fresh s′ q ≡ strand-at fresh s q)
+    → entered fresh k s′ ≡ entered fresh k s
+entered-holds fresh k s s′ holds =
+    entered-kept fresh k s s′ (λ i h d. holds (getD (k .active) i 0) (active-held (k .active) (k .depth) i h d))
+
+-- as many as the definitions count
+pub active-is : (fresh : FirstStrands) (k : Stack) (s : Strands) (n : ℕ) → active (entries fresh k s n) ≡ length (active-places (k .active) n)
+active-is fresh k s zero = refl
+active-is fresh k s (suc n) = at (eqb (getD (k .active) n 0) 256) (active-is fresh k s n)
+  where
+    at : (b : Bool) → active (entries fresh k s n) ≡ length (active-places (k .active) n)
+        → active-count (elim b as (λ (c : Bool). Option said-strand.Strand) [ true ↦ none | false ↦ some (strand-at fresh s (getD (k .active) n 0)) ]) + active (entries fresh k s n)
         ≡ length {A = ℕ} (elim b as (λ (c : Bool). List ℕ) [ true ↦ active-places (k .active) n | false ↦ getD (k .active) n 0 ∷ active-places (k .active) n ])
     at true e = omega arith
     at false e = omega arith

@@ -13,10 +13,11 @@ use borrow.Author.Tests.{lt-ltb, le-ltb, eqb-true, eqb-false}
 use Rattle.definitions.specs.Stop.{go}
 use Rattle.definitions.specs.Stack.{StackEntry, with-active, with-minimums, top, change-top, push-entry}
 use Rattle.definitions.specs.Strand as said-strand
+use Rattle.rings.specs.Rings.{most-places}
 use Rattle.strands.specs.declared.Strand.{Strand}
 use Rattle.stores.specs.declared.queue.Strands.{Strands}
 use Rattle.stores.specs.declared.stack.Stack.{Stack}
-use Rattle.stores.specs.View.{strand-at, active-strand-at, entry-at, entries, entered}
+use Rattle.stores.specs.View.{FirstStrands, strand-at, active-strand-at, entry-at, entries, entered}
 use Rattle.stores.specs.Sound.{SoundStack}
 use Rattle.stores.specs.Queue.{written}
 use Rattle.stores.specs.Numbers.{set-if, add-if}
@@ -24,18 +25,18 @@ use Rattle.stores.specs.Stack.{has-top, top-written, pushed, popped, act
 use Rattle.stores.proofs.StackCases.{some-top}
 use Rattle.stores.proofs.QueueViews.{written-away}
 
-pub entries-same : (k k′ : Stack) (s s′ : Strands) (n : ℕ) → ((i : ℕ) → i < n → entry-at k′ s′ i ≡ entry-at k s i) → entries k′ s′ n ≡ entries k s n
-entries-same k k′ s s′ zero h = refl
-entries-same k k′ s s′ (suc n) h = ap₂ (λ (e : StackEntry) (es : List StackEntry). e ∷ es) (h n (omega arith)) (entries-same k k′ s s′ n (λ i j. h i (omega arith)))
+pub entries-same : (fresh : FirstStrands) (k k′ : Stack) (s s′ : Strands) (n : ℕ) → ((i : ℕ) → i < n → entry-at fresh k′ s′ i ≡ entry-at fresh k s i) → entries fresh k′ s′ n ≡ entries fresh k s n
+entries-same fresh k k′ s s′ zero h = refl
+entries-same fresh k k′ s s′ (suc n) h = ap₂ (λ (e : StackEntry) (es : List StackEntry). e ∷ es) (h n (omega arith)) (entries-same fresh k k′ s s′ n (λ i j. h i (omega arith)))
 
 abbrev entry-of : (t c p n : ℕ) → Option said-strand.Strand → StackEntry
 entry-of t c p n a = record { table = t; clock = c; cyclic-minimums = record { positive = p; negative = n }; active-strand = a }
 
-entry-is : (s : Strands) (t t′ c c′ p p′ n n′ a a′ : ℕ) → t ≡ t′ → c ≡ c′ → p ≡ p′ → n ≡ n′ → a ≡ a′ → entry-of t c p n (active-strand-at s a) ≡ entry-of t′ c′ p′ n′ (active-strand-at s a′)
-entry-is s t t′ c c′ p p′ n n′ a a′ et ec ep en ea = cc
+entry-is : (fresh : FirstStrands) (s : Strands) (t t′ c c′ p p′ n n′ a a′ : ℕ) → t ≡ t′ → c ≡ c′ → p ≡ p′ → n ≡ n′ → a ≡ a′ → entry-of t c p n (active-strand-at fresh s a) ≡ entry-of t′ c′ p′ n′ (active-strand-at fresh s a′)
+entry-is fresh s t t′ c c′ p p′ n n′ a a′ et ec ep en ea = cc
 
 -- PUSH
-module _ (k : Stack) (s : Strands) (t time most : ℕ) (sound : SoundStack k) (room : k .depth < 64) where
+module _ (fresh : FirstStrands) (k : Stack) (s : Strands) (t time most : ℕ) (sound : SoundStack k) (room : k .depth < 64) where
   abbrev d : ℕ
   d = k .depth
 
@@ -47,8 +48,8 @@ module _ (k : Stack) (s : Strands) (t time most : ℕ) (sound : SoundStack k) (r
       ap (λ (b : Bool). record { depth = add-if b d; table = set-if b d t (k .table); clock = set-if b d time (k .clock); positive = set-if b d most (k .positive); negative = set-if b d most (k .negative); active = set-if b d 256 (k .active) }) (lt-ltb d 64 room)
       ∙ ap (λ (m : ℕ). record { depth = m; table = set (k .table) d t; clock = set (k .clock) d time; positive = set (k .positive) d most; negative = set (k .negative) d most; active = set (k .active) d 256 }) (add-one d)
 
-  new-entry : entry-at k′ s d ≡ entry-of t time most most none
-  new-entry = entry-is s (getD (set (k .table) d t) d 0) t (getD (set (k .clock) d time) d 0) time (getD (set (k .positive) d most) d 0) most (getD (set (k .negative) d most) d 0) most
+  new-entry : entry-at fresh k′ s d ≡ entry-of t time most most none
+  new-entry = entry-is fresh s (getD (set (k .table) d t) d 0) t (getD (set (k .clock) d time) d 0) time (getD (set (k .positive) d most) d 0) most (getD (set (k .negative) d most) d 0) most
       (getD (set (k .active) d 256) d 0) 256
       (getD-set-same (k .table) d t 0 (omega (arith, sound .long-table)))
       (getD-set-same (k .clock) d time 0 (omega (arith, sound .long-clock)))
@@ -56,19 +57,19 @@ module _ (k : Stack) (s : Strands) (t time most : ℕ) (sound : SoundStack k) (r
       (getD-set-same (k .negative) d most 0 (omega (arith, sound .long-negative)))
       (getD-set-same (k .active) d 256 0 (omega (arith, sound .long-active)))
 
-  old-entry : (i : ℕ) → i < d → entry-at k′ s i ≡ entry-at k s i
+  old-entry : (i : ℕ) → i < d → entry-at fresh k′ s i ≡ entry-at fresh k s i
   old-entry i h =
       let n : i ≡ d → ⊥ = λ e. omega arith in
-      entry-is s (getD (set (k .table) d t) i 0) (getD (k .table) i 0) (getD (set (k .clock) d time) i 0) (getD (k .clock) i 0)
+      entry-is fresh s (getD (set (k .table) d t) i 0) (getD (k .table) i 0) (getD (set (k .clock) d time) i 0) (getD (k .clock) i 0)
       (getD (set (k .positive) d most) i 0) (getD (k .positive) i 0) (getD (set (k .negative) d most) i 0) (getD (k .negative) i 0)
       (getD (set (k .active) d 256) i 0) (getD (k .active) i 0)
       (getD-set-other (k .table) d i t 0 n) (getD-set-other (k .clock) d i time 0 n) (getD-set-other (k .positive) d i most 0 n)
       (getD-set-other (k .negative) d i most 0 n) (getD-set-other (k .active) d i 256 0 n)
 
-  pub push-view : entered (pushed t time most k) s ≡ push-entry t (record { positive = most; negative = most }) time (entered k s)
+  pub push-view : entered fresh (pushed t time most k) s ≡ push-entry t (record { positive = most; negative = most }) time (entered fresh k s)
   push-view =
-      ap (λ (r : Stack). entered r s) pushed-is
-      ∙ ap₂ (λ (e : StackEntry) (es : List StackEntry). e ∷ es) new-entry (entries-same k k′ s s d old-entry)
+      ap (λ (r : Stack). entered fresh r s) pushed-is
+      ∙ ap₂ (λ (e : StackEntry) (es : List StackEntry). e ∷ es) new-entry (entries-same fresh k k′ s s d old-entry)
 
   pub push-sound : SoundStack (pushed t time most k)
   push-sound = subst SoundStack (sym pushed-is) (record {
@@ -91,20 +92,20 @@ push-full k t time most h =
     ap (λ (b : Bool). record { depth = add-if b (k .depth); table = set-if b (k .depth) t (k .table); clock = set-if b (k .depth) time (k .clock); positive = set-if b (k .depth) most (k .positive); negative = set-if b (k .depth) most (k .negative); active = set-if b (k .depth) 256 (k .active) }) (le-ltb (k .depth) 64 h)
 
 -- POP, and the top
-popped-entries : (k : Stack) (s : Strands) (n : ℕ) → entries (popped k) s n ≡ entries k s n
-popped-entries k s n = entries-same k (popped k) s s n (λ i h. refl)
+popped-entries : (fresh : FirstStrands) (k : Stack) (s : Strands) (n : ℕ) → entries fresh (popped k) s n ≡ entries fresh k s n
+popped-entries fresh k s n = entries-same fresh k (popped k) s s n (λ i h. refl)
 
-module _ (k : Stack) (s : Strands) where
-  pub pop-view : 1 ≤ k .depth → entered k s ≡ entry-at k s (k .depth - 1) ∷ entered (popped k) s
+module _ (fresh : FirstStrands) (k : Stack) (s : Strands) where
+  pub pop-view : 1 ≤ k .depth → entered fresh k s ≡ entry-at fresh k s (k .depth - 1) ∷ entered fresh (popped k) s
   pop-view h =
       let e : k .depth ≡ suc (k .depth - 1) = omega arith in
-      ap (entries k s) e ∙ ap (λ (es : List StackEntry). entry-at k s (k .depth - 1) ∷ es) (sym (popped-entries k s (k .depth - 1)))
+      ap (entries fresh k s) e ∙ ap (λ (es : List StackEntry). entry-at fresh k s (k .depth - 1) ∷ es) (sym (popped-entries fresh k s (k .depth - 1)))
 
-  pub top-view : 1 ≤ k .depth → top (entered k s) ≡ go (entry-at k s (k .depth - 1))
+  pub top-view : 1 ≤ k .depth → top (entered fresh k s) ≡ go (entry-at fresh k s (k .depth - 1))
   top-view h = ap top (pop-view h)
 
-  pub empty-view : k .depth ≡ 0 → entered k s ≡ []
-  empty-view e = ap (entries k s) e
+  pub empty-view : k .depth ≡ 0 → entered fresh k s ≡ []
+  empty-view e = ap (entries fresh k s) e
 
   pub pop-sound : SoundStack k → SoundStack (popped k)
   pop-sound sound = record {
@@ -118,7 +119,7 @@ module _ (k : Stack) (s : Strands) where
   }
 
 -- THE TOP, changed
-module _ (k : Stack) (s : Strands) (sound : SoundStack k) (h : 1 ≤ k .depth) where
+module _ (fresh : FirstStrands) (k : Stack) (s : Strands) (sound : SoundStack k) (h : 1 ≤ k .depth) where
   abbrev j : ℕ
   j = k .depth - 1
 
@@ -134,18 +135,18 @@ module _ (k : Stack) (s : Strands) (sound : SoundStack k) (h : 1 ≤ k .depth) w
   top-long : (x : ℕ) (l : List ℕ) → length l ≡ 64 → length (top-written (k .depth) x l) ≡ 64
   top-long x l long = ap (λ (b : Bool). length (set-if b j x l)) is-top ∙ length-set l j x ∙ long
 
-  change-is : (change : StackEntry → StackEntry) (k′ : Stack) → k′ .depth ≡ k .depth → entry-at k′ s j ≡ change (entry-at k s j)
-      → ((i : ℕ) → i < j → entry-at k′ s i ≡ entry-at k s i) → change-top (entered k s) change ≡ go (entered k′ s)
+  change-is : (change : StackEntry → StackEntry) (k′ : Stack) → k′ .depth ≡ k .depth → entry-at fresh k′ s j ≡ change (entry-at fresh k s j)
+      → ((i : ℕ) → i < j → entry-at fresh k′ s i ≡ entry-at fresh k s i) → change-top (entered fresh k s) change ≡ go (entered fresh k′ s)
   change-is change k′ e here there =
       let d : k .depth ≡ suc j = omega arith in
-      ap (λ (n : ℕ). change-top (entries k s n) change) d
-      ∙ ap go (ap₂ (λ (x : StackEntry) (es : List StackEntry). x ∷ es) (sym here) (sym (entries-same k k′ s s j there)) ∙ ap (entries k′ s) (sym d ∙ sym e))
+      ap (λ (n : ℕ). change-top (entries fresh k s n) change) d
+      ∙ ap go (ap₂ (λ (x : StackEntry) (es : List StackEntry). x ∷ es) (sym here) (sym (entries-same fresh k k′ s s j there)) ∙ ap (entries fresh k′ s) (sym d ∙ sym e))
 
   -- the top's active strand
-  pub activate-view : (place : ℕ) → change-top (entered k s) (λ e. with-active e (active-strand-at s place)) ≡ go (entered (activated place k) s)
-  activate-view place = change-is (λ e. with-active e (active-strand-at s place)) (activated place k) refl
-      (ap (λ (p : ℕ). with-active (entry-at k s j) (active-strand-at s p)) (top-at place (k .active) (sound .long-active)))
-      (λ i a. ap (λ (p : ℕ). with-active (entry-at k s i) (active-strand-at s p)) (top-away place (k .active) i a))
+  pub activate-view : (place : ℕ) → change-top (entered fresh k s) (λ e. with-active e (active-strand-at fresh s place)) ≡ go (entered fresh (activated place k) s)
+  activate-view place = change-is (λ e. with-active e (active-strand-at fresh s place)) (activated place k) refl
+      (ap (λ (p : ℕ). with-active (entry-at fresh k s j) (active-strand-at fresh s p)) (top-at place (k .active) (sound .long-active)))
+      (λ i a. ap (λ (p : ℕ). with-active (entry-at fresh k s i) (active-strand-at fresh s p)) (top-away place (k .active) i a))
 
   pub activate-sound : (place : ℕ) → place ≤ 256 → SoundStack (activated place k)
   activate-sound place few = record {
@@ -165,10 +166,10 @@ module _ (k : Stack) (s : Strands) (sound : SoundStack k) (h : 1 ≤ k .depth) w
           omega (arith, top-away place (k .active) i (omega arith), sound .places i a)
 
   -- the top's minimums
-  pub minimize-view : (p n : ℕ) → change-top (entered k s) (λ e. with-minimums e (record { positive = p; negative = n })) ≡ go (entered (minimized p n k) s)
+  pub minimize-view : (p n : ℕ) → change-top (entered fresh k s) (λ e. with-minimums e (record { positive = p; negative = n })) ≡ go (entered fresh (minimized p n k) s)
   minimize-view p n = change-is (λ e. with-minimums e (record { positive = p; negative = n })) (minimized p n k) refl
-      (ap₂ (λ (x y : ℕ). with-minimums (entry-at k s j) (record { positive = x; negative = y })) (top-at p (k .positive) (sound .long-positive)) (top-at n (k .negative) (sound .long-negative)))
-      (λ i a. ap₂ (λ (x y : ℕ). with-minimums (entry-at k s i) (record { positive = x; negative = y })) (top-away p (k .positive) i a) (top-away n (k .negative) i a))
+      (ap₂ (λ (x y : ℕ). with-minimums (entry-at fresh k s j) (record { positive = x; negative = y })) (top-at p (k .positive) (sound .long-positive)) (top-at n (k .negative) (sound .long-negative)))
+      (λ i a. ap₂ (λ (x y : ℕ). with-minimums (entry-at fresh k s i) (record { positive = x; negative = y })) (top-away p (k .positive) i a) (top-away n (k .negative) i a))
 
   pub minimize-sound : (p n : ℕ) → SoundStack (minimized p n k)
   minimize-sound p n = record {
@@ -181,14 +182,26 @@ module _ (k : Stack) (s : Strands) (sound : SoundStack k) (h : 1 ≤ k .depth) w
     places = sound .places;
   }
 
--- a strand written at a place that no entry has
-pub entered-away : (k : Stack) (s : Strands) (q : ℕ) (x : Strand) → ((i : ℕ) → i < k .depth → getD (k .active) i 0 ≡ q → ⊥) → entered k (written q x s) ≡ entered k s
-entered-away k s q x away = entries-same k k s (written q x s) (k .depth) (λ i h. ap (with-active (entry-at k s i)) (active-away (eqb (getD (k .active) i 0) 256) i h))
+-- what the entries' places show is as it was
+pub entered-kept : (fresh : FirstStrands) (k : Stack) (s s′ : Strands)
+    → ((i : ℕ) → i < k .depth → (getD (k .active) i 0 ≡ most-places → ⊥)
+    → strand-at fresh s′ (getD (k .active) i 0) ≡ strand-at fresh s (getD (k .active) i 0))
+    → entered fresh k s′ ≡ entered fresh k s
+entered-kept fresh k s s′ kept =
+    entries-same fresh k k s s′ (k .depth)
+    (λ i h. ap (with-active (entry-at fresh k s i)) (active-kept i h (eqb (getD (k .active) i 0) most-places) refl))
   where
-    active-away : (b : Bool) (i : ℕ) → i < k .depth
-        → _≡_ {A = Option said-strand.Strand} (elim b [ true ↦ none | false ↦ some (strand-at (written q x s) (getD (k .active) i 0)) ]) (elim b [ true ↦ none | false ↦ some (strand-at s (getD (k .active) i 0)) ])
-    active-away true i h = refl
-    active-away false i h = ap some (written-away s q x (getD (k .active) i 0) (away i h))
+    active-kept : (i : ℕ) → i < k .depth → (b : Bool) → eqb (getD (k .active) i 0) most-places ≡ b
+        → _≡_ {A = Option said-strand.Strand} (elim b [ true ↦ none | false ↦ some (strand-at fresh s′ (getD (k .active) i 0)) ])
+        (elim b [ true ↦ none | false ↦ some (strand-at fresh s (getD (k .active) i 0)) ])
+    active-kept i h true e = refl
+    active-kept i h false e = ap some (kept i h (eqb-false (getD (k .active) i 0) most-places e))
+
+-- a strand written at a place that no entry has
+pub entered-away : (fresh : FirstStrands) (k : Stack) (s : Strands) (q time : ℕ) (x : Strand)
+    → ((i : ℕ) → i < k .depth → getD (k .active) i 0 ≡ q → ⊥) → entered fresh k (written q time x s) ≡ entered fresh k s
+entered-away fresh k s q time x away =
+    entered-kept fresh k s (written q time x s) (λ i h d. written-away fresh s q time x (getD (k .active) i 0) (away i h))
 
 -- BLANK
 pub blank-stack-sound : SoundStack blank-stack
@@ -202,5 +215,5 @@ blank-stack-sound = record {
   places = λ i h. absurd (omega arith);
 }
 
-pub blank-stack-view : (s : Strands) → entered blank-stack s ≡ []
-blank-stack-view s = refl
+pub blank-stack-view : (fresh : FirstStrands) (s : Strands) → entered fresh blank-stack s ≡ []
+blank-stack-view fresh s = refl

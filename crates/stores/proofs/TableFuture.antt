@@ -22,7 +22,7 @@ use Rattle.stores.specs.declared.queue.Strands.{Strands}
 use Rattle.stores.specs.declared.table.Answers.{Answers}
 use Rattle.stores.specs.declared.tables.Tables.{Tables}
 use Rattle.stores.specs.Places.{ring, numbered, found-in}
-use Rattle.stores.specs.View.{answer-at, strand-at, held-table, tables}
+use Rattle.stores.specs.View.{FirstStrands, answer-at, strand-at, held-table, tables}
 use Rattle.stores.specs.Sound.{SoundPlaces, SoundStrands, SoundAnswers}
 use Rattle.stores.proofs.ListsSpans.{map-drop, span-at, all-times}
 use Rattle.stores.proofs.PlacesSearch.{found-any}
@@ -35,7 +35,7 @@ any-cong : {A : Type 0} (f g : A → Bool) (l : List A) → All (λ x. f x ≡ g
 any-cong f g [] a = refl
 any-cong f g (x ∷ l) a = ap₂ (λ (b c : Bool). b || c) (a .0) (any-cong f g l (a .1))
 
-module _ (ts : Tables) (s : Strands) (a : Answers) (held : List ℕ) (t i v : ℕ) (h : t < ts .count) (ss : SoundStrands s (ts .count) held)
+module _ (fresh : FirstStrands) (ts : Tables) (s : Strands) (a : Answers) (held : List ℕ) (t i v : ℕ) (h : t < ts .count) (ss : SoundStrands fresh s (ts .count) held)
     (rs : SoundAnswers a (ts .count)) where
   abbrev stored-test : said.Answer → Bool
   stored-test b = eqb (b .variant) v
@@ -55,14 +55,14 @@ module _ (ts : Tables) (s : Strands) (a : Answers) (held : List ℕ) (t i v : �
       ∙ sym (any-map test at (drop n (ring p t))) ∙ ap (any-passes test) (map-drop at n (ring p t))
 
   -- what `any_answer` and `any_strand` say of the table
-  pub future-view : (f : Forest) → f .tables ≡ tables ts s a → (stored queued : Bool)
+  pub future-view : (f : Forest) → f .tables ≡ tables fresh ts s a → (stored queued : Bool)
       → stored ≡ ltb (found-in (numbered false (a .variant) v (a .key) 0) (drop i (ring (a .places) t))) 256
       → queued ≡ ltb (found-in (numbered false (s .variant) v (s .time) 0) (ring (s .places) t)) 256 → future f t i v ≡ stored || queued
   future-view f is stored queued es eq =
-      ap (λ (l : List Table). here (getElem? l t)) is ∙ ap here (span-at (held-table ts s a) (ts .count) t h)
+      ap (λ (l : List Table). here (getElem? l t)) is ∙ ap here (span-at (held-table fresh ts s a) (ts .count) t h)
       ∙ ap₂ (λ (x y : Bool). x || y)
       (sym (es ∙ any-found stored-test (answer-at a) (a .places) [] (rs .places) (a .variant) (a .key) 0 (λ q k. ap (λ (n : ℕ). eqb n v) (rs .stored t q h k .is-variant)) i))
-      (sym (eq ∙ any-found queued-test (strand-at s) (s .places) held (ss .places) (s .variant) (s .time) 0 (λ q k. ap (λ (n : ℕ). eqb n v) (ss .queued t q h k .is-variant)) 0))
+      (sym (eq ∙ any-found queued-test (strand-at fresh s) (s .places) held (ss .places) (s .variant) (s .time) 0 (λ q k. ap (λ (n : ℕ). eqb n v) (ss .queued t q h k .is-variant)) 0))
     where
       here : Option Table → Bool
       here o = elim o [ none ↦ false | some table ↦ any-passes stored-test (drop i (table .answers)) || any-passes queued-test (table .strands) ]

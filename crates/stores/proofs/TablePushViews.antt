@@ -23,7 +23,7 @@ use Rattle.stores.specs.declared.table.Answers.{Answers}
 use Rattle.stores.specs.declared.tables.Tables.{Tables}
 use Rattle.stores.specs.Numbers.{flag, flag-number}
 use Rattle.stores.specs.Places.{ring, freed, free-place, numbered, found-or, found-in}
-use Rattle.stores.specs.View.{answer-at, held-table, tables}
+use Rattle.stores.specs.View.{FirstStrands, answer-at, held-table, tables}
 use Rattle.stores.specs.Sound.{GoodAnswer, Stored, SoundAnswers}
 use Rattle.stores.specs.Table.{key-of, with-answer-places, written-answer, answer-stored, repeated-of, new-if, outcome-if, room-if, pushed-if, same-place, push-outcome, pushed-places, PushMeans, PushLeaves}
 use Rattle.stores.proofs.ListsSpans.{all-times}
@@ -63,19 +63,19 @@ module _ (x : Answer) (good : GoodAnswer x) (a : Answers) where
       by false e = e
 
 -- WHAT THE OUTCOME MEANS, in a table that isn't floundered
-module _ (ts : Tables) (s : Strands) (a : Answers) (t : ℕ) (x : Answer) (h : t < ts .count) (sound : SoundAnswers a (ts .count)) (good : GoodAnswer x)
-    (live : held-table ts s a t .floundered ≡ false) where
+module _ (fresh : FirstStrands) (ts : Tables) (s : Strands) (a : Answers) (t : ℕ) (x : Answer) (h : t < ts .count) (sound : SoundAnswers a (ts .count)) (good : GoodAnswer x)
+    (live : held-table fresh ts s a t .floundered ≡ false) where
   abbrev p : Places
   p = a .places
 
   abbrev table : Table
-  table = held-table ts s a t
+  table = held-table fresh ts s a t
 
   abbrev new : Table
-  new = held-table ts s (answer-stored t x a) t
+  new = held-table fresh ts s (answer-stored t x a) t
 
   abbrev held : ℕ
-  held = total (λ u. length (u .answers)) (tables ts s a)
+  held = total (λ u. length (u .answers)) (tables fresh ts s a)
 
   abbrev said-x : said.Answer
   said-x = view.answer x
@@ -129,7 +129,7 @@ module _ (ts : Tables) (s : Strands) (a : Answers) (t : ℕ) (x : Answer) (h : t
       room-for : free-place p < 256 → held < 256
       room-for i =
           let f = freed-sound p (ts .count) [] (sound .places) i in
-          omega (arith, held-is ts s a, f .sound .all, f .sound .rings .room, waiting-same p (freed p) (ts .count) (λ u j. ap length (f .same u j)))
+          omega (arith, held-is fresh ts s a, f .sound .all, f .sound .rings .room, waiting-same p (freed p) (ts .count) (λ u j. ap length (f .same u j)))
 
   new-means : (room : Bool) → ltb (free-place p) 256 ≡ room → equal-answer said-x (table .answers) ≡ none → PushMeans held said-x table new (new-if room (free-place p))
   new-means true er e =
@@ -138,7 +138,7 @@ module _ (ts : Tables) (s : Strands) (a : Answers) (t : ℕ) (x : Answer) (h : t
       ∙ ap (λ (l : List said.Answer). go (some (length (table .answers)), with-answers table l)) (sym (stored-answer-own a (ts .count) t x h sound good k))
   new-means false er e =
       let k : 256 ≤ free-place p = ltb-false (free-place p) 256 er in
-      let f : held ≡ 256 = omega (arith, held-is ts s a, freed-none p (ts .count) [] (sound .places) k) in
+      let f : held ≡ 256 = omega (arith, held-is fresh ts s a, freed-none p (ts .count) [] (sound .places) k) in
       start ∙ ap after e ∙ ap (λ (b : Bool). stop-if b 23 >> go (some (length (table .answers)), with-answers table (push (table .answers) said-x))) (le-leb 256 held (omega arith))
 
   by-search : (b : Bool) → ltb at 256 ≡ b
@@ -149,8 +149,8 @@ module _ (ts : Tables) (s : Strands) (a : Answers) (t : ℕ) (x : Answer) (h : t
   by-search false e = new-means (ltb (free-place p) 256) refl (equal ∙ ap (λ (c : Bool). found-if c (answer-at a at)) e)
 
   -- the outcome of `push_answer` is the definition's result
-  pub push-means : PushMeans (total (λ u. length (u .answers)) (tables ts s a)) (view.answer x) (held-table ts s a t)
-      (held-table ts s (answer-stored t x a) t) (push-outcome (a .variant) (a .key) (a .ambiguous) t x (a .places))
+  pub push-means : PushMeans (total (λ u. length (u .answers)) (tables fresh ts s a)) (view.answer x) (held-table fresh ts s a t)
+      (held-table fresh ts s (answer-stored t x a) t) (push-outcome (a .variant) (a .key) (a .ambiguous) t x (a .places))
   push-means = by-search (ltb at 256) refl
 
   -- WHAT IT LEAVES: the places as they were, or the new answer's place at the end of the table's ring

@@ -25,7 +25,7 @@ use Rattle.stores.specs.declared.table.Answers.{Answers}
 use Rattle.stores.specs.declared.tables.Tables.{Tables}
 use Rattle.stores.specs.Numbers.{free, flag, flag-number, set-if}
 use Rattle.stores.specs.Places.{ring, enqueued, freed, free-place, moved-to}
-use Rattle.stores.specs.View.{unread-answer, answer-at, strand-at, held-table, tables}
+use Rattle.stores.specs.View.{FirstStrands, unread-answer, answer-at, strand-at, held-table, tables}
 use Rattle.stores.specs.Sound.{waiting, SoundPlaces, GoodAnswer, Stored, SoundAnswers, SoundTables}
 use Rattle.stores.specs.Queue.{strands-of, cleared}
 use Rattle.stores.specs.Table.{marked, answers-of, answer-stored, cleared-answers, key-of, blank-answer, blank-answers}
@@ -37,19 +37,19 @@ use Rattle.stores.proofs.PlacesCases.{Freed, freed-sound}
 use Rattle.stores.proofs.PlacesMoves.{moved-own, moved-other, moved-sound}
 
 -- THE LIST OF TABLES, when the answers of one change
-pub answers-changed : (ts : Tables) (s : Strands) (a a′ : Answers) (t : ℕ) → t < ts .count → ((u : ℕ) → u < ts .count → (u ≡ t → ⊥) → answers-of a′ u ≡ answers-of a u)
-    → tables ts s a′ ≡ set (tables ts s a) t (with-answers (held-table ts s a t) (answers-of a′ t))
-answers-changed ts s a a′ t h other =
-    span-set (held-table ts s a) (held-table ts s a′) (ts .count) t h (λ u k d. ap (with-answers (held-table ts s a u)) (other u k d))
+pub answers-changed : (fresh : FirstStrands) (ts : Tables) (s : Strands) (a a′ : Answers) (t : ℕ) → t < ts .count → ((u : ℕ) → u < ts .count → (u ≡ t → ⊥) → answers-of a′ u ≡ answers-of a u)
+    → tables fresh ts s a′ ≡ set (tables fresh ts s a) t (with-answers (held-table fresh ts s a t) (answers-of a′ t))
+answers-changed fresh ts s a a′ t h other =
+    span-set (held-table fresh ts s a) (held-table fresh ts s a′) (ts .count) t h (λ u k d. ap (with-answers (held-table fresh ts s a u)) (other u k d))
 
 -- LOOKUP: what stands at the place that `ring_at` finds
-module _ (ts : Tables) (s : Strands) (a : Answers) (t i r : ℕ)
+module _ (fresh : FirstStrands) (ts : Tables) (s : Strands) (a : Answers) (t i r : ℕ)
     (found : r ≡ place-if (ltb i (getD (a .places .len) t 0)) (getD (ring (a .places) t) i 0)) (sound : SoundPlaces (a .places) (ts .count) []) where
   abbrev place : ℕ
   place = getD (ring (a .places) t) i 0
 
   by-index : (b : Bool) → ltb i (getD (a .places .len) t 0) ≡ b
-      → (r < 256 → answer (held-table ts s a t) i ≡ some (answer-at a r)) × (256 ≤ r → answer (held-table ts s a t) i ≡ none)
+      → (r < 256 → answer (held-table fresh ts s a t) i ≡ some (answer-at a r)) × (256 ≤ r → answer (held-table fresh ts s a t) i ≡ none)
   by-index true e =
       let k : i < length (ring (a .places) t) = omega (arith, length-ring (a .places) t, ltb-true i (getD (a .places .len) t 0) e) in
       let is : r ≡ place = found ∙ ap (λ (b : Bool). place-if b place) e in
@@ -63,18 +63,18 @@ module _ (ts : Tables) (s : Strands) (a : Answers) (t i r : ℕ)
       let is : r ≡ 256 = found ∙ ap (λ (b : Bool). place-if b place) e in
       (λ h. absurd (omega arith), λ h. map-elem-past (answer-at a) (ring (a .places) t) i k)
 
-  pub answer-there : r < 256 → answer (held-table ts s a t) i ≡ some (answer-at a r)
+  pub answer-there : r < 256 → answer (held-table fresh ts s a t) i ≡ some (answer-at a r)
   answer-there = by-index (ltb i (getD (a .places .len) t 0)) refl .0
 
-  pub answer-past : 256 ≤ r → answer (held-table ts s a t) i ≡ none
+  pub answer-past : 256 ≤ r → answer (held-table fresh ts s a t) i ≡ none
   answer-past = by-index (ltb i (getD (a .places .len) t 0)) refl .1
 
 -- HOW MANY: of a table, and of all
-pub answer-count-is : (ts : Tables) (s : Strands) (a : Answers) (t : ℕ) → next-answer-index (held-table ts s a t) ≡ getD (a .places .len) t 0
-answer-count-is ts s a t = length-map (ring (a .places) t) (answer-at a) ∙ length-ring (a .places) t
+pub answer-count-is : (fresh : FirstStrands) (ts : Tables) (s : Strands) (a : Answers) (t : ℕ) → next-answer-index (held-table fresh ts s a t) ≡ getD (a .places .len) t 0
+answer-count-is fresh ts s a t = length-map (ring (a .places) t) (answer-at a) ∙ length-ring (a .places) t
 
-pub held-is : (ts : Tables) (s : Strands) (a : Answers) → total (λ t. length (t .answers)) (tables ts s a) ≡ waiting (a .places) (ts .count)
-held-is ts s a = total-waiting (held-table ts s a) (λ t. length (t .answers)) (a .places) (λ u. length-map (ring (a .places) u) (answer-at a)) (ts .count)
+pub held-is : (fresh : FirstStrands) (ts : Tables) (s : Strands) (a : Answers) → total (λ t. length (t .answers)) (tables fresh ts s a) ≡ waiting (a .places) (ts .count)
+held-is fresh ts s a = total-waiting (held-table fresh ts s a) (λ t. length (t .answers)) (a .places) (λ u. length-map (ring (a .places) u) (answer-at a)) (ts .count)
 
 -- for one table more, which has no answer
 pub answers-grown : (a : Answers) (n : ℕ) → n < free → SoundAnswers a n → SoundAnswers a (suc n)
@@ -168,11 +168,11 @@ module _ (a : Answers) (n t : ℕ) (x : Answer) (h : t < n) (sound : SoundAnswer
           absent : times z (q ∷ []) ≡ 0
           absent = omega (arith, ap one (ne-eqb z q d))
 
-  pub stored-answer-view : (ts : Tables) (s : Strands) → ts .count ≡ n
-      → tables ts s (answer-stored t x a) ≡ set (tables ts s a) t (with-answers (held-table ts s a t) (push (answers-of a t) (view.answer x)))
-  stored-answer-view ts s e =
-      answers-changed ts s a (answer-stored t x a) t (omega arith) (λ u k d. stored-answer-other u (omega arith) d)
-      ∙ ap (λ (l : List said.Answer). set (tables ts s a) t (with-answers (held-table ts s a t) l)) stored-answer-own
+  pub stored-answer-view : (fresh : FirstStrands) (ts : Tables) (s : Strands) → ts .count ≡ n
+      → tables fresh ts s (answer-stored t x a) ≡ set (tables fresh ts s a) t (with-answers (held-table fresh ts s a t) (push (answers-of a t) (view.answer x)))
+  stored-answer-view fresh ts s e =
+      answers-changed fresh ts s a (answer-stored t x a) t (omega arith) (λ u k d. stored-answer-other u (omega arith) d)
+      ∙ ap (λ (l : List said.Answer). set (tables fresh ts s a) t (with-answers (held-table fresh ts s a t) l)) stored-answer-own
 
 -- FREE THEM ALL
 pub cleared-answers-sound : (a : Answers) (n t : ℕ) → t < n → SoundAnswers a n → SoundAnswers (cleared-answers t a) n
@@ -185,7 +185,7 @@ cleared-answers-sound a n t h sound = record {
 }
 
 -- MARK FLOUNDERED: the flag, and no answers and no strands
-module _ (ts : Tables) (s : Strands) (a : Answers) (held : List ℕ) (t : ℕ) (h : t < ts .count) (sound : SoundTables ts) (ss : SoundPlaces (s .places) (ts .count) held) (rs : SoundPlaces (a .places) (ts .count) []) where
+module _ (fresh : FirstStrands) (ts : Tables) (s : Strands) (a : Answers) (held : List ℕ) (t : ℕ) (h : t < ts .count) (sound : SoundTables ts) (ss : SoundPlaces (s .places) (ts .count) held) (rs : SoundPlaces (a .places) (ts .count) []) where
   abbrev ts′ : Tables
   ts′ = record { count = ts .count; goal = ts .goal; coinductive = ts .coinductive; floundered = set (ts .floundered) t 1; complete = ts .complete }
 
@@ -202,23 +202,23 @@ module _ (ts : Tables) (s : Strands) (a : Answers) (held : List ℕ) (t : ℕ) (
   })
 
   abbrev table-with : ℕ → (floundered : ℕ) → List said.Answer → List said-strand.Strand → Table
-  table-with u f l m = record { table-goal = getD (ts .goal) u 0; coinductive-goal = flag (getD (ts .coinductive) u 0); floundered = flag f; answers = l; strands = m; answer-mode = held-table ts s a u .answer-mode }
+  table-with u f l m = record { table-goal = getD (ts .goal) u 0; coinductive-goal = flag (getD (ts .coinductive) u 0); floundered = flag f; answers = l; strands = m; answer-mode = held-table fresh ts s a u .answer-mode }
 
   table-is : (u f f′ : ℕ) (l l′ : List said.Answer) (m m′ : List said-strand.Strand) → f ≡ f′ → l ≡ l′ → m ≡ m′ → table-with u f l m ≡ table-with u f′ l′ m′
   table-is u f f′ l l′ m m′ e c d = ap₂ (λ (x : List said.Answer) (y : List said-strand.Strand). table-with u f x y) c d ∙ ap (λ (x : ℕ). table-with u x l′ m′) e
 
-  pub marked-view : tables (marked t ts) (cleared t s) (cleared-answers t a) ≡ set (tables ts s a) t (mark-floundered (held-table ts s a t))
+  pub marked-view : tables fresh (marked t ts) (cleared t s) (cleared-answers t a) ≡ set (tables fresh ts s a) t (mark-floundered (held-table fresh ts s a t))
   marked-view =
-      ap (λ (r : Tables). tables r (cleared t s) (cleared-answers t a)) marked-is
-      ∙ span-set (held-table ts s a) (held-table ts′ (cleared t s) (cleared-answers t a)) (ts .count) t h
-      (λ u k d. table-is u (getD (set (ts .floundered) t 1) u 0) (getD (ts .floundered) u 0) (answers-of (cleared-answers t a) u) (answers-of a u) (strands-of (cleared t s) u) (strands-of s u)
+      ap (λ (r : Tables). tables fresh r (cleared t s) (cleared-answers t a)) marked-is
+      ∙ span-set (held-table fresh ts s a) (held-table fresh ts′ (cleared t s) (cleared-answers t a)) (ts .count) t h
+      (λ u k d. table-is u (getD (set (ts .floundered) t 1) u 0) (getD (ts .floundered) u 0) (answers-of (cleared-answers t a) u) (answers-of a u) (strands-of fresh (cleared t s) u) (strands-of fresh s u)
       (getD-set-other (ts .floundered) t u 1 0 d)
       (ap (map (answer-at a)) (moved-other (a .places) (ts .count) [] t h rs u (λ e. omega (arith, rs .few)) d))
-      (ap (map (strand-at s)) (moved-other (s .places) (ts .count) held t h ss u (λ e. omega (arith, ss .few)) d)))
-      ∙ ap (set (tables ts s a) t)
-      (table-is t (getD (set (ts .floundered) t 1) t 0) 1 (answers-of (cleared-answers t a) t) [] (strands-of (cleared t s) t) []
+      (ap (map (strand-at fresh s)) (moved-other (s .places) (ts .count) held t h ss u (λ e. omega (arith, ss .few)) d)))
+      ∙ ap (set (tables fresh ts s a) t)
+      (table-is t (getD (set (ts .floundered) t 1) t 0) 1 (answers-of (cleared-answers t a) t) [] (strands-of fresh (cleared t s) t) []
       (getD-set-same (ts .floundered) t 1 0 (omega (arith, sound .few, sound .long-floundered)))
-      (ap (map (answer-at a)) (moved-own (a .places) (ts .count) [] t h rs)) (ap (map (strand-at s)) (moved-own (s .places) (ts .count) held t h ss)))
+      (ap (map (answer-at a)) (moved-own (a .places) (ts .count) [] t h rs)) (ap (map (strand-at fresh s)) (moved-own (s .places) (ts .count) held t h ss)))
 
 -- BLANK: no table has an answer
 pub blank-answers-sound : SoundAnswers blank-answers 0

@@ -1,43 +1,44 @@
--- `build_table` and `insert` together: a new table whose initial strands are stored one after the other, and a floundered one, which has
--- none. From TableViews and StrandStores.
+-- `build_table` and `insert` together: a new table with fresh places for the first strands of its clauses, and a floundered one, which has
+-- none. From TablesViews and QueueStores.
 use Prim.Native.Nat.{ℕ, suc, _+_, _≤_, _<_}
 use native.Mathlib.Omega.{arith}
-use mathlib.Core.Path.{_≡_, sym, ap, ap₂, _∙_}
+use mathlib.Core.Path.{_≡_, refl, sym, ap, ap₂, _∙_}
 use mathlib.Core.Bool.{Bool, true, false}
 use mathlib.Core.List.{List, [], _++_, map}
-use lib.ListN.{length, set}
+use lib.ListN.{length, getD, set}
 use lib.Seq.{set-append-seam}
 use Rattle.definitions.specs.Lists.{push}
 use Rattle.definitions.specs.Strand as said-strand
 use Rattle.definitions.specs.Table.{Table, new, with-strands}
 use Rattle.definitions.specs.Tables.{insert-table}
-use Rattle.rings.specs.Lists.{All}
-use Rattle.strands.specs.declared.Strand.{Strand}
-use Rattle.strands.specs.View.{view, Sound}
+use Rattle.rings.specs.Lists.{times}
+use Rattle.rings.specs.Rings.{most-places}
+use Rattle.book.specs.View.{span}
 use Rattle.stores.specs.declared.queue.Strands.{Strands}
 use Rattle.stores.specs.declared.table.Answers.{Answers}
 use Rattle.stores.specs.declared.tables.Tables.{Tables}
 use Rattle.stores.specs.Places.{ring}
-use Rattle.stores.specs.View.{strand-at, held-table, tables}
-use Rattle.stores.specs.Sound.{waiting, SoundStrands, SoundAnswers, SoundTables}
-use Rattle.stores.specs.Queue.{stored-each}
+use Rattle.stores.specs.View.{FirstStrands, strand-at, held-table, tables}
+use Rattle.stores.specs.Sound.{waiting, FirstOf, SoundStrands, SoundAnswers, SoundTables}
+use Rattle.stores.specs.Queue.{fresh-each}
 use Rattle.stores.specs.Tables.{inserted}
 use Rattle.book.proofs.Spans.{span-length}
 use Rattle.stores.proofs.QueueSound.{strands-grown}
-use Rattle.stores.proofs.QueueStores.{StoredAll, stored-all, stored-all-view}
+use Rattle.stores.proofs.QueueStores.{Grown, grown-view, fresh-all}
 use Rattle.stores.proofs.TableViews.{answers-grown}
 use Rattle.stores.proofs.TablesViews.{new-table, inserted-count, inserted-sound, inserted-view, inserted-new}
 
--- what is built: the stores are sound for one table more, and the view has the table at its end
-pub record Built (ts ts′ : Tables) (s s′ : Strands) (a : Answers) (held : List ℕ) (table : Table) : Type 0 where
+-- what is built: the stores are sound for one table more, the view has the table at its end, and what the held places show is as it was
+pub record Built (fresh : FirstStrands) (ts ts′ : Tables) (s s′ : Strands) (a : Answers) (held : List ℕ) (table : Table) : Type 0 where
   pub count : ts′ .count ≡ suc (ts .count)
   pub tables-sound : SoundTables ts′
-  pub strands-sound : SoundStrands s′ (suc (ts .count)) held
+  pub strands-sound : SoundStrands fresh s′ (suc (ts .count)) held
   pub answers-sound : SoundAnswers a (suc (ts .count))
-  pub means : tables ts′ s′ a ≡ insert-table table (tables ts s a)
+  pub means : tables fresh ts′ s′ a ≡ insert-table table (tables fresh ts s a)
+  pub holds : (q : ℕ) → 1 ≤ times q held → strand-at fresh s′ q ≡ strand-at fresh s q
 
-module _ (ts : Tables) (s : Strands) (a : Answers) (held : List ℕ) (g : ℕ) (co : Bool)
-    (sound : SoundTables ts) (ss : SoundStrands s (ts .count) held) (rs : SoundAnswers a (ts .count)) (room : ts .count < 64) where
+module _ (fresh : FirstStrands) (ts : Tables) (s : Strands) (a : Answers) (held : List ℕ) (g : ℕ) (co : Bool)
+    (sound : SoundTables ts) (ss : SoundStrands fresh s (ts .count) held) (rs : SoundAnswers a (ts .count)) (room : ts .count < 64) where
   abbrev n : ℕ
   n = ts .count
 
@@ -48,36 +49,52 @@ module _ (ts : Tables) (s : Strands) (a : Answers) (held : List ℕ) (g : ℕ) (
   no-strands = ss .places .empty n (omega arith) (λ e. omega arith)
 
   -- a floundered goal's table has no strands
-  pub built-floundered : Built ts (inserted g co true ts) s s a held (new-table g co true)
+  pub built-floundered : Built fresh ts (inserted g co true ts) s s a held (new-table g co true)
   built-floundered = record {
-    count = inserted-count ts s a g co true sound room;
-    tables-sound = inserted-sound ts s a g co true sound room;
-    strands-sound = strands-grown s n held room ss;
+    count = inserted-count fresh ts s a g co true sound room;
+    tables-sound = inserted-sound fresh ts s a g co true sound room;
+    strands-sound = strands-grown fresh s n held room ss;
     answers-sound = answers-grown a n room rs;
-    means = inserted-view ts s a g co true sound room no-answers no-strands;
+    means = inserted-view fresh ts s a g co true sound room no-answers no-strands;
+    holds = λ q k. refl;
   }
 
-  module _ (xs : List Strand) (good : All Sound xs) (fits : waiting (s .places) n + length held + length xs ≤ 256) where
+  -- the places for the first strands of `count` clauses from `first` on
+  module _ (variants flags : List ℕ) (first count : ℕ)
+      (clauses : (c : ℕ) → first ≤ c → c < first + count → FirstOf (fresh c) (getD variants c 0) (getD flags c 0))
+      (fits : waiting (s .places) n + length held + count ≤ most-places) where
     abbrev ts′ : Tables
     ts′ = inserted g co false ts
+
+    abbrev s′ : Strands
+    s′ = fresh-each variants flags n count first s
+
+    abbrev queue : List said-strand.Strand
+    queue = span fresh first count
 
     -- the new table's ring is empty
     waiting-more : waiting (s .places) (suc n) ≡ waiting (s .places) n
     waiting-more = omega (arith, ap length no-strands)
 
-    all : StoredAll s (suc n) held n xs
-    all = stored-all s (suc n) held n xs (omega arith) (strands-grown s n held room ss) good (omega (arith, waiting-more))
+    grown : Grown fresh s s′ (suc n) held n queue
+    grown =
+        fresh-all fresh variants flags (suc n) held n (omega arith) count first s (strands-grown fresh s n held room ss) clauses
+        (omega (arith, waiting-more))
 
-    pub built : Built ts (inserted g co false ts) s (stored-each (ts .count) xs s) a held (with-strands (new g co) (map view xs))
+    pub built : Built fresh ts (inserted g co false ts) s (fresh-each variants flags (ts .count) count first s) a held
+        (with-strands (new g co) (span fresh first count))
     built = record {
-      count = inserted-count ts s a g co false sound room;
-      tables-sound = inserted-sound ts s a g co false sound room;
-      strands-sound = all .sound;
+      count = inserted-count fresh ts s a g co false sound room;
+      tables-sound = inserted-sound fresh ts s a g co false sound room;
+      strands-sound = grown .sound;
       answers-sound = answers-grown a n room rs;
       means =
-          stored-all-view s (suc n) held n xs ts′ a (inserted-count ts s a g co false sound room) (omega arith) all
-          ∙ ap₂ (λ (l : List Table) (t : Table). set l n t) (inserted-view ts s a g co false sound room no-answers no-strands)
-          (ap₂ (λ (t : Table) (l : List said-strand.Strand). with-strands t (l ++ map view xs)) (inserted-new ts s a g co false sound room no-answers no-strands) (ap (map (strand-at s)) no-strands))
-          ∙ ap (λ (k : ℕ). set (push (tables ts s a) (new g co)) k (with-strands (new g co) (map view xs))) (sym (span-length (held-table ts s a) 0 n))
-          ∙ set-append-seam (tables ts s a) (new g co) [] (with-strands (new g co) (map view xs));
+          grown-view fresh s s′ (suc n) held n queue (omega arith) grown ts′ a (inserted-count fresh ts s a g co false sound room)
+          ∙ ap₂ (λ (l : List Table) (t : Table). set l n t) (inserted-view fresh ts s a g co false sound room no-answers no-strands)
+          (ap₂ (λ (t : Table) (l : List said-strand.Strand). with-strands t (l ++ queue))
+          (inserted-new fresh ts s a g co false sound room no-answers no-strands) (ap (map (strand-at fresh s)) no-strands))
+          ∙ ap (λ (k : ℕ). set (push (tables fresh ts s a) (new g co)) k (with-strands (new g co) queue))
+          (sym (span-length (held-table fresh ts s a) 0 n))
+          ∙ set-append-seam (tables fresh ts s a) (new g co) [] (with-strands (new g co) queue);
+      holds = grown .holds;
     }

@@ -21,51 +21,51 @@ use Rattle.stores.specs.declared.table.Answers.{Answers}
 use Rattle.stores.specs.declared.tables.Tables.{Tables}
 use Rattle.stores.specs.Places.{ring}
 use Rattle.stores.specs.Numbers.{flag, flag-number, set-if, add-if, flag-at, number-if}
-use Rattle.stores.specs.View.{mode, held-table, tables, strand-at, answer-at}
+use Rattle.stores.specs.View.{FirstStrands, mode, held-table, tables, strand-at, answer-at}
 use Rattle.stores.specs.Sound.{SoundTables}
 use Rattle.stores.specs.Tables.{table-goal-at, inserted, moded, blank-tables}
 use Rattle.stores.proofs.NumbersCases.{flag-of}
 use Rattle.stores.proofs.ListsSpans.{span-at, span-past, span-same, span-set, span-push}
 
 -- the tables that are made, and no other
-pub table-there : (ts : Tables) (s : Strands) (a : Answers) (t : ℕ) → t < ts .count → getElem? (tables ts s a) t ≡ some (held-table ts s a t)
-table-there ts s a t h = span-at (held-table ts s a) (ts .count) t h
+pub table-there : (fresh : FirstStrands) (ts : Tables) (s : Strands) (a : Answers) (t : ℕ) → t < ts .count → getElem? (tables fresh ts s a) t ≡ some (held-table fresh ts s a t)
+table-there fresh ts s a t h = span-at (held-table fresh ts s a) (ts .count) t h
 
-pub table-past : (ts : Tables) (s : Strands) (a : Answers) (t : ℕ) → ts .count ≤ t → getElem? (tables ts s a) t ≡ none
-table-past ts s a t h = span-past (held-table ts s a) (ts .count) t h
+pub table-past : (fresh : FirstStrands) (ts : Tables) (s : Strands) (a : Answers) (t : ℕ) → ts .count ≤ t → getElem? (tables fresh ts s a) t ≡ none
+table-past fresh ts s a t h = span-past (held-table fresh ts s a) (ts .count) t h
 
 -- a forest with these tables: `tables[t]`, and the table changed
-module _ (ts : Tables) (s : Strands) (a : Answers) (f : Forest) (is : f .tables ≡ tables ts s a) (t : ℕ) (h : t < ts .count) where
-  pub table-at-is : table-at f t ≡ go (held-table ts s a t)
-  table-at-is = ap (λ (l : List Table). unwrap (getElem? l t)) is ∙ ap unwrap (table-there ts s a t h)
+module _ (fresh : FirstStrands) (ts : Tables) (s : Strands) (a : Answers) (f : Forest) (is : f .tables ≡ tables fresh ts s a) (t : ℕ) (h : t < ts .count) where
+  pub table-at-is : table-at f t ≡ go (held-table fresh ts s a t)
+  table-at-is = ap (λ (l : List Table). unwrap (getElem? l t)) is ∙ ap unwrap (table-there fresh ts s a t h)
 
-  pub change-is : (change : Table → Table) (after : List Table) → after ≡ set (tables ts s a) t (change (held-table ts s a t)) → change-table f t change ≡ go (with-tables f after)
+  pub change-is : (change : Table → Table) (after : List Table) → after ≡ set (tables fresh ts s a) t (change (held-table fresh ts s a t)) → change-table f t change ≡ go (with-tables f after)
   change-is change after e =
       ap (λ (r : Stops Table). r >>= λ x. go (with-tables f (set (f .tables) t (change x)))) table-at-is
-      ∙ ap (λ (l : List Table). go (with-tables f (set l t (change (held-table ts s a t))))) is ∙ ap (λ (l : List Table). go (with-tables f l)) (sym e)
+      ∙ ap (λ (l : List Table). go (with-tables f (set l t (change (held-table fresh ts s a t))))) is ∙ ap (λ (l : List Table). go (with-tables f l)) (sym e)
 
 -- READ: what `flag_at` and `goal_at` say of a table that is made
-module _ (ts : Tables) (s : Strands) (a : Answers) (sound : SoundTables ts) (t : ℕ) (h : t < ts .count) where
+module _ (fresh : FirstStrands) (ts : Tables) (s : Strands) (a : Answers) (sound : SoundTables ts) (t : ℕ) (h : t < ts .count) where
   near : ltb t 64 ≡ true
   near = lt-ltb t 64 (omega (arith, sound .few))
 
   pub flag-at-is : (l : List ℕ) → flag-at t l ≡ flag (getD l t 0)
   flag-at-is l = ap (λ (b : Bool). b && flag (getD l t 0)) near
 
-  pub floundered-view : flag-at t (ts .floundered) ≡ held-table ts s a t .floundered
+  pub floundered-view : flag-at t (ts .floundered) ≡ held-table fresh ts s a t .floundered
   floundered-view = flag-at-is (ts .floundered)
 
-  pub coinductive-view : flag-at t (ts .coinductive) ≡ held-table ts s a t .coinductive-goal
+  pub coinductive-view : flag-at t (ts .coinductive) ≡ held-table fresh ts s a t .coinductive-goal
   coinductive-view = flag-at-is (ts .coinductive)
 
-  pub mode-view : flag-at t (ts .complete) ≡ said.is-complete (held-table ts s a t .answer-mode)
+  pub mode-view : flag-at t (ts .complete) ≡ said.is-complete (held-table fresh ts s a t .answer-mode)
   mode-view = flag-at-is (ts .complete) ∙ by-flag (flag (getD (ts .complete) t 0))
     where
       by-flag : (b : Bool) → b ≡ said.is-complete (elim b [ true ↦ said.Complete | false ↦ said.Ambiguous ])
       by-flag true = refl
       by-flag false = refl
 
-  pub goal-view : table-goal-at t (ts .goal) ≡ held-table ts s a t .table-goal
+  pub goal-view : table-goal-at t (ts .goal) ≡ held-table fresh ts s a t .table-goal
   goal-view = ap (λ (b : Bool). number-if b (getD (ts .goal) t 0)) near
 
 abbrev table-of : (goal coinductive floundered complete : ℕ) → List said.Answer → List said-strand.Strand → Table
@@ -87,7 +87,7 @@ new-is g false true = refl
 new-is g false false = refl
 
 -- INSERT, where there is room
-module _ (ts : Tables) (s : Strands) (a : Answers) (g : ℕ) (co fl : Bool) (sound : SoundTables ts) (room : ts .count < 64) where
+module _ (fresh : FirstStrands) (ts : Tables) (s : Strands) (a : Answers) (g : ℕ) (co fl : Bool) (sound : SoundTables ts) (room : ts .count < 64) where
   abbrev n : ℕ
   n = ts .count
 
@@ -111,34 +111,34 @@ module _ (ts : Tables) (s : Strands) (a : Answers) (g : ℕ) (co fl : Bool) (sou
     long-complete = length-set (ts .complete) n 1 ∙ sound .long-complete;
   })
 
-  old-table : (u : ℕ) → u < n → held-table ts′ s a u ≡ held-table ts s a u
+  old-table : (u : ℕ) → u < n → held-table fresh ts′ s a u ≡ held-table fresh ts s a u
   old-table u h =
       let d : u ≡ n → ⊥ = λ e. omega arith in
       table-is (getD (ts′ .goal) u 0) (getD (ts .goal) u 0) (getD (ts′ .coinductive) u 0) (getD (ts .coinductive) u 0) (getD (ts′ .floundered) u 0) (getD (ts .floundered) u 0) (getD (ts′ .complete) u 0) (getD (ts .complete) u 0)
-      (map (answer-at a) (ring (a .places) u)) (map (answer-at a) (ring (a .places) u)) (map (strand-at s) (ring (s .places) u)) (map (strand-at s) (ring (s .places) u))
+      (map (answer-at a) (ring (a .places) u)) (map (answer-at a) (ring (a .places) u)) (map (strand-at fresh s) (ring (s .places) u)) (map (strand-at fresh s) (ring (s .places) u))
       (getD-set-other (ts .goal) n u g 0 d) (getD-set-other (ts .coinductive) n u (flag-number co) 0 d) (getD-set-other (ts .floundered) n u (flag-number fl) 0 d) (getD-set-other (ts .complete) n u 1 0 d) refl refl
 
   module _ (no-answers : ring (a .places) n ≡ []) (no-strands : ring (s .places) n ≡ []) where
-    new-at : held-table ts′ s a n ≡ new-table g co fl
+    new-at : held-table fresh ts′ s a n ≡ new-table g co fl
     new-at =
         table-is (getD (ts′ .goal) n 0) g (getD (ts′ .coinductive) n 0) (flag-number co) (getD (ts′ .floundered) n 0) (flag-number fl) (getD (ts′ .complete) n 0) 1
-        (map (answer-at a) (ring (a .places) n)) [] (map (strand-at s) (ring (s .places) n)) []
+        (map (answer-at a) (ring (a .places) n)) [] (map (strand-at fresh s) (ring (s .places) n)) []
         (getD-set-same (ts .goal) n g 0 (omega (arith, sound .long-goal))) (getD-set-same (ts .coinductive) n (flag-number co) 0 (omega (arith, sound .long-coinductive)))
         (getD-set-same (ts .floundered) n (flag-number fl) 0 (omega (arith, sound .long-floundered))) (getD-set-same (ts .complete) n 1 0 (omega (arith, sound .long-complete)))
-        (ap (map (answer-at a)) no-answers) (ap (map (strand-at s)) no-strands)
+        (ap (map (answer-at a)) no-answers) (ap (map (strand-at fresh s)) no-strands)
         ∙ new-is g co fl
 
-    pub inserted-new : held-table (inserted g co fl ts) s a (ts .count) ≡ new-table g co fl
-    inserted-new = ap (λ (r : Tables). held-table r s a n) inserted-is ∙ new-at
+    pub inserted-new : held-table fresh (inserted g co fl ts) s a (ts .count) ≡ new-table g co fl
+    inserted-new = ap (λ (r : Tables). held-table fresh r s a n) inserted-is ∙ new-at
 
     -- the definitions' `insert` of a new table, which has neither answers nor strands yet
-    pub inserted-view : tables (inserted g co fl ts) s a ≡ insert-table (new-table g co fl) (tables ts s a)
+    pub inserted-view : tables fresh (inserted g co fl ts) s a ≡ insert-table (new-table g co fl) (tables fresh ts s a)
     inserted-view =
-        ap (λ (r : Tables). tables r s a) inserted-is ∙ span-push (held-table ts′ s a) n
-        ∙ ap₂ (λ (l : List Table) (t : Table). insert-table t l) (span-same (held-table ts s a) (held-table ts′ s a) n old-table) new-at
+        ap (λ (r : Tables). tables fresh r s a) inserted-is ∙ span-push (held-table fresh ts′ s a) n
+        ∙ ap₂ (λ (l : List Table) (t : Table). insert-table t l) (span-same (held-table fresh ts s a) (held-table fresh ts′ s a) n old-table) new-at
 
 -- THE ANSWER MODE
-module _ (ts : Tables) (s : Strands) (a : Answers) (t : ℕ) (b : Bool) (sound : SoundTables ts) (h : t < ts .count) where
+module _ (fresh : FirstStrands) (ts : Tables) (s : Strands) (a : Answers) (t : ℕ) (b : Bool) (sound : SoundTables ts) (h : t < ts .count) where
   moded-is : moded t b ts ≡ record { count = ts .count; goal = ts .goal; coinductive = ts .coinductive; floundered = ts .floundered; complete = set (ts .complete) t (flag-number b) }
   moded-is =
       ap (λ (c : Bool). record { count = ts .count; goal = ts .goal; coinductive = ts .coinductive; floundered = ts .floundered; complete = set-if c t (flag-number b) (ts .complete) })
@@ -156,12 +156,12 @@ module _ (ts : Tables) (s : Strands) (a : Answers) (t : ℕ) (b : Bool) (sound :
   abbrev mode-of : Bool → said.AnswerMode
   mode-of c = elim c [ true ↦ said.Complete | false ↦ said.Ambiguous ]
 
-  pub moded-view : tables (moded t b ts) s a ≡ set (tables ts s a) t (with-mode (held-table ts s a t) (elim b [ true ↦ said.Complete | false ↦ said.Ambiguous ]))
+  pub moded-view : tables fresh (moded t b ts) s a ≡ set (tables fresh ts s a) t (with-mode (held-table fresh ts s a t) (elim b [ true ↦ said.Complete | false ↦ said.Ambiguous ]))
   moded-view =
-      ap (λ (r : Tables). tables r s a) moded-is
-      ∙ span-set (held-table ts s a) (held-table (record { count = ts .count; goal = ts .goal; coinductive = ts .coinductive; floundered = ts .floundered; complete = set (ts .complete) t (flag-number b) }) s a) (ts .count) t h
-      (λ u k d. ap (λ (m : ℕ). with-mode (held-table ts s a u) (mode m)) (getD-set-other (ts .complete) t u (flag-number b) 0 d))
-      ∙ ap (λ (m : said.AnswerMode). set (tables ts s a) t (with-mode (held-table ts s a t) m))
+      ap (λ (r : Tables). tables fresh r s a) moded-is
+      ∙ span-set (held-table fresh ts s a) (held-table fresh (record { count = ts .count; goal = ts .goal; coinductive = ts .coinductive; floundered = ts .floundered; complete = set (ts .complete) t (flag-number b) }) s a) (ts .count) t h
+      (λ u k d. ap (λ (m : ℕ). with-mode (held-table fresh ts s a u) (mode m)) (getD-set-other (ts .complete) t u (flag-number b) 0 d))
+      ∙ ap (λ (m : said.AnswerMode). set (tables fresh ts s a) t (with-mode (held-table fresh ts s a t) m))
       (ap mode (getD-set-same (ts .complete) t (flag-number b) 0 (omega (arith, sound .few, sound .long-complete))) ∙ ap mode-of (flag-of b))
 
 -- BLANK
@@ -174,5 +174,5 @@ blank-tables-sound = record {
   long-complete = length-replicate {A = ℕ} 64 0;
 }
 
-pub blank-tables-view : (s : Strands) (a : Answers) → tables blank-tables s a ≡ []
-blank-tables-view s a = refl
+pub blank-tables-view : (fresh : FirstStrands) (s : Strands) (a : Answers) → tables fresh blank-tables s a ≡ []
+blank-tables-view fresh s a = refl

@@ -17,6 +17,10 @@ most-entries = most-tables
 abbrev pub most-goals : ℕ
 most-goals = 64
 
+-- clauses of a book
+abbrev pub most-clauses : ℕ
+most-clauses = 256
+
 abbrev pub most-literals : ℕ
 most-literals = 8
 
@@ -26,6 +30,10 @@ waits-not = most-tables
 
 abbrev pub waits-nothing : ℕ
 waits-nothing = 255
+
+-- or the place is fresh: its strand is not written yet
+abbrev pub waits-fresh : ℕ
+waits-fresh = 254
 
 -- the ring of the free places: the first that is no table's
 abbrev pub free : ℕ

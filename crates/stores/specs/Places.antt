@@ -69,13 +69,14 @@ popped t p = record {
   top = p .top;
 }
 
-abbrev pub fresh : Places → Places
-fresh p = record { next = p .next; tail = p .tail; len = p .len; top = p .top + 1 }
+-- the first place that was never used is used
+abbrev pub begun : Places → Places
+begun p = record { next = p .next; tail = p .tail; len = p .len; top = p .top + 1 }
 
 -- `take_place`: a free place, else one that was never used, else none
 abbrev pub freed-if : (any room : Bool) → Places → Places
 freed-if true room p = popped free p
-freed-if false true p = fresh p
+freed-if false true p = begun p
 freed-if false false p = p
 
 abbrev pub free-place-if : (any room : Bool) → Places → ℕ
@@ -86,14 +87,14 @@ free-place-if false false p = most-places
 abbrev pub any-free : Places → Bool
 any-free p = ltb 0 (getD (p .len) free 0)
 
-abbrev pub any-fresh : Places → Bool
-any-fresh p = ltb (p .top) most-places
+abbrev pub any-unused : Places → Bool
+any-unused p = ltb (p .top) most-places
 
 abbrev pub freed : Places → Places
-freed p = freed-if (any-free p) (any-fresh p) p
+freed p = freed-if (any-free p) (any-unused p) p
 
 abbrev pub free-place : Places → ℕ
-free-place p = free-place-if (any-free p) (any-fresh p) p
+free-place p = free-place-if (any-free p) (any-unused p) p
 
 -- what `take_place` leaves
 pub record TookPlace (next tail len : List ℕ) (top : ℕ) (next′ len′ : List ℕ) (top′ r : ℕ) : Type 0 where

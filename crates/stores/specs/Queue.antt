@@ -1,5 +1,5 @@
 -- What the operations on the strand store do, as functions on the record, and the numbers that stand beside a strand.
-use Prim.Native.Nat.{ℕ, _+_}
+use Prim.Native.Nat.{ℕ, zero, suc, _+_, _-_, min}
 use mathlib.Core.Path.{_≡_}
 use mathlib.Core.Bool.{Bool, true, false, not, _&&_}
 use mathlib.Core.Option.{Option, none, some}
@@ -13,13 +13,13 @@ use Rattle.rings.specs.Rings.{most-places}
 use Rattle.strands.specs.declared.Floundered.{Floundered}
 use Rattle.strands.specs.declared.Selected.the-variants.{Nothing}
 use Rattle.strands.specs.declared.Strand.{Strand}
-use Rattle.strands.specs.View.{view, is-negative}
+use Rattle.strands.specs.View.{clause, selected, is-negative}
 use Rattle.stores.specs.declared.places.Places.{Places}
 use Rattle.stores.specs.declared.queue.Strands.{Strands}
 use Rattle.stores.specs.declared.queue.Spot.{Spot}
-use Rattle.stores.specs.Numbers.{most-tables, most-literals, waits-not, waits-nothing, free, flag-number}
+use Rattle.stores.specs.Numbers.{most-tables, most-clauses, most-literals, waits-not, waits-nothing, waits-fresh, free, flag-number}
 use Rattle.stores.specs.Places.{places, ring, enqueued, taken, taken-place, has-one, freed, free-place, moved-to, blank-places}
-use Rattle.stores.specs.View.{strand-at}
+use Rattle.stores.specs.View.{FirstStrands, strand-at}
 
 -- THE NUMBERS BESIDE A STRAND
 -- a "not", and no positive literal
@@ -38,16 +38,16 @@ abbrev pub waits-for : List books.Literal → Option held.SelectedSubgoal → �
 waits-for l none = waits-nothing
 waits-for l (some w) = waits-on (ltb (w .subgoal-table) most-tables) (is-not (getElem? l (w .subgoal-index))) (w .subgoal-table)
 
-abbrev pub waits-of : held.Strand → ℕ
-waits-of s = waits-for (s .ex-clause .subgoals) (s .selected-subgoal)
+abbrev pub waits-of : Strand → ℕ
+waits-of x = waits-for (clause x .subgoals) (selected (x .selected))
 
 -- the answer index that it has selected; 0 where nothing is selected
 abbrev pub wants-for : Option held.SelectedSubgoal → ℕ
 wants-for none = 0
 wants-for (some w) = w .answer-index
 
-abbrev pub wants-of : held.Strand → ℕ
-wants-of s = wants-for (s .selected-subgoal)
+abbrev pub wants-of : Strand → ℕ
+wants-of x = wants-for (selected (x .selected))
 
 -- THE MODELS on the record
 abbrev pub with-places : Strands → Places → Strands
@@ -62,20 +62,29 @@ with-places s p = record {
 }
 
 -- the strands of table t's queue
-abbrev pub strands-of : Strands → (t : ℕ) → List held.Strand
-strands-of s t = map (strand-at s) (ring (s .places) t)
+abbrev pub strands-of : FirstStrands → Strands → (t : ℕ) → List held.Strand
+strands-of fresh s t = map (strand-at fresh s) (ring (s .places) t)
 
--- a strand is written at a place, with its numbers beside it
-abbrev pub written : (q : ℕ) → Strand → Strands → Strands
-written q x s = record {
-  strands = set (s .strands) q x;
-  time = set (s .time) q (view x .last-pursued-time);
-  ambiguous = set (s .ambiguous) q (flag-number (view x .ex-clause .ambiguous));
-  variant = set (s .variant) q (view x .ex-clause .subst .variant);
-  waits = set (s .waits) q (waits-of (view x));
-  wants = set (s .wants) q (wants-of (view x));
+-- the numbers of a place are written, and these are the strands then
+abbrev pub with-numbers : (q : ℕ) → List Strand → (time ambiguous variant waits wants : ℕ) → Strands → Strands
+with-numbers q strands time ambiguous variant waits wants s = record {
+  strands = strands;
+  time = set (s .time) q time;
+  ambiguous = set (s .ambiguous) q ambiguous;
+  variant = set (s .variant) q variant;
+  waits = set (s .waits) q waits;
+  wants = set (s .wants) q wants;
   places = s .places;
 }
+
+-- a strand pursued at this time is written at a place, with its numbers beside it
+abbrev pub written : (q time : ℕ) → Strand → Strands → Strands
+written q time x s =
+    with-numbers q (set (s .strands) q x) time (flag-number (x .ambiguous)) (x .variant) (waits-of x) (wants-of x) s
+
+-- a place is fresh: it stands for the first strand of clause c, whose variant and flags these are, and nobody has pursued it
+abbrev pub made-fresh : (q c variant flags : ℕ) → Strands → Strands
+made-fresh q c variant flags s = with-numbers q (s .strands) 0 (flag-number (books.bit0 flags)) variant waits-fresh c s
 
 -- `enqueue_strand`: the strand at a held place goes to the end of table t's queue
 abbrev pub enqueued-strand : (t q : ℕ) → Strands → Strands
@@ -130,14 +139,45 @@ cleared t s = with-places s (moved-to t free (s .places))
 abbrev pub freed-strands : Strands → Strands
 freed-strands s = with-places s (freed (s .places))
 
--- A NEW STRAND in table t's queue: a place is taken, written and enqueued
-abbrev pub stored : (t : ℕ) → Strand → Strands → Strands
-stored t x s = enqueued-strand t (free-place (s .places)) (written (free-place (s .places)) x (freed-strands s))
+-- A NEW STRAND in table t's queue: a place is taken, written and enqueued. The copy for the next answer keeps the strand's time, a
+-- refinement strand has 0.
+abbrev pub stored : (t time : ℕ) → Strand → Strands → Strands
+stored t time x s = enqueued-strand t (free-place (s .places)) (written (free-place (s .places)) time x (freed-strands s))
 
--- new strands one after the other: the initial strands of a table
-abbrev pub stored-each : (t : ℕ) → List Strand → Strands → Strands
-stored-each t [] s = s
-stored-each t (x ∷ xs) s = stored-each t xs (stored t x s)
+-- A FRESH PLACE in table t's queue: a place is taken, its numbers are written and it is enqueued; nothing is written where none is free
+abbrev pub fresh-if : (room : Bool) → (t c variant flags : ℕ) → Strands → Strands
+fresh-if true t c variant flags s =
+    enqueued-strand t (free-place (s .places)) (made-fresh (free-place (s .places)) c variant flags (freed-strands s))
+fresh-if false t c variant flags s = freed-strands s
+
+abbrev pub fresh-stored : (t c variant flags : ℕ) → Strands → Strands
+fresh-stored t c variant flags s = fresh-if (ltb (free-place (s .places)) most-places) t c variant flags s
+
+-- as many of the clauses from one on as a book can have
+abbrev pub clauses-from : (first count : ℕ) → ℕ
+clauses-from first count = min count (most-clauses - first)
+
+-- `fresh_places`: the places of a new table, as many as are left, from clause c on; the lists are the clauses' variants and flags
+abbrev pub fresh-each : (variants flags : List ℕ) → (t left c : ℕ) → Strands → Strands
+fresh-each variants flags t zero c s = s
+fresh-each variants flags t (suc left) c s =
+    fresh-each variants flags t left (suc c) (fresh-stored t c (getD variants c 0) (getD flags c 0) s)
+
+-- the store by its strands, the numbers beside them and its places
+abbrev pub store : List Strand → (time ambiguous variant waits wants : List ℕ) → Places → Strands
+store strands time ambiguous variant waits wants p = record {
+  strands = strands;
+  time = time;
+  ambiguous = ambiguous;
+  variant = variant;
+  waits = waits;
+  wants = wants;
+  places = p;
+}
+
+-- what a function on the numbers alone does, whatever strands stand beside them
+abbrev pub Does : (model : Strands → Strands) → (before after : List Strand → Strands) → Type 0
+Does model before after = (strands : List Strand) → after strands ≡ model (before strands)
 
 -- BLANK: all zero, with nothing selected
 abbrev pub blank-literal : Literal
@@ -148,7 +188,6 @@ blank-floundered = record { literal = blank-literal; time = 0 }
 
 abbrev pub blank-strand : Strand
 blank-strand = record {
-  «last_pursued_time» = 0;
   variant = 0;
   outsized = false;
   ambiguous = false;

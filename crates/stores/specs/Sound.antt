@@ -1,21 +1,25 @@
 -- When the stores are sound: all that an operation rests on.
 use Prim.Native.Nat.{ℕ, zero, suc, _+_, _≤_, _<_}
 use mathlib.Core.Path.{_≡_}
+use mathlib.Core.Bool.{false}
 use mathlib.Core.List.{List, [], _∷_}
 use lib.ListN.{length, getD}
+use lib.Dec.{eqb}
+use Rattle.definitions.specs.Book as books
+use Rattle.definitions.specs.Strand as said-strand
 use Rattle.rings.specs.Lists.{times, All}
 use Rattle.rings.specs.Rings.{most-places, RingSound}
 use Rattle.strands.specs.declared.Strand.{Strand}
 use Rattle.strands.specs.declared.Answer.{Answer}
-use Rattle.strands.specs.View.{view, answer, Sound, SoundAnswer}
+use Rattle.strands.specs.View.{answer, Sound, SoundAnswer}
 use Rattle.stores.specs.declared.places.Places.{Places}
 use Rattle.stores.specs.declared.queue.Strands.{Strands}
 use Rattle.stores.specs.declared.table.Answers.{Answers}
 use Rattle.stores.specs.declared.tables.Tables.{Tables}
 use Rattle.stores.specs.declared.stack.Stack.{Stack}
-use Rattle.stores.specs.Numbers.{most-tables, most-entries, most-goals, free, flag-number}
+use Rattle.stores.specs.Numbers.{most-tables, most-entries, most-goals, waits-fresh, free, flag-number}
 use Rattle.stores.specs.Places.{ring}
-use Rattle.stores.specs.View.{unread-strand, unread-answer}
+use Rattle.stores.specs.View.{FirstStrands, unread-strand, unread-answer, strand-at}
 use Rattle.stores.specs.Queue.{waits-of, wants-of}
 use Rattle.stores.specs.Table.{key-of}
 
@@ -35,18 +39,27 @@ pub record SoundPlaces (p : Places) (n : ℕ) (held : List ℕ) : Type 0 where
   pub used : (q : ℕ) → 1 ≤ times q held → q < p .top
   pub all : waiting p n + length (ring p free) + length held ≡ p .top
 
--- a strand that is in use: it is sound, and the numbers beside it are its own
-pub record OwnNumbers (x : Strand) (time ambiguous variant waits wants : ℕ) : Type 0 where
+-- what stands at a place that isn't fresh: a sound strand, and the numbers beside it say what it waits on and what it wants
+pub record Written (x : Strand) (waits wants : ℕ) : Type 0 where
   pub sound : Sound x
-  pub is-time : time ≡ view x .last-pursued-time
-  pub is-ambiguous : ambiguous ≡ flag-number (view x .ex-clause .ambiguous)
-  pub is-variant : variant ≡ view x .ex-clause .subst .variant
-  pub is-waits : waits ≡ waits-of (view x)
-  pub is-wants : wants ≡ wants-of (view x)
+  pub is-waits : waits ≡ waits-of x
+  pub is-wants : wants ≡ wants-of x
 
-abbrev pub InUse : Strands → (q : ℕ) → Type 0
-InUse s q = OwnNumbers (getD (s .strands) q unread-strand) (getD (s .time) q 0) (getD (s .ambiguous) q 0) (getD (s .variant) q 0)
+-- A place in use shows a strand, and the numbers that are read without it are that strand's; it is fresh, or its strand is written.
+pub record OwnNumbers (shown : said-strand.Strand) (x : Strand) (ambiguous variant waits wants : ℕ) : Type 0 where
+  pub is-ambiguous : ambiguous ≡ flag-number (shown .ex-clause .ambiguous)
+  pub is-variant : variant ≡ shown .ex-clause .subst .variant
+  pub is-written : eqb waits waits-fresh ≡ false → Written x waits wants
+
+abbrev pub InUse : FirstStrands → Strands → (q : ℕ) → Type 0
+InUse fresh s q = OwnNumbers (strand-at fresh s q) (getD (s .strands) q unread-strand) (getD (s .ambiguous) q 0) (getD (s .variant) q 0)
     (getD (s .waits) q 0) (getD (s .wants) q 0)
+
+-- what the book says of a clause is so of its first strand, which nobody has pursued
+pub record FirstOf (first : said-strand.Strand) (variant flags : ℕ) : Type 0 where
+  pub is-variant : first .ex-clause .subst .variant ≡ variant
+  pub is-ambiguous : first .ex-clause .ambiguous ≡ books.bit0 flags
+  pub is-unpursued : first .last-pursued-time ≡ 0
 
 -- the arrays of the strand store
 pub record LongStrands (strands : List Strand) (time ambiguous variant waits wants : List ℕ) : Type 0 where
@@ -60,18 +73,18 @@ pub record LongStrands (strands : List Strand) (time ambiguous variant waits wan
 abbrev pub Long : Strands → Type 0
 Long s = LongStrands (s .strands) (s .time) (s .ambiguous) (s .variant) (s .waits) (s .wants)
 
-pub record SoundStrands (s : Strands) (n : ℕ) (held : List ℕ) : Type 0 where
+pub record SoundStrands (fresh : FirstStrands) (s : Strands) (n : ℕ) (held : List ℕ) : Type 0 where
   pub places : SoundPlaces (s .places) n held
   pub long : Long s
-  pub queued : (t q : ℕ) → t < n → 1 ≤ times q (ring (s .places) t) → InUse s q
-  pub in-hand : (q : ℕ) → 1 ≤ times q held → InUse s q
+  pub queued : (t q : ℕ) → t < n → 1 ≤ times q (ring (s .places) t) → InUse fresh s q
+  pub in-hand : (q : ℕ) → 1 ≤ times q held → InUse fresh s q
 
 -- Place q is held, besides those in `held`, and what stands there is nobody's yet.
-pub record Ready (s : Strands) (n : ℕ) (held : List ℕ) (q : ℕ) : Type 0 where
+pub record Ready (fresh : FirstStrands) (s : Strands) (n : ℕ) (held : List ℕ) (q : ℕ) : Type 0 where
   pub places : SoundPlaces (s .places) n (q ∷ held)
   pub long : Long s
-  pub queued : (t u : ℕ) → t < n → 1 ≤ times u (ring (s .places) t) → InUse s u
-  pub in-hand : (u : ℕ) → 1 ≤ times u held → InUse s u
+  pub queued : (t u : ℕ) → t < n → 1 ≤ times u (ring (s .places) t) → InUse fresh s u
+  pub in-hand : (u : ℕ) → 1 ≤ times u held → InUse fresh s u
 
 -- an answer that may be stored: it is sound, and what it delays are goals that a book can have, so that its key is its own
 pub record GoodAnswer (x : Answer) : Type 0 where

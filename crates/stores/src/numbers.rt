@@ -10,6 +10,9 @@ pub const MOST_TABLES: usize = 64;
 // A table is on the stack at most once.
 pub const MOST_ENTRIES: usize = 64;
 
+// Clauses of a book.
+pub const MOST_CLAUSES: usize = 256;
+
 pub const MOST_LITERALS: usize = 8;
 // The ring of the free places: the first that is no table's.
 pub const FREE: u8 = 64;
@@ -17,6 +20,8 @@ pub const FREE: u8 = 64;
 pub const WAITS_NOT: u8 = 64;
 
 pub const WAITS_NOTHING: u8 = 255;
+// Or the place is fresh: its strand is not written yet.
+pub const WAITS_FRESH: u8 = 254;
 // No place, where a place is kept in two bytes.
 pub const NO_PLACE: u16 = 256;
 

@@ -1,15 +1,19 @@
 // table.rs, the queue of strands: the strands stand at the places of a table's ring in the order in which they wait. `[Strand; PLACES]` is
 // written by whoever owns it. What is read of a strand without the strand itself stands beside it in arrays of numbers, which can be lent.
+use crate::numbers::MOST_CLAUSES;
 use crate::numbers::MOST_LITERALS;
 use crate::numbers::MOST_TABLES;
+use crate::numbers::WAITS_FRESH;
 use crate::numbers::WAITS_NOT;
 use crate::numbers::WAITS_NOTHING;
 use crate::numbers::flag_of;
 use crate::places::Places;
 use crate::places::blank_places;
 use crate::places::find_number;
+use crate::places::take_place;
 use book::Literal;
 use rings::PLACES;
+use rings::ring_enqueue;
 use rings::ring_unlink;
 use strands::Floundered;
 use strands::Selected;
@@ -23,12 +27,14 @@ ghost use lib.ListN.{take, getD, set, getElem?};
 ghost use lib.Dec.{ltb};
 ghost use Rattle.book.specs.View.{meant};
 ghost use Rattle.rings.specs.Rings.{most-places, ring-of};
-ghost use Rattle.strands.specs.View.{view};
 ghost use Rattle.stores.specs.Numbers.{most-tables, flag-number};
-ghost use Rattle.stores.specs.Places.{numbered, found-in};
+ghost use Rattle.stores.specs.Places.{places, numbered, found-in};
 ghost use Rattle.stores.specs.Queue.{is-not, waits-on, waits-of, wants-of, eligible-at, eligible, spot-from, TookStrand, blank-strands};
+ghost use Rattle.stores.specs.Queue.{fresh-stored, clauses-from, fresh-each, store, Does};
 
-// The strands by place, and the numbers beside them: `waits` is what a strand waits on and `wants` the answer index that it wants.
+// The strands by place, and the numbers beside them: `time` is when a strand was last pursued, which stands nowhere else, `waits` what it
+// waits on and `wants` the answer index that it wants. A fresh place, whose strand is not written yet, has 254 in `waits` and the number of
+// the strand's clause in `wants`.
 pub struct Strands {
     pub strands: [Strand; PLACES],
     pub time: [u64; PLACES],
@@ -53,7 +59,6 @@ pub fn blank_strands() -> Strands
         time: 0,
     };
     let b = Strand {
-        last_pursued_time: 0,
         variant: 0,
         outsized: false,
         ambiguous: false,
@@ -107,7 +112,7 @@ fn waits_on(table: u8, negative: bool) -> u8
 
 // What a strand waits on: the table that it has selected, 64 added where the selected literal is a "not"; 255 where nothing is selected.
 pub fn waits_of(s: Strand) -> u8
-    ensures { λ r. ⌜ r ≡ waits-of (view s) ⌝ }
+    ensures { λ r. ⌜ r ≡ waits-of s ⌝ }
 {
     let k = s.selected;
     match k {
@@ -126,7 +131,7 @@ pub fn waits_of(s: Strand) -> u8
 
 // The answer index that a strand has selected; 0 where nothing is.
 pub fn wants_of(s: Strand) -> u16
-    ensures { λ r. ⌜ r ≡ wants-of (view s) ⌝ }
+    ensures { λ r. ⌜ r ≡ wants-of s ⌝ }
 {
     let k = s.selected;
     match k {
@@ -139,7 +144,7 @@ pub fn wants_of(s: Strand) -> u16
     }
 }
 
-// The numbers beside the strand x, at its place.
+// The numbers beside the strand x, at its place: it was last pursued at the time `at`.
 pub fn number_strand(
     time: &mut [u64; PLACES],
     ambiguous: &mut [u8; PLACES],
@@ -147,20 +152,113 @@ pub fn number_strand(
     waits: &mut [u8; PLACES],
     wants: &mut [u16; PLACES],
     q: u8,
+    at: u64,
     x: Strand,
 )
-    ensures { λ _. ⌜ (now (time .exit) ≡ set (now (time .entry)) q (view x .last-pursued-time))
-        × (now (ambiguous .exit) ≡ set (now (ambiguous .entry)) q (flag-number (view x .ex-clause .ambiguous)))
-        × (now (variant .exit) ≡ set (now (variant .entry)) q (view x .ex-clause .subst .variant))
-        × (now (waits .exit) ≡ set (now (waits .entry)) q (waits-of (view x)))
-        × (now (wants .exit) ≡ set (now (wants .entry)) q (wants-of (view x))) ⌝ }
+    ensures { λ _. ⌜ (now (time .exit) ≡ set (now (time .entry)) q at)
+        × (now (ambiguous .exit) ≡ set (now (ambiguous .entry)) q (flag-number (x .ambiguous)))
+        × (now (variant .exit) ≡ set (now (variant .entry)) q (x .variant))
+        × (now (waits .exit) ≡ set (now (waits .entry)) q (waits-of x))
+        × (now (wants .exit) ≡ set (now (wants .entry)) q (wants-of x)) ⌝ }
 {
     let k = q as usize;
-    time[k] = x.last_pursued_time;
+    time[k] = at;
     ambiguous[k] = flag_of(x.ambiguous);
     variant[k] = x.variant;
     waits[k] = waits_of(x);
     wants[k] = wants_of(x);
+}
+
+// A fresh place at the end of the table's queue, for the first strand of a clause: the clause's number stands for the strand, which nobody
+// has pursued. Nothing is written where no place is free.
+fn fresh_place(
+    next: &mut [u8; PLACES],
+    tail: &mut [u8; PLACES],
+    len: &mut [u16; PLACES],
+    top: &mut u16,
+    time: &mut [u64; PLACES],
+    ambiguous: &mut [u8; PLACES],
+    variant: &mut [u16; PLACES],
+    waits: &mut [u8; PLACES],
+    wants: &mut [u16; PLACES],
+    t: u8,
+    c: u16,
+    v: u16,
+    flags: u8,
+)
+    ensures { λ _. ⌜ Does (fresh-stored t c v flags)
+        (λ strands. store strands (now (time .entry)) (now (ambiguous .entry)) (now (variant .entry)) (now (waits .entry)) (now (wants .entry))
+        (places (now (next .entry)) (now (tail .entry)) (now (len .entry)) (now (top .entry))))
+        (λ strands. store strands (now (time .exit)) (now (ambiguous .exit)) (now (variant .exit)) (now (waits .exit)) (now (wants .exit))
+        (places (now (next .exit)) (now (tail .exit)) (now (len .exit)) (now (top .exit)))) ⌝ }
+{
+    let q = take_place(next, tail, len, top);
+    if q >= PLACES {
+        return;
+    }
+    time[q] = 0;
+    ambiguous[q] = flag_of(flags % 2 == 1);
+    variant[q] = v;
+    waits[q] = WAITS_FRESH;
+    wants[q] = c;
+    ring_enqueue(next, tail, len, t, q as u8);
+}
+
+fn clauses_from(first: usize, count: usize) -> usize
+    ensures { λ r. ⌜ r ≡ clauses-from first count ⌝ }
+{
+    if first >= MOST_CLAUSES {
+        return 0;
+    }
+    let room = MOST_CLAUSES - first;
+    if count < room { count } else { room }
+}
+
+// The places of a new table: one for each of its clauses, whose variants and flags (bit 0 "cannot prove") are lent. No strand is written:
+// each is made from the book when its place is first taken.
+pub fn fresh_places(
+    next: &mut [u8; PLACES],
+    tail: &mut [u8; PLACES],
+    len: &mut [u16; PLACES],
+    top: &mut u16,
+    time: &mut [u64; PLACES],
+    ambiguous: &mut [u8; PLACES],
+    variant: &mut [u16; PLACES],
+    waits: &mut [u8; PLACES],
+    wants: &mut [u16; PLACES],
+    clause_variant: &[u16; MOST_CLAUSES],
+    clause_flags: &[u8; MOST_CLAUSES],
+    t: u8,
+    first: usize,
+    count: usize,
+)
+    ensures { λ _. ⌜ Does (fresh-each (now («clause_variant» .entry)) (now («clause_flags» .entry)) t (clauses-from first count) first)
+        (λ strands. store strands (now (time .entry)) (now (ambiguous .entry)) (now (variant .entry)) (now (waits .entry)) (now (wants .entry))
+        (places (now (next .entry)) (now (tail .entry)) (now (len .entry)) (now (top .entry))))
+        (λ strands. store strands (now (time .exit)) (now (ambiguous .exit)) (now (variant .exit)) (now (waits .exit)) (now (wants .exit))
+        (places (now (next .exit)) (now (tail .exit)) (now (len .exit)) (now (top .exit)))) ⌝ }
+{
+    let mut c = first;
+    let mut left = clauses_from(first, count);
+    while left > 0 {
+        fresh_place(
+            next,
+            tail,
+            len,
+            top,
+            time,
+            ambiguous,
+            variant,
+            waits,
+            wants,
+            t,
+            c as u16,
+            clause_variant[c],
+            clause_flags[c],
+        );
+        c = c + 1;
+        left = left - 1;
+    }
 }
 
 // Where looking along a queue came to: whether a strand is eligible, its place, and the place before it in the ring.

@@ -114,7 +114,7 @@ fn search(live: usize, turns: usize) -> usize {
 }
 
 // A strand is read at the place taken, written again and queued: a small turn in the loop that owns the store.
-fn turns_of(live: usize, turns: usize) -> u64 {
+fn turns_of(live: usize, turns: usize) -> u16 {
     let s = blank_strands();
     let mut strands = s.strands;
     let p = filled(live);
@@ -123,7 +123,7 @@ fn turns_of(live: usize, turns: usize) -> u64 {
     let mut len = p.len;
     let time = [0u64; 256];
     let ambiguous = [0u8; 256];
-    let mut last: u64 = 0;
+    let mut last: u16 = 0;
     let mut i: usize = 0;
     while i < turns {
         let q = take_strand(
@@ -138,10 +138,10 @@ fn turns_of(live: usize, turns: usize) -> u64 {
         );
         let k = small(q);
         let mut x = strands[k as usize];
-        x.last_pursued_time = last;
+        x.variant = last;
         strands[k as usize] = x;
         ring_enqueue(&mut next, &mut tail, &mut len, 0, k);
-        last = i as u64;
+        last = other(last);
         i = i + 1;
     }
     last

@@ -22,20 +22,20 @@ use Rattle.stores.proofs.QueueStores.{stored-is}
 use Rattle.stores_run.specs.declared.kept.Kept.{Kept}
 use Rattle.stores_run.specs.Owner.{put-if, Puts, Takes, Clears, kept-by, Keeps}
 
-module _ (s : Strands) (t : ℕ) (x : Strand) (n′ l′ : List ℕ) (m′ q : ℕ)
+module _ (s : Strands) (t time : ℕ) (x : Strand) (n′ l′ : List ℕ) (m′ q : ℕ)
     (took : TookPlace (s .places .next) (s .places .tail) (s .places .len) (s .places .top) n′ l′ m′ q) where
-  put-by : (b : Bool) → ltb q 256 ≡ b → put-if b s (stored t x s) ≡ put-if (ltb (free-place (s .places)) 256) s (stored t x s)
-  put-by b e = ap (λ (c : Bool). put-if c s (stored t x s)) (sym (ap (λ (i : ℕ). ltb i 256) (sym (took .is)) ∙ e))
+  put-by : (b : Bool) → ltb q 256 ≡ b → put-if b s (stored t time x s) ≡ put-if (ltb (free-place (s .places)) 256) s (stored t time x s)
+  put-by b e = ap (λ (c : Bool). put-if c s (stored t time x s)) (sym (ap (λ (i : ℕ). ltb i 256) (sym (took .is)) ∙ e))
 
-  pub put-none : 256 ≤ q → Puts s t x (record { done = false; strands = s })
+  pub put-none : 256 ≤ q → Puts s t time x (record { done = false; strands = s })
   put-none h = put-by false (le-ltb q 256 h)
 
-  pub put-some : q < 256 → (w : Strands) → w ≡ written q x s → (n″ t″ l″ : List ℕ) → n″ ≡ linked n′ (s .places .tail) l′ t q
+  pub put-some : q < 256 → (w : Strands) → w ≡ written q time x s → (n″ t″ l″ : List ℕ) → n″ ≡ linked n′ (s .places .tail) l′ t q
       → t″ ≡ set (s .places .tail) t q → l″ ≡ lengthened l′ t
-      → Puts s t x (record { done = true; strands = with-places w (places n″ t″ l″ m′) })
+      → Puts s t time x (record { done = true; strands = with-places w (places n″ t″ l″ m′) })
   put-some h w ew n″ t″ l″ en et el =
       ap (λ (r : Strands). record { done = true; strands = with-places r (places n″ t″ l″ m′) }) ew
-      ∙ ap (λ (r : Strands). record { done = true; strands = r }) (stored-is s t x n′ l′ m′ q took n″ t″ l″ en et el)
+      ∙ ap (λ (r : Strands). record { done = true; strands = r }) (stored-is s t time x n′ l′ m′ q took n″ t″ l″ en et el)
       ∙ put-by true (lt-ltb q 256 h)
 
 pub take-of : (s : Strands) (t clock : ℕ) (n′ t′ l′ : List ℕ) (r : ℕ)

@@ -21,8 +21,8 @@ abbrev pub put-if : (room : Bool) → (s new : Strands) → Placed
 put-if true s new = record { done = true; strands = new }
 put-if false s new = record { done = false; strands = s }
 
-abbrev pub Puts : Strands → (t : ℕ) → Strand → Placed → Type 0
-Puts s t x r = r ≡ put-if (ltb (free-place (s .places)) 256) s (stored t x s)
+abbrev pub Puts : Strands → (t time : ℕ) → Strand → Placed → Type 0
+Puts s t time x r = r ≡ put-if (ltb (free-place (s .places)) 256) s (stored t time x s)
 
 pub record Takes (s : Strands) (t clock : ℕ) (r : Took) : Type 0 where
   pub place : r .place ≡ strand-place clock false t s

@@ -28,9 +28,9 @@ struct Took {
     strands: Strands,
 }
 
-// A strand at a place, with the numbers beside it.
-fn write(s: Strands, q: u8, x: Strand) -> Strands
-    ensures { λ r. ⌜ r ≡ written q x s ⌝ }
+// A strand pursued at the time `at` stands at a place, with the numbers beside it.
+fn write(s: Strands, q: u8, at: u64, x: Strand) -> Strands
+    ensures { λ r. ⌜ r ≡ written q at x s ⌝ }
 {
     let mut strands = s.strands;
     let mut time = s.time;
@@ -46,6 +46,7 @@ fn write(s: Strands, q: u8, x: Strand) -> Strands
         &mut waits,
         &mut wants,
         q,
+        at,
         x,
     );
     let places = s.places;
@@ -61,8 +62,8 @@ fn write(s: Strands, q: u8, x: Strand) -> Strands
 }
 
 // A new strand at the end of a table's queue: a place is taken, written and enqueued.
-fn put(s: Strands, t: u8, x: Strand) -> Placed
-    ensures { λ r. ⌜ Puts s t x r ⌝ }
+fn put(s: Strands, t: u8, at: u64, x: Strand) -> Placed
+    ensures { λ r. ⌜ Puts s t at x r ⌝ }
 {
     let p = s.places;
     let mut next = p.next;
@@ -77,7 +78,7 @@ fn put(s: Strands, t: u8, x: Strand) -> Placed
         };
     }
     ring_enqueue(&mut next, &mut tail, &mut len, t, q as u8);
-    let mut r = write(s, q as u8, x);
+    let mut r = write(s, q as u8, at, x);
     let places = Places {
         next,
         tail,
@@ -145,10 +146,9 @@ fn clear(s: Strands, t: u8) -> Strands
     r
 }
 
-fn strand(variant: u16, time: u64) -> Strand {
+fn strand(variant: u16) -> Strand {
     let mut x = blank();
     x.variant = variant;
-    x.last_pursued_time = time;
     x
 }
 
@@ -185,9 +185,9 @@ fn show(s: Strands, t: u8) {
 
 // Strands 1 2 3, of which 2 may be taken first: it leaves 3 1.
 pub(crate) fn rotation() {
-    let a = put(blank_strands(), 5, strand(1, 9));
-    let b = put(a.strands, 5, strand(2, 1));
-    let c = put(b.strands, 5, strand(3, 9));
+    let a = put(blank_strands(), 5, 9, strand(1));
+    let b = put(a.strands, 5, 1, strand(2));
+    let c = put(b.strands, 5, 9, strand(3));
     show(c.strands, 5);
     let d = take(c.strands, 5, 2);
     line(b"taken at place", d.place);
@@ -209,7 +209,7 @@ fn fill(s: Strands) -> Filled {
     let mut i: u16 = 0;
     while i < 300 {
         let t = i % 3;
-        let p = put(r, t as u8, strand(i, 0));
+        let p = put(r, t as u8, 0, strand(i));
         n = n + one(p.done);
         r = p.strands;
         i = i + 1;

@@ -1,4 +1,4 @@
--- A strand with a field written: its view is the definitions' with that field written, and it stays sound. The copy for the next answer
+-- A strand with a field written: what is seen of it is the definitions' with that field written, and it stays sound. The copy for the next answer
 -- is the definitions' where the index can go on.
 use Prim.Native.Nat.{ℕ, suc, _<_}
 use native.Mathlib.Nat.{min-eq-left}
@@ -6,31 +6,32 @@ use native.Mathlib.Omega.{arith}
 use mathlib.Core.Bool.{Bool}
 use mathlib.Core.Option.{Option, some}
 use mathlib.Core.Path.{_≡_, refl, ap, _∙_}
+use Rattle.definitions.specs.{TimeStamp}
 use Rattle.definitions.specs.Logic.{next-answer-strand}
 use Rattle.definitions.specs.Strand as held
 use Rattle.strands.specs.declared.Selected.the-variants.{Nothing, Subgoal}
 use Rattle.strands.specs.declared.Selected.{Selected}
 use Rattle.strands.specs.declared.Strand.{Strand}
-use Rattle.strands.specs.Fields.{with-pursued, with-selected, with-ambiguous, after, next-of}
-use Rattle.strands.specs.View.{Sound, view, clause, selected, Kept}
+use Rattle.strands.specs.Fields.{with-selected, with-ambiguous, after, next-of}
+use Rattle.strands.specs.View.{Sound, seen, clause, selected, Kept}
 
 -- what is kept from s to t and from t to r is kept from s to r
 pub kept-on : (s t r : Strand) → Kept s t → Kept t r → Kept s r
-kept-on s t r p q = q ∙ ap (λ (v : held.Strand). held.with-ex-clause v (clause r)) p
+kept-on s t r p q = q ∙ p
 
-module _ (s : Strand) where
-  pub pursued-view : (time : ℕ) → view (with-pursued s time) ≡ held.with-pursued (view s) time
-  pursued-view time = refl
+-- what is seen of it at any time
+pub kept-seen : (s r : Strand) → Kept s r → (time : TimeStamp) → seen time r ≡ held.with-ex-clause (seen time s) (clause r)
+kept-seen s r k time =
+    ap (λ (c : Selected). record { ex-clause = clause r; selected-subgoal = selected c; last-pursued-time = time }) k
 
-  pub selected-view : (k : Selected) → view (with-selected s k) ≡ held.with-selected (view s) (selected k)
+module _ (time : TimeStamp) (s : Strand) where
+  pub selected-view : (k : Selected) → seen time (with-selected s k) ≡ held.with-selected (seen time s) (selected k)
   selected-view k = refl
 
-  pub ambiguous-view : (b : Bool) → view (with-ambiguous s b) ≡ held.with-ex-clause (view s) (held.with-ambiguous (clause s) b)
+  pub ambiguous-view : (b : Bool) → seen time (with-ambiguous s b) ≡ held.with-ex-clause (seen time s) (held.with-ambiguous (clause s) b)
   ambiguous-view b = refl
 
-  pub pursued-sound : (time : ℕ) → Sound s → Sound (with-pursued s time)
-  pursued-sound time o = search o
-
+module _ (s : Strand) where
   pub selected-sound : (k : Selected) → Sound s → Sound (with-selected s k)
   selected-sound k o = search o
 
@@ -51,6 +52,6 @@ next-selected (Subgoal index table answer) k e h =
     ap (λ (j : held.SelectedSubgoal). some (more-than j (after (j .answer-index)))) same
     ∙ ap (λ (n : ℕ). some (more-than k n)) (min-eq-left (omega arith))
 
-pub next-answer-view : (s : Strand) (k : held.SelectedSubgoal) → selected (s .selected) ≡ some k → k .answer-index < 65535
-    → view (with-selected s (next-of (s .selected))) ≡ next-answer-strand (view s) k
-next-answer-view s k e h = ap (λ (o : Option held.SelectedSubgoal). held.with-selected (view s) o) (next-selected (s .selected) k e h)
+pub next-answer-view : (time : TimeStamp) (s : Strand) (k : held.SelectedSubgoal) → selected (s .selected) ≡ some k
+    → k .answer-index < 65535 → seen time (with-selected s (next-of (s .selected))) ≡ next-answer-strand (seen time s) k
+next-answer-view time s k e h = ap (λ (o : Option held.SelectedSubgoal). held.with-selected (seen time s) o) (next-selected (s .selected) k e h)

@@ -8,12 +8,13 @@ use mathlib.Core.Path.{_≡_, refl, ap, ap₂, _∙_}
 use lib.Dec.{eqb, ltb}
 use lib.ListN.{length, getD, getElem?}
 use borrow.Author.Tests.{ltb-true, ltb-false, eqb-false}
+use Rattle.definitions.specs.{TimeStamp}
 use Rattle.definitions.specs.Book as books
 use Rattle.definitions.specs.Strand as held
 use Rattle.strands.specs.declared.Strand.{Strand}
 use Rattle.strands.specs.Fields.{no-literal}
 use Rattle.strands.specs.Literals.{literal-of, found-by, subgoal-at, without-last, last-removed, answered-by, answered}
-use Rattle.strands.specs.View.{Sound, view, clause, Kept}
+use Rattle.strands.specs.View.{Sound, seen, clause, Kept}
 use Rattle.strands.proofs.LiteralCases.{found-at, found-past, removed, answered-last}
 
 module _ (s : Strand) (long : length (s .literals) ≡ 8) where
@@ -25,9 +26,9 @@ module _ (s : Strand) (long : length (s .literals) ≡ 8) where
   pub subgoal-at-view : (i : ℕ) → literal-of (subgoal-at s i) ≡ getElem? (clause s .subgoals) i
   subgoal-at-view i = found-by-view i (ltb i (min (s .«literal_count») 8)) refl
 
-  pub last-removed-view : view (last-removed s) ≡ held.with-ex-clause (view s) (without-last (clause s))
-  last-removed-view =
-      ap (λ (ls : List books.Literal). held.with-ex-clause (view s) (held.with-subgoals (clause s) ls))
+  pub last-removed-view : (time : TimeStamp) → seen time (last-removed s) ≡ held.with-ex-clause (seen time s) (without-last (clause s))
+  last-removed-view time =
+      ap (λ (ls : List books.Literal). held.with-ex-clause (seen time s) (held.with-subgoals (clause s) ls))
       (removed s long (min (s .«literal_count») 8 - 1) refl)
 
 pub last-removed-sound : (s : Strand) → Sound s → Sound (last-removed s)
@@ -41,12 +42,13 @@ last-removed-sound s o = record {
 
 -- The last literal has an answer.
 
-pub answered-view : (s : Strand) → Sound s → 0 < s .«literal_count»
-    → view (answered s) ≡ held.with-ex-clause (view s) (held.with-answer-time (without-last (clause s)) (suc (s .«answer_time»)))
-answered-view s o some-left =
+pub answered-view : (time : TimeStamp) (s : Strand) → Sound s → 0 < s .«literal_count»
+    → seen time (answered s)
+    ≡ held.with-ex-clause (seen time s) (held.with-answer-time (without-last (clause s)) (suc (s .«answer_time»)))
+answered-view time s o some-left =
     let few = o .few-literals in
-    ap view (answered-last s (λ z. omega arith) (omega arith) (λ z. omega arith))
-    ∙ ap₂ (λ (ls : List books.Literal) (t : ℕ). held.with-ex-clause (view s) (held.with-answer-time (held.with-subgoals (clause s) ls) t))
+    ap (seen time) (answered-last s (λ z. omega arith) (omega arith) (λ z. omega arith))
+    ∙ ap₂ (λ (ls : List books.Literal) (t : ℕ). held.with-ex-clause (seen time s) (held.with-answer-time (held.with-subgoals (clause s) ls) t))
     (removed s (o .literals-long) (s .«literal_count» - 1) (omega arith)) (add-one (s .«answer_time»))
 
 answered-by-kept : (s : Strand) (none-left too-many at-end : Bool) → Kept s (answered-by none-left too-many at-end s)

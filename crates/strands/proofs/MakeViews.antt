@@ -21,7 +21,7 @@ use Rattle.strands.specs.declared.Answer.{Answer}
 use Rattle.strands.specs.Fields.{no-literal, no-floundered}
 use Rattle.strands.specs.Making.{new-strand, blank-strand, nothing, clause-of, strand-of}
 use Rattle.strands.specs.Making.{wants-any, positive, positives, refine-by, refine, refinement}
-use Rattle.strands.specs.View.{Sound, view, answer}
+use Rattle.strands.specs.View.{Sound, seen, answer}
 
 new-sound : (variant : ℕ) (outsized ambiguous : Bool) (literals : List Literal) (count : ℕ) → length literals ≡ 8 → count ≤ 8
     → Sound (new-strand variant outsized ambiguous literals count)
@@ -33,7 +33,7 @@ new-sound variant outsized ambiguous literals count long few = record {
   few-delayed = omega arith;
 }
 
-pub blank-view : view blank-strand ≡ initial-strand nothing
+pub blank-view : seen 0 blank-strand ≡ initial-strand nothing
 blank-view = refl
 
 pub blank-sound : Sound blank-strand
@@ -45,7 +45,7 @@ meaning variant outsized ambiguous literals =
     initial-strand (record { variant = variant; cannot-prove = ambiguous; outsized = outsized; literals = literals })
 
 module _ (variant flags : ℕ) (literals : List Literal) (count : ℕ) (long : length literals ≡ 8) where
-  pub initial-view : view (strand-of variant flags literals count) ≡ initial-strand (clause-of variant flags literals count)
+  pub initial-view : seen 0 (strand-of variant flags literals count) ≡ initial-strand (clause-of variant flags literals count)
   initial-view =
       ap (λ (ls : List Literal). meaning variant (books.bit1 flags) (books.bit0 flags) (map meant ls))
       (take-min 8 count (min count 8) literals long refl)

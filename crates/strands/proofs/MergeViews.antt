@@ -65,7 +65,7 @@ module _ (a : Answer) (s : Strand) where
       ∙ take-by-view (goals-taken a s .over) (a .ambiguous) s (goals-taken a s .strand)
       ∙ ap (then (ambiguous-clause (a .ambiguous)))
       (delay-view goals (answered s) (answered-sound s o .delayed-long)
-      ∙ ap (λ (v : held.Strand). delay goals (v .ex-clause)) (answered-view s o some-left))
+      ∙ ap (λ (v : held.Strand). delay goals (v .ex-clause)) (answered-view 0 s o some-left))
       ∙ by-test (a .ambiguous) (ltb 8 (length (x .delayed-subgoals) + length goals)) goals x
 
   as-it-was-by : (none-left over : Bool) (t : Strand) → take-by none-left over s t .over ≡ true → take-by none-left over s t .strand ≡ s

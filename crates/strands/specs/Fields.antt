@@ -19,25 +19,8 @@ no-floundered = record { literal = no-literal; time = 0 }
 
 -- Fields written. A list goes with how many of it count.
 
-abbrev pub with-pursued : Strand → (time : ℕ) → Strand
-with-pursued s time = record {
-  «last_pursued_time» = time;
-  variant = s .variant;
-  outsized = s .outsized;
-  ambiguous = s .ambiguous;
-  «answer_time» = s .«answer_time»;
-  «literal_count» = s .«literal_count»;
-  «floundered_count» = s .«floundered_count»;
-  «delayed_count» = s .«delayed_count»;
-  literals = s .literals;
-  floundered = s .floundered;
-  delayed = s .delayed;
-  selected = s .selected;
-}
-
 abbrev pub with-selected : Strand → Selected → Strand
 with-selected s k = record {
-  «last_pursued_time» = s .«last_pursued_time»;
   variant = s .variant;
   outsized = s .outsized;
   ambiguous = s .ambiguous;
@@ -53,7 +36,6 @@ with-selected s k = record {
 
 abbrev pub with-ambiguous : Strand → Bool → Strand
 with-ambiguous s b = record {
-  «last_pursued_time» = s .«last_pursued_time»;
   variant = s .variant;
   outsized = s .outsized;
   ambiguous = b;
@@ -69,7 +51,6 @@ with-ambiguous s b = record {
 
 abbrev pub with-answer-time : Strand → (time : ℕ) → Strand
 with-answer-time s time = record {
-  «last_pursued_time» = s .«last_pursued_time»;
   variant = s .variant;
   outsized = s .outsized;
   ambiguous = s .ambiguous;
@@ -85,7 +66,6 @@ with-answer-time s time = record {
 
 abbrev pub with-literals : Strand → List Literal → (count : ℕ) → Strand
 with-literals s ls count = record {
-  «last_pursued_time» = s .«last_pursued_time»;
   variant = s .variant;
   outsized = s .outsized;
   ambiguous = s .ambiguous;
@@ -101,7 +81,6 @@ with-literals s ls count = record {
 
 abbrev pub with-floundered : Strand → List Floundered → (count : ℕ) → Strand
 with-floundered s fs count = record {
-  «last_pursued_time» = s .«last_pursued_time»;
   variant = s .variant;
   outsized = s .outsized;
   ambiguous = s .ambiguous;
@@ -117,7 +96,6 @@ with-floundered s fs count = record {
 
 abbrev pub with-delayed : Strand → List ℕ → (count : ℕ) → Strand
 with-delayed s ds count = record {
-  «last_pursued_time» = s .«last_pursued_time»;
   variant = s .variant;
   outsized = s .outsized;
   ambiguous = s .ambiguous;

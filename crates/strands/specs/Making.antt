@@ -15,12 +15,11 @@ use Rattle.strands.specs.declared.Selected.the-variants.{Nothing}
 use Rattle.strands.specs.declared.Strand.{Strand}
 use Rattle.strands.specs.declared.making.Refinement.{Refinement}
 use Rattle.strands.specs.Fields.{no-literal, no-floundered}
-use Rattle.strands.specs.View.{view}
+use Rattle.strands.specs.View.{seen}
 
 -- a strand that nobody has pursued, with `count` of the literals still to be solved
 abbrev pub new-strand : (variant : ℕ) → (outsized ambiguous : Bool) → (literals : List Literal) → (count : ℕ) → Strand
 new-strand variant outsized ambiguous literals count = record {
-  «last_pursued_time» = 0;
   variant = variant;
   outsized = outsized;
   ambiguous = ambiguous;
@@ -75,10 +74,10 @@ refine-by false a = record {
 abbrev pub refine : Answer → Refinement
 refine a = refine-by (eqb (a .«delayed_count») 0) a
 
--- what a `Refinement` means
+-- what a `Refinement` means: nobody has pursued it
 abbrev pub refinement-by : (made : Bool) → held.Strand → Option held.Strand
 refinement-by true s = some s
 refinement-by false s = none
 
 abbrev pub refinement : Refinement → Option held.Strand
-refinement r = refinement-by (r .made) (view (r .strand))
+refinement r = refinement-by (r .made) (seen 0 (r .strand))

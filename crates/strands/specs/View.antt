@@ -35,8 +35,9 @@ clause s = record {
   floundered-subgoals = map floundered (take (s .«floundered_count») (s .floundered));
 }
 
-abbrev pub view : Strand → held.Strand
-view s = record { ex-clause = clause s; selected-subgoal = selected (s .selected); last-pursued-time = s .«last_pursued_time» }
+-- a strand that was pursued at this time: the time stands beside the strands, by place
+abbrev pub seen : (time : said.TimeStamp) → Strand → held.Strand
+seen time s = record { ex-clause = clause s; selected-subgoal = selected (s .selected); last-pursued-time = time }
 
 -- The lists are within their arrays. A clause has at most eight literals: each is still to be solved, is floundered, or was solved,
 -- and only those that were raise answer time. So a literal that returns or is set aside finds room, and answer time fits a byte.
@@ -47,9 +48,9 @@ pub record Sound (s : Strand) : Type 0 where
   pub few-literals : s .«literal_count» + s .«floundered_count» + s .«answer_time» ≤ 8
   pub few-delayed : s .«delayed_count» ≤ 8
 
--- nothing but the clause has changed
+-- nothing but the clause has changed: what is selected is as it was
 abbrev pub Kept : Strand → Strand → Type 0
-Kept s r = view r ≡ held.with-ex-clause (view s) (clause r)
+Kept s r = r .selected ≡ s .selected
 
 -- An answer.
 

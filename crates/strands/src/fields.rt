@@ -3,16 +3,7 @@ use crate::Selected;
 use crate::Strand;
 ghost use mathlib.Core.Path.{_≡_};
 ghost use mathlib.Core.Bool.{true};
-ghost use Rattle.strands.specs.Fields.{with-pursued, with-selected, with-ambiguous, after, next-of};
-
-// The strand is pursued at this time.
-pub fn pursued(s: Strand, time: u64) -> Strand
-    ensures { λ r. ⌜ r ≡ with-pursued s time ⌝ }
-{
-    let mut t = s;
-    t.last_pursued_time = time;
-    t
-}
+ghost use Rattle.strands.specs.Fields.{with-selected, with-ambiguous, after, next-of};
 
 pub fn deselected(s: Strand) -> Strand
     ensures { λ r. ⌜ r ≡ with-selected s Selected.Nothing ⌝ }
@@ -62,7 +53,8 @@ fn next_selected(k: Selected) -> Selected
     }
 }
 
-// The copy of the strand for the next answer. It keeps the last pursued time, so that this stack entry won't take it again.
+// The copy of the strand for the next answer. Whoever stores it keeps the last pursued time beside it, so that this stack entry won't
+// take it again.
 pub fn next_answer_strand(s: Strand) -> Strand
     ensures { λ r. ⌜ r ≡ with-selected s (next-of (s .selected)) ⌝ }
 {

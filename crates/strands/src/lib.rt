@@ -26,11 +26,10 @@ pub enum Selected {
     Subgoal { index: u8, table: u8, answer: u16 },
 }
 
-// `Strand` with its `ExClause`, in 112 bytes: 8 of the last pursued time, 8 of variant, flags, answer time and counts, 32 of literals,
-// 48 of floundered ones, 8 of delayed goals, 6 of what is selected, and 2 that align it. Reading and writing back an element of an
-// array costs twice as much above 128 bytes.
+// `Strand` with its `ExClause`, in 102 bytes: 8 of variant, flags, answer time and counts, 32 of literals, 48 of floundered ones, 8 of
+// delayed goals and 6 of what is selected. The last pursued time stands beside the strands, by place, where it can be read without the
+// strand. Reading and writing back an element of an array costs twice as much above 128 bytes.
 pub struct Strand {
-    pub last_pursued_time: u64,
     pub variant: u16,
     pub outsized: bool,
     pub ambiguous: bool,

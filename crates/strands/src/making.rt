@@ -36,7 +36,6 @@ fn new_strand(
         time: 0,
     };
     Strand {
-        last_pursued_time: 0,
         variant,
         outsized,
         ambiguous,

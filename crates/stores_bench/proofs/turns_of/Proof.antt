@@ -51,6 +51,9 @@ array-set-from-strands c = search needs
 ring-enqueue-requires : tie.Need-ring-enqueue-requires Inv-loop μ-loop
 ring-enqueue-requires c κs = search needs
 
+other-requires : tie.Need-other-requires Inv-loop μ-loop
+other-requires c κs = search needs
+
 add-i : tie.Need-add-i Inv-loop μ-loop
 add-i c = search needs
 
@@ -81,6 +84,7 @@ turns-of-spec =
     mul-strands
     array-set-from-strands
     ring-enqueue-requires
+    other-requires
     add-i
     loop-less
     loop-again

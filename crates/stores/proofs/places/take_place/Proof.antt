@@ -1,5 +1,5 @@
 -- `take_place` meets its contract: each way out cites its case.
-use Rattle.stores.proofs.PlacesCases.{took-free, took-fresh, took-none}
+use Rattle.stores.proofs.PlacesCases.{took-free, took-begun, took-none}
 use borrow.Author.Needs.{needs}
 use Rattle.stores.proofs.places.take_place.Statement.{statement}
 use Rattle.stores.proofs.places.take_place.Tie as tie
@@ -30,7 +30,7 @@ add-top c = search needs
 returns-2 : tie.Need-returns-2
 returns-2 c =
     let a = c .before .before .before .before .args in
-    took-fresh (a .next .now) (a .tail .now) (a .len .now) (a .top .now) (search needs) (search needs)
+    took-begun (a .next .now) (a .tail .now) (a .len .now) (a .top .now) (search needs) (search needs)
 
 returns-3 : tie.Need-returns-3
 returns-3 c =
