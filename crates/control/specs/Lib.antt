@@ -1,5 +1,7 @@
 pub mod Decision
+pub mod EnsureRootAnswer
 pub mod SelectSubgoal
 pub mod OnSubgoalSelected
 pub mod OnNoRemainingSubgoals
+pub mod OnNoStrandsLeft
 pub mod ClearStrandsAfterCycle
