@@ -16,6 +16,7 @@ pub mod OnSubgoalSelected
 pub mod OnSubgoalSelectedLeaves
 pub mod OnNoRemainingSubgoalsCases
 pub mod OnNoRemainingSubgoals
+pub mod ChooseCases
 pub mod OnNoStrandsLeftCases
 pub mod ClearStrandsAfterCycleCases
 pub mod ClearStrandsAfterCycleSound

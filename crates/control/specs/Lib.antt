@@ -3,5 +3,6 @@ pub mod EnsureRootAnswer
 pub mod SelectSubgoal
 pub mod OnSubgoalSelected
 pub mod OnNoRemainingSubgoals
+pub mod Choose
 pub mod OnNoStrandsLeft
 pub mod ClearStrandsAfterCycle
