@@ -23,6 +23,8 @@ pub mod ChooseCases
 pub mod ChooseLook
 pub mod ChooseDecides
 pub mod OnNoStrandsLeftCases
+pub mod OnNoStrandsLeft
+pub mod Turn
 pub mod ClearStrandsAfterCycleCases
 pub mod ClearStrandsAfterCycleSound
 pub mod ClearStrandsAfterCycleDecides
