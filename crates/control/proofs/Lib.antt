@@ -2,10 +2,7 @@
 -- models mean, and what they keep and leave (Leaves).
 pub mod Decisions
 pub mod Seen
-pub mod Stores
 pub mod EnsureRootAnswerCases
-pub mod EnsureRootAnswerFirst
-pub mod EnsureRootAnswer
 pub mod SelectCases
 pub mod SelectTables
 pub mod SelectRoom
@@ -14,6 +11,9 @@ pub mod SelectKnown
 pub mod SelectPasses
 pub mod SelectLiteral
 pub mod SelectSubgoal
+pub mod Stores
+pub mod EnsureRootAnswerFirst
+pub mod EnsureRootAnswer
 pub mod OnSubgoalSelectedCases
 pub mod OnSubgoalSelected
 pub mod OnSubgoalSelectedLeaves

@@ -40,7 +40,7 @@ use Rattle.control.specs.declared.on_no_strands_left.Idle.the-variants a
 use Rattle.control.specs.OnNoStrandsLeft.{waits-on-not-by, waits-on-not, caller-by, caller-waits-on-not, no-strands-by, no-strands}
 use Rattle.control.specs.OnNoStrandsLeft.{minimum-at, part-by, part-of-cycle, head-by, cycle-by, cycle, left-by, no-strands-left}
 use Rattle.control.specs.Stores.{Stores, first-strands, forest, entries-of, SoundStores}
-use Rattle.control.specs.Turn.{top, idle, not-proved, with-caller, clearing, idle-means}
+use Rattle.control.specs.Turn.{top, not-proved, with-caller, clearing, act-means}
 use Rattle.control.proofs.EnsureRootAnswer.{top-read, top-is}
 use Rattle.control.proofs.OnNoStrandsLeftCases.{minimum-some}
 use Rattle.control.proofs.Stores.{below-next, top-entry, entries-below, table-held, few-made, counted, table-still, mode-flag, table-made, stack-is, searching}
@@ -81,14 +81,14 @@ module _ (root index first : ℕ) (z : Stores) (o : SoundStores root index first
 
   -- with the table of any top
   abbrev means-at : (t : ℕ) → Idle → Stops Act
-  means-at u idles.Nothing = idle-means z idles.Nothing
-  means-at u idles.Finishes = idle-means z idles.Finishes
-  means-at u idles.CallerFailed = idle-means z idles.CallerFailed
-  means-at u idles.CallerProved = idle-means z idles.CallerProved
-  means-at u idles.ChangesMode = idle-means z idles.ChangesMode
-  means-at u idles.NegativeCycle = idle-means z idles.NegativeCycle
+  means-at u idles.Nothing = act-means z idles.Nothing
+  means-at u idles.Finishes = act-means z idles.Finishes
+  means-at u idles.CallerFailed = act-means z idles.CallerFailed
+  means-at u idles.CallerProved = act-means z idles.CallerProved
+  means-at u idles.ChangesMode = act-means z idles.ChangesMode
+  means-at u idles.NegativeCycle = act-means z idles.NegativeCycle
   means-at u idles.Clears = clearing z u
-  means-at u idles.PartOfCycle = idle-means z idles.PartOfCycle
+  means-at u idles.PartOfCycle = act-means z idles.PartOfCycle
 
   -- THE CALLER, at height m: its strand, which has selected a literal, is written
   module _ (m : ℕ) (below : n ≡ suc m) where
@@ -288,12 +288,7 @@ module _ (root index first : ℕ) (z : Stores) (o : SoundStores root index first
       ap (λ (i : ℕ). eqb i 0) (sym (length-ring (z .strands .places) t))
       ∙ empty-is (strand-at fresh (z .strands)) (ring (z .strands .places) t)
 
-  abbrev idle-under : Top → Stops Act
-  idle-under x =
-      means-at (x .table)
-      (no-strands-left (z .strands .places .len) (z .strands .waits) (z .stack .positive) (z .stack .negative) (z .stack .active) x)
-
-  means-is : (k : Idle) → idle-means z k ≡ means-at (top z .table) k
+  means-is : (k : Idle) → act-means z k ≡ means-at (top z .table) k
   means-is idles.Nothing = refl
   means-is idles.Finishes = refl
   means-is idles.CallerFailed = refl
@@ -303,11 +298,16 @@ module _ (root index first : ℕ) (z : Stores) (o : SoundStores root index first
   means-is idles.Clears = refl
   means-is idles.PartOfCycle = refl
 
-  pub idle-decides : idle-means z (idle z) ≡ decide-idle (record { forest = f; stack = stack-read }) (top-entry z n) (table-of f t)
+  abbrev left-under : Top → Idle
+  left-under x =
+      no-strands-left (z .strands .places .len) (z .strands .waits) (z .stack .positive) (z .stack .negative) (z .stack .active) x
+
+  pub idle-decides : act-means z (left-under (top z))
+      ≡ decide-idle (record { forest = f; stack = stack-read }) (top-entry z n) (table-of f t)
   idle-decides =
       let here : table-held z t ≡ table-of f t = sym (table-still root index first z o t made []) in
-      means-is (idle z)
-      ∙ ap idle-under (top-is root index first z o n d)
+      means-is (left-under (top z))
+      ∙ ap (λ (x : Top). means-at (x .table) (left-under x)) (top-is root index first z o n d)
       ∙ left-decides (eqb (getD (z .strands .places .len) t 0) 0) complete
       ∙ ap₂ queue-decided (empty-queue ∙ ap (λ (u : Table). is-empty (u .strands)) here)
       (sym (mode-flag root index first z o t made) ∙ ap (λ (u : Table). is-complete (u .answer-mode)) here)

@@ -12,12 +12,13 @@ use Rattle.definitions.specs.Tables.{queued}
 use Rattle.definitions.specs.Tables as forests
 use Rattle.asserts.proofs.Sound as asserts
 use Rattle.split.specs.Acts.{Act, Origin, takes, finishes}
-use Rattle.split.specs.Decide.{decide-idle, decide-subgoal, decide-deed, decide-on, decide}
-use Rattle.split.specs.Decide.{table-of}
+use Rattle.split.specs.Decide.{table-of, decide-subgoal, decide-idle, decide-deed, decide}
 use Rattle.strands.specs.View.{seen}
 use Rattle.stores.specs.View.{strand-at, entries}
+use Rattle.control.specs.declared.on_no_strands_left.Idle.{Idle}
+use Rattle.control.specs.OnNoStrandsLeft.{without-by}
 use Rattle.control.specs.Stores.{Stores, first-strands, forest, state, SoundStores}
-use Rattle.control.specs.Turn.{next, hand-at, origin, taken-by, turn-by, turn-means}
+use Rattle.control.specs.Turn.{top, next, hand-at, taken-by, origin, act-means, turn-means}
 use Rattle.control.proofs.ChooseDecides.{acting, strand-decides}
 use Rattle.control.proofs.EnsureRootAnswer.{top-is, strand-decided, known, in-hand-is, in-hand-sound, in-hand-kept}
 use Rattle.control.proofs.OnNoStrandsLeft.{idle-decides}
@@ -44,8 +45,12 @@ module _ (root index first : ℕ) (z : Stores) (o : SoundStores root index first
       | some x ↦ goes-on (held.with-pursued (x .0) (e .clock)) (x .1)
     ]
 
+    abbrev without : (found : Bool) → Idle
+    without found =
+        without-by (z .strands .places .len) (z .strands .waits) (z .stack .positive) (z .stack .negative) (z .stack .active) found (top z)
+
     by-found : (found : Bool) → next z .found ≡ found
-        → turn-by z found (next z)
+        → act-means z (without found)
         ≡ decided-by (taken-by found (strand-at (first-strands (z .book)) (z .strands) (next z .place)) (origin z (next z)))
     by-found true is =
         let k = known root index first z o n d is in
