@@ -23,7 +23,17 @@ use Rattle.stores.specs.Queue.{waits-of, wants-of, with-places, with-num
 use Rattle.stores.specs.Queue.{freed-strands, blank-strand, blank-strands}
 use Rattle.stores.proofs.ListsAlike.{Alike, times-at, times-cases}
 use Rattle.stores.proofs.PlacesWaiting.{sound-alike, sound-grown}
-use Rattle.stores.proofs.PlacesViews.{enqueued-own, enqueued-other, enqueued-sound, given-sound, given-other, taken-own, taken-other, taken-sound, blank-places-sound}
+use Rattle.stores.proofs.PlacesViews.{
+  enqueued-own,
+  enqueued-other,
+  enqueued-sound,
+  given-sound,
+  given-other,
+  taken-own,
+  taken-other,
+  taken-sound,
+  blank-places-sound,
+}
 use Rattle.stores.proofs.PlacesCases.{freed-sound}
 use Rattle.stores.proofs.PlacesMoves.{moved-own, moved-other, moved-sound}
 use Rattle.stores.proofs.QueueCases.{waits-written}
@@ -218,7 +228,8 @@ cleared-sound fresh s n held t h sound =
     with-sound fresh s n held held (moved-to t free (s .places)) sound (moved-sound (s .places) n held t h (sound .places))
     (λ u x k i. is-or-not t (λ v. v < n → 1 ≤ times x (ring (moved-to t free (s .places)) v) → InUse fresh s x)
     (λ a b. absurd (omega (arith, ap (times x) (moved-own (s .places) n held t h (sound .places)))))
-    (λ v d a b. sound .queued v x a (rw (moved-other (s .places) n held t h (sound .places) v (λ e. omega (arith, sound .places .few)) d) at b)) u k i)
+    (λ v d a b. sound .queued v x a (rw (moved-other (s .places) n held t h (sound .places) v (λ e. omega (arith, sound .places .few)) d)
+    at b)) u k i)
     (λ x k. sound .in-hand x k)
 
 -- BLANK: no table has a strand

@@ -1,5 +1,5 @@
--- The searches among the entries: `first_of` over their tables is `is_active`; `coinductive_from` is the definitions' test of the entries up to
--- the top. From the search among numbers and the definition of `all-from`.
+-- The searches among the entries: `first_of` over their tables is `is_active`; `coinductive_from` is the definitions' test of the entries
+-- up to the top. From the search among numbers and the definition of `all-from`.
 use Prim.Native.Nat.{ℕ, zero, suc, _+_, _-_, _≤_, _<_}
 use native.Mathlib.Omega.{arith}
 use mathlib.Core.Path.{_≡_, refl, sym, ap, ap₂, _∙_}
@@ -50,11 +50,13 @@ module _ (fresh : FirstStrands) (k : Stack) (s : Strands) (t : ℕ) where
           → on-top b ≡ (first-if (ltb (first-at on 0 (suc n)) (suc n)) (suc n - 1 - first-at on 0 (suc n)))
       next b e f =
           let z : 0 + n ≡ n = omega arith in
-          let m : first-at on 0 (suc n) ≡ choose b n (suc n) = first-more on 0 n .1 (f ∙ sym z) ∙ ap (λ (j : ℕ). choose (on j) j (suc j)) z ∙ ap (λ (c : Bool). choose c n (suc n)) e in
+          let m : first-at on 0 (suc n) ≡ choose b n (suc n) = first-more on 0 n .1 (f ∙ sym z) ∙ ap (λ (j : ℕ). choose (on j) j (suc j)) z
+          ∙ ap (λ (c : Bool). choose c n (suc n)) e in
           found b ∙ sym (ap (λ (j : ℕ). first-if (ltb j (suc n)) (suc n - 1 - j)) m)
         where
           found : (c : Bool) → on-top c ≡ (first-if (ltb (choose c n (suc n)) (suc n)) (suc n - 1 - choose c n (suc n)))
-          found true = let z : 0 ≡ suc n - 1 - n = omega arith in ap some z ∙ sym (ap (λ (b : Bool). first-if b (suc n - 1 - n)) (lt-ltb n (suc n) (omega arith)))
+          found true = let z : 0 ≡ suc n - 1 - n = omega arith in ap some z
+              ∙ sym (ap (λ (b : Bool). first-if b (suc n - 1 - n)) (lt-ltb n (suc n) (omega arith)))
           found false = sym (ap (λ (b : Bool). first-if b (suc n - 1 - suc n)) (le-ltb (suc n) (suc n) (omega arith)))
 
       at : (b : Bool) → ltb (first-at on 0 n) n ≡ b → is-active t (entries fresh k s n) ≡ first-if (ltb (first-at on 0 n) n) (n - 1 - first-at on 0 n)
@@ -103,7 +105,8 @@ module _ (fresh : FirstStrands) (k : Stack) (s : Strands) (ts : Tables) (a : Ans
   test = coinductive-at (k .table) (ts .coinductive)
 
   flag-is : (i : ℕ) → getD (k .table) i 0 < ts .count → flag (getD (ts .coinductive) (getD (k .table) i 0) 0) ≡ test i
-  flag-is i h = sym (ap (λ (b : Bool). b && flag (getD (ts .coinductive) (getD (k .table) i 0) 0)) (lt-ltb (getD (k .table) i 0) 64 (omega arith)))
+  flag-is i h = sym (ap (λ (b : Bool). b && flag (getD (ts .coinductive) (getD (k .table) i 0) 0))
+      (lt-ltb (getD (k .table) i 0) 64 (omega arith)))
 
   up-to-top : (n m : ℕ) → m ≤ n → ((i : ℕ) → i < n → getD (k .table) i 0 < ts .count)
       → coinductive-entries f (take m (entries fresh k s n)) ≡ go (all-from test (n - m) m)
@@ -118,7 +121,8 @@ module _ (fresh : FirstStrands) (k : Stack) (s : Strands) (ts : Tables) (a : Ans
       let z : suc n - suc m ≡ n - m = omega arith in
       ap₂ (λ (x : Stops Table) (y : Stops Bool). x >>= λ t. y >>= λ o. go (t .coinductive-goal && o)) (table-at-is fresh ts s a f is (getD (k .table) n 0) (made n (omega arith))) (up-to-top n m (omega arith) (λ i j. made i (omega arith)))
       ∙ ap (λ (b : Bool). go (b && all-from test (n - m) m)) (flag-is n (made n (omega arith)))
-      ∙ ap go (ap (λ (j : ℕ). test j && all-from test (n - m) m) (sym e) ∙ sym (all-snoc test (n - m) m) ∙ ap (λ (j : ℕ). all-from test j (suc m)) (sym z))
+      ∙ ap go (ap (λ (j : ℕ). test j && all-from test (n - m) m) (sym e) ∙ sym (all-snoc test (n - m) m)
+      ∙ ap (λ (j : ℕ). all-from test j (suc m)) (sym z))
 
   -- the entries from one up to the top, by what `coinductive_from` says
   pub coinductive-from-view : k .depth ≤ 64 → ((i : ℕ) → i < k .depth → getD (k .table) i 0 < ts .count) → (from : ℕ) → from < k .depth

@@ -41,12 +41,35 @@ module _ (fresh : FirstStrands) (k : Stack) (s : Strands) (t time most : ℕ) (s
   d = k .depth
 
   abbrev k′ : Stack
-  k′ = record { depth = suc d; table = set (k .table) d t; clock = set (k .clock) d time; positive = set (k .positive) d most; negative = set (k .negative) d most; active = set (k .active) d 256 }
+  k′ = record {
+    depth = suc d;
+    table = set (k .table) d t;
+    clock = set (k .clock) d time;
+    positive = set (k .positive) d most;
+    negative = set (k .negative) d most;
+    active = set (k .active) d 256;
+  }
 
   pushed-is : pushed t time most k ≡ k′
   pushed-is =
-      ap (λ (b : Bool). record { depth = add-if b d; table = set-if b d t (k .table); clock = set-if b d time (k .clock); positive = set-if b d most (k .positive); negative = set-if b d most (k .negative); active = set-if b d 256 (k .active) }) (lt-ltb d 64 room)
-      ∙ ap (λ (m : ℕ). record { depth = m; table = set (k .table) d t; clock = set (k .clock) d time; positive = set (k .positive) d most; negative = set (k .negative) d most; active = set (k .active) d 256 }) (add-one d)
+      ap (λ (b : Bool). record {
+        depth = add-if b d;
+        table = set-if b d t (k .table);
+        clock = set-if b d time (k .clock);
+        positive =
+            set-if b d most (k .positive);
+        negative = set-if b d most (k .negative);
+        active = set-if b d 256 (k .active);
+      }) (lt-ltb d 64 room)
+      ∙ ap (λ (m : ℕ). record {
+        depth = m;
+        table = set (k .table) d t;
+        clock = set (k .clock) d time;
+        positive = set
+            (k .positive) d most;
+        negative = set (k .negative) d most;
+        active = set (k .active) d 256;
+      }) (add-one d)
 
   new-entry : entry-at fresh k′ s d ≡ entry-of t time most most none
   new-entry = entry-is fresh s (getD (set (k .table) d t) d 0) t (getD (set (k .clock) d time) d 0) time (getD (set (k .positive) d most) d 0) most (getD (set (k .negative) d most) d 0) most
@@ -83,13 +106,28 @@ module _ (fresh : FirstStrands) (k : Stack) (s : Strands) (t time most : ℕ) (s
   })
     where
       active-at : (i : ℕ) (b : Bool) → eqb i d ≡ b → i < suc d → getD (set (k .active) d 256) i 0 ≤ 256
-      active-at i true e h = omega (arith, ap (λ (j : ℕ). getD (set (k .active) d 256) j 0) (eqb-true i d e), getD-set-same (k .active) d 256 0 (omega (arith, sound .long-active)))
-      active-at i false e h = let n : i ≡ d → ⊥ = eqb-false i d e in omega (arith, getD-set-other (k .active) d i 256 0 n, sound .places i (omega arith))
+      active-at i true e h = omega (
+        arith,
+        ap (λ (j : ℕ). getD (set (k .active) d 256) j 0) (eqb-true i d e),
+        getD-set-same
+            (k .active) d 256 0 (omega (arith, sound .long-active)),
+      )
+      active-at i false e h = let n : i ≡ d → ⊥ = eqb-false i d e in omega
+          (arith, getD-set-other (k .active) d i 256 0 n, sound .places i (omega arith))
 
 -- a full stack is as it was
 pub push-full : (k : Stack) (t time most : ℕ) → 64 ≤ k .depth → pushed t time most k ≡ k
 push-full k t time most h =
-    ap (λ (b : Bool). record { depth = add-if b (k .depth); table = set-if b (k .depth) t (k .table); clock = set-if b (k .depth) time (k .clock); positive = set-if b (k .depth) most (k .positive); negative = set-if b (k .depth) most (k .negative); active = set-if b (k .depth) 256 (k .active) }) (le-ltb (k .depth) 64 h)
+    ap (λ (b : Bool). record {
+      depth = add-if b (k .depth);
+      table = set-if b (k .depth) t (k .table);
+      clock = set-if b (k .depth) time
+          (k .clock);
+      positive = set-if b (k .depth) most (k .positive);
+      negative = set-if b (k .depth) most (k .negative);
+      active = set-if b
+          (k .depth) 256 (k .active);
+    }) (le-ltb (k .depth) 64 h)
 
 -- POP, and the top
 popped-entries : (fresh : FirstStrands) (k : Stack) (s : Strands) (n : ℕ) → entries fresh (popped k) s n ≡ entries fresh k s n
@@ -160,7 +198,12 @@ module _ (fresh : FirstStrands) (k : Stack) (s : Strands) (sound : SoundStack k)
   }
     where
       at : (i : ℕ) (b : Bool) → eqb i j ≡ b → i < k .depth → getD (top-written (k .depth) place (k .active)) i 0 ≤ 256
-      at i true e a = omega (arith, ap (λ (n : ℕ). getD (top-written (k .depth) place (k .active)) n 0) (eqb-true i j e), top-at place (k .active) (sound .long-active))
+      at i true e a = omega (
+        arith,
+        ap (λ (n : ℕ). getD (top-written (k .depth) place (k .active)) n 0) (eqb-true i j e),
+        top-at place
+            (k .active) (sound .long-active),
+      )
       at i false e a =
           let n : i ≡ j → ⊥ = eqb-false i j e in
           omega (arith, top-away place (k .active) i (omega arith), sound .places i a)

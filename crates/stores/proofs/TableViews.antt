@@ -54,7 +54,8 @@ module _ (fresh : FirstStrands) (ts : Tables) (s : Strands) (a : Answers) (t i r
       let k : i < length (ring (a .places) t) = omega (arith, length-ring (a .places) t, ltb-true i (getD (a .places .len) t 0) e) in
       let is : r ≡ place = found ∙ ap (λ (b : Bool). place-if b place) e in
       let small : place < a .places .top =
-      below-top (a .places .next) (a .places .tail) (a .places .len) (a .places .top) (sound .rings) t place (times-at (ring (a .places) t) i k) in (
+      below-top (a .places .next) (a .places .tail) (a .places .len) (a .places .top) (sound .rings) t place
+      (times-at (ring (a .places) t) i k) in (
         λ h. map-elem (answer-at a) (ring (a .places) t) i 0 k ∙ ap (λ (p : ℕ). some (answer-at a p)) (sym is),
         λ h. absurd (omega (arith, sound .rings .room)),
       )
@@ -181,16 +182,30 @@ cleared-answers-sound a n t h sound = record {
   long = sound .long;
   stored = λ u q k i. is-or-not t (λ v. v < n → 1 ≤ times q (ring (moved-to t free (a .places)) v) → Stored a q)
       (λ j c. absurd (omega (arith, ap (times q) (moved-own (a .places) n [] t h (sound .places)))))
-      (λ v d j c. sound .stored v q j (subst (λ (l : List ℕ). 1 ≤ times q l) (moved-other (a .places) n [] t h (sound .places) v (λ e. omega (arith, sound .places .few)) d) c)) u k i;
+      (λ v d j c. sound .stored v q j (subst (λ (l : List ℕ). 1 ≤ times q l)
+      (moved-other (a .places) n [] t h (sound .places) v (λ e. omega (arith, sound .places .few)) d) c)) u k i;
 }
 
 -- MARK FLOUNDERED: the flag, and no answers and no strands
 module _ (fresh : FirstStrands) (ts : Tables) (s : Strands) (a : Answers) (held : List ℕ) (t : ℕ) (h : t < ts .count) (sound : SoundTables ts) (ss : SoundPlaces (s .places) (ts .count) held) (rs : SoundPlaces (a .places) (ts .count) []) where
   abbrev ts′ : Tables
-  ts′ = record { count = ts .count; goal = ts .goal; coinductive = ts .coinductive; floundered = set (ts .floundered) t 1; complete = ts .complete }
+  ts′ = record {
+    count = ts .count;
+    goal = ts .goal;
+    coinductive = ts .coinductive;
+    floundered = set (ts .floundered) t 1;
+    complete = ts .complete;
+  }
 
   marked-is : marked t ts ≡ ts′
-  marked-is = ap (λ (b : Bool). record { count = ts .count; goal = ts .goal; coinductive = ts .coinductive; floundered = set-if b t 1 (ts .floundered); complete = ts .complete }) (lt-ltb t 64 (omega (arith, sound .few)))
+  marked-is = ap (λ (b : Bool). record {
+    count = ts .count;
+    goal = ts .goal;
+    coinductive = ts .coinductive;
+    floundered = set-if b t 1
+        (ts .floundered);
+    complete = ts .complete;
+  }) (lt-ltb t 64 (omega (arith, sound .few)))
 
   pub marked-sound : SoundTables (marked t ts)
   marked-sound = subst SoundTables (sym marked-is) (record {
@@ -204,8 +219,10 @@ module _ (fresh : FirstStrands) (ts : Tables) (s : Strands) (a : Answers) (held 
   abbrev table-with : ℕ → (floundered : ℕ) → List said.Answer → List said-strand.Strand → Table
   table-with u f l m = record { table-goal = getD (ts .goal) u 0; coinductive-goal = flag (getD (ts .coinductive) u 0); floundered = flag f; answers = l; strands = m; answer-mode = held-table fresh ts s a u .answer-mode }
 
-  table-is : (u f f′ : ℕ) (l l′ : List said.Answer) (m m′ : List said-strand.Strand) → f ≡ f′ → l ≡ l′ → m ≡ m′ → table-with u f l m ≡ table-with u f′ l′ m′
-  table-is u f f′ l l′ m m′ e c d = ap₂ (λ (x : List said.Answer) (y : List said-strand.Strand). table-with u f x y) c d ∙ ap (λ (x : ℕ). table-with u x l′ m′) e
+  table-is : (u f f′ : ℕ) (l l′ : List said.Answer) (m m′ : List said-strand.Strand) → f ≡ f′ → l ≡ l′ → m ≡ m′
+      → table-with u f l m ≡ table-with u f′ l′ m′
+  table-is u f f′ l l′ m m′ e c d = ap₂ (λ (x : List said.Answer) (y : List said-strand.Strand). table-with u f x y) c d
+      ∙ ap (λ (x : ℕ). table-with u x l′ m′) e
 
   pub marked-view : tables fresh (marked t ts) (cleared t s) (cleared-answers t a) ≡ set (tables fresh ts s a) t (mark-floundered (held-table fresh ts s a t))
   marked-view =

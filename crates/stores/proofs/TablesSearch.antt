@@ -19,7 +19,8 @@ pub index-of-view : (fresh : FirstStrands) (ts : Tables) (s : Strands) (a : Answ
 index-of-view fresh ts s a goal r few e =
     let w : within (ts .count) ≡ ts .count = omega arith in
     let z : 0 + ts .count ≡ ts .count = omega arith in
-    let i : first-at (λ j. eqb (getD (ts .goal) j 0) goal) 0 (ts .count) ≡ r = sym (e ∙ ap (first-at (λ j. eqb (getD (ts .goal) j 0) goal) 0) w) in
+    let i : first-at (λ j. eqb (getD (ts .goal) j 0) goal) 0 (ts .count) ≡ r = sym
+    (e ∙ ap (first-at (λ j. eqb (getD (ts .goal) j 0) goal) 0) w) in
     let y : r - 0 ≡ r = omega arith in
     position-from (held-table fresh ts s a) (λ t. eqb (t .table-goal) goal) 0 (ts .count)
     ∙ ap₂ (λ (m n : ℕ). first-if (ltb m n) (m - 0)) i z ∙ ap (first-if (ltb r (ts .count))) y

@@ -69,9 +69,17 @@ module _ (fresh : FirstStrands) (ts : Tables) (s : Strands) (a : Answers) (sound
   goal-view = ap (λ (b : Bool). number-if b (getD (ts .goal) t 0)) near
 
 abbrev table-of : (goal coinductive floundered complete : ℕ) → List said.Answer → List said-strand.Strand → Table
-table-of g c f m rs ss = record { table-goal = g; coinductive-goal = flag c; floundered = flag f; answers = rs; strands = ss; answer-mode = mode m }
+table-of g c f m rs ss = record {
+  table-goal = g;
+  coinductive-goal = flag c;
+  floundered = flag f;
+  answers = rs;
+  strands = ss;
+  answer-mode = mode m;
+}
 
-table-is : (g g′ c c′ f f′ m m′ : ℕ) (rs rs′ : List said.Answer) (ss ss′ : List said-strand.Strand) → g ≡ g′ → c ≡ c′ → f ≡ f′ → m ≡ m′ → rs ≡ rs′ → ss ≡ ss′
+table-is : (g g′ c c′ f f′ m m′ : ℕ) (rs rs′ : List said.Answer) (ss ss′ : List said-strand.Strand) → g ≡ g′ → c ≡ c′ → f ≡ f′ → m ≡ m′
+    → rs ≡ rs′ → ss ≡ ss′
     → table-of g c f m rs ss ≡ table-of g′ c′ f′ m′ rs′ ss′
 table-is g g′ c c′ f f′ m m′ rs rs′ ss ss′ a b d e r q = cc
 
@@ -92,12 +100,33 @@ module _ (fresh : FirstStrands) (ts : Tables) (s : Strands) (a : Answers) (g : �
   n = ts .count
 
   abbrev ts′ : Tables
-  ts′ = record { count = suc n; goal = set (ts .goal) n g; coinductive = set (ts .coinductive) n (flag-number co); floundered = set (ts .floundered) n (flag-number fl); complete = set (ts .complete) n 1 }
+  ts′ = record {
+    count = suc n;
+    goal = set (ts .goal) n g;
+    coinductive = set (ts .coinductive) n (flag-number co);
+    floundered = set (ts .floundered) n (flag-number fl);
+    complete = set (ts .complete) n 1;
+  }
 
   inserted-is : inserted g co fl ts ≡ ts′
   inserted-is =
-      ap (λ (b : Bool). record { count = add-if b n; goal = set-if b n g (ts .goal); coinductive = set-if b n (flag-number co) (ts .coinductive); floundered = set-if b n (flag-number fl) (ts .floundered); complete = set-if b n 1 (ts .complete) }) (lt-ltb n 64 room)
-      ∙ ap (λ (m : ℕ). record { count = m; goal = set (ts .goal) n g; coinductive = set (ts .coinductive) n (flag-number co); floundered = set (ts .floundered) n (flag-number fl); complete = set (ts .complete) n 1 }) (add-one n)
+      ap (λ (b : Bool). record {
+        count = add-if b n;
+        goal = set-if b n g (ts .goal);
+        coinductive = set-if b n (flag-number co)
+            (ts .coinductive);
+        floundered = set-if b n (flag-number fl) (ts .floundered);
+        complete = set-if b n 1 (ts .complete);
+      })
+      (lt-ltb n 64 room)
+      ∙ ap (λ (m : ℕ). record {
+        count = m;
+        goal = set (ts .goal) n g;
+        coinductive = set (ts .coinductive) n (flag-number co);
+        floundered =
+            set (ts .floundered) n (flag-number fl);
+        complete = set (ts .complete) n 1;
+      }) (add-one n)
 
   pub inserted-count : inserted g co fl ts .count ≡ suc (ts .count)
   inserted-count = ap (λ (r : Tables). r .count) inserted-is
@@ -141,7 +170,14 @@ module _ (fresh : FirstStrands) (ts : Tables) (s : Strands) (a : Answers) (g : �
 module _ (fresh : FirstStrands) (ts : Tables) (s : Strands) (a : Answers) (t : ℕ) (b : Bool) (sound : SoundTables ts) (h : t < ts .count) where
   moded-is : moded t b ts ≡ record { count = ts .count; goal = ts .goal; coinductive = ts .coinductive; floundered = ts .floundered; complete = set (ts .complete) t (flag-number b) }
   moded-is =
-      ap (λ (c : Bool). record { count = ts .count; goal = ts .goal; coinductive = ts .coinductive; floundered = ts .floundered; complete = set-if c t (flag-number b) (ts .complete) })
+      ap (λ (c : Bool). record {
+        count = ts .count;
+        goal = ts .goal;
+        coinductive = ts .coinductive;
+        floundered = ts .floundered;
+        complete =
+            set-if c t (flag-number b) (ts .complete);
+      })
       (lt-ltb t 64 (omega (arith, sound .few)))
 
   pub moded-sound : SoundTables (moded t b ts)

@@ -10,7 +10,8 @@ take-place-requires c κs = search needs
 returns : tie.Need-returns
 returns c =
     let p = c .before in
-    let lent = p .before .before .before .before in
+    let called = p .before .before .before in
+    let lent = called .before in
     let copied = lent .before .before .before in
     let a = copied .before .before .args in
     let l = p .take-place .last in
@@ -31,9 +32,11 @@ write-requires c κs = search needs
 returns-2 : tie.Need-returns-2
 returns-2 c =
     let e = c .before .ring-enqueue in
-    let test = c .before .before .before .before .before in
+    let between = c .before .before .before in
+    let test = between .before .before in
     let p = test .before in
-    let lent = p .before .before .before .before in
+    let called = p .before .before .before in
+    let lent = called .before in
     let copied = lent .before .before .before in
     let a = copied .before .before .args in
     let l = p .take-place .last in
