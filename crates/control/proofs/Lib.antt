@@ -2,6 +2,7 @@
 -- models mean, and what they keep and leave (Leaves).
 pub mod Decisions
 pub mod Seen
+pub mod EnsureRootAnswerCases
 pub mod SelectCases
 pub mod SelectTables
 pub mod SelectRoom
@@ -15,6 +16,8 @@ pub mod OnSubgoalSelected
 pub mod OnSubgoalSelectedLeaves
 pub mod OnNoRemainingSubgoalsCases
 pub mod OnNoRemainingSubgoals
+pub mod ChooseCases
+pub mod OnNoStrandsLeftCases
 pub mod ClearStrandsAfterCycleCases
 pub mod ClearStrandsAfterCycleSound
 pub mod ClearStrandsAfterCycleDecides

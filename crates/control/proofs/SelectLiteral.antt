@@ -17,7 +17,7 @@ use Rattle.definitions.specs.Stop.{Stops, go, _>>=_, _>>_, stop-if}
 use Rattle.definitions.specs.Strand as held
 use Rattle.definitions.specs.Tables.{index-of}
 use Rattle.laws.proofs.Lists.{at-place}
-use Rattle.promises.proofs.Asserts.Lists.{All, more, all-at}
+use Rattle.laws.proofs.All.{All, more, all-at}
 use Rattle.split.specs.Acts.{built, with-made}
 use Rattle.split.specs.Decide as split
 use Rattle.split.specs.Decide.{View, table-of, literal-at, with-literal-floundered, decide-table, decide-from}

@@ -13,9 +13,10 @@ use Rattle.definitions.specs.Logic as logic
 use Rattle.definitions.specs.Slg.{next-subgoal-index}
 use Rattle.definitions.specs.Stop.{go}
 use Rattle.definitions.specs.Strand as held
-use Rattle.promises.proofs.Asserts.Lists.{All, is-nil, not-nil}
-use Rattle.promises.proofs.Asserts.Sound.{SoundClause}
-use Rattle.promises.proofs.Asserts.Returning.{late, lates, Returned}
+use Rattle.laws.proofs.All.{All}
+use Rattle.definitions.proofs.Lists.{is-nil, not-nil}
+use Rattle.asserts.proofs.Sound.{SoundClause}
+use Rattle.asserts.proofs.Returning.{late, lates, Returned}
 use Rattle.split.specs.Decide.{picking, table-of, literal-at, with-literal-floundered, decide-from}
 use Rattle.book.specs.View.{meant}
 use Rattle.strands.specs.declared.Selected.the-variants.{Nothing, Subgoal}

@@ -14,8 +14,10 @@ use Rattle.definitions.specs.Table.{Table}
 use Rattle.definitions.specs.Tables.{Tables, Forest, index-of}
 use Rattle.laws.proofs.Distinct.{few-distinct}
 use Rattle.laws.proofs.Options.{no-such, same-some}
-use Rattle.promises.proofs.Asserts.Lists.{All, all-first, all-rest, all-at, all-map, all-push, at-push, position-none}
-use Rattle.promises.proofs.Asserts.Sound.{TablesApart, SoundForest}
+use Rattle.laws.proofs.All.{All, all-first, all-rest, all-at, all-map}
+use Rattle.laws.proofs.Lists.{at-push}
+use Rattle.definitions.proofs.Lists.{all-push, position-none}
+use Rattle.asserts.proofs.Sound.{TablesApart, SoundForest}
 use Rattle.split.specs.Acts.{built, with-made}
 use Rattle.control.specs.declared.select_subgoal.Made.{Made}
 use Rattle.control.specs.SelectSubgoal.{noted-goals, New, Noted}

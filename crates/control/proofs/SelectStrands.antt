@@ -7,9 +7,9 @@ use lib.ListN.{length}
 use Rattle.definitions.specs.{ExClause}
 use Rattle.definitions.specs.Slg.{next-subgoal-index}
 use Rattle.definitions.specs.Stop.{Stops, go}
-use Rattle.promises.proofs.Asserts.Safe.{Safe, goes}
-use Rattle.promises.proofs.Asserts.Sound.{SoundClause}
-use Rattle.promises.proofs.Asserts.Returning.{Floundered, flounders, Returned, returns}
+use Rattle.asserts.proofs.Safe.{Safe, goes}
+use Rattle.asserts.proofs.Sound.{SoundClause}
+use Rattle.asserts.proofs.Returning.{Floundered, flounders, Returned, returns}
 use Rattle.strands.specs.declared.Strand.{Strand}
 use Rattle.strands.specs.Floundering.{flounder, reconsider}
 use Rattle.strands.specs.View.{Sound, clause}

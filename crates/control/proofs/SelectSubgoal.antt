@@ -10,9 +10,11 @@ use lib.ListN.{length}
 use Rattle.definitions.specs.{TimeStamp}
 use Rattle.definitions.specs.Lists.{is-empty}
 use Rattle.definitions.specs.Tables.{Forest}
-use Rattle.promises.proofs.Asserts.Lists.{end, place-under, not-nil}
-use Rattle.promises.proofs.Asserts.Sound.{Selects, SoundStrand}
-use Rattle.promises.proofs.Asserts.Choosing.{lates-few}
+use Rattle.laws.proofs.All.{end}
+use Rattle.laws.proofs.Lists.{place-under}
+use Rattle.definitions.proofs.Lists.{not-nil}
+use Rattle.asserts.proofs.Sound.{Selects, SoundStrand}
+use Rattle.asserts.proofs.Choosing.{lates-few}
 use Rattle.split.specs.Decide.{decide-from, decide-subgoal}
 use Rattle.strands.specs.declared.Selected.the-variants.{Nothing, Subgoal}
 use Rattle.strands.specs.declared.Selected.{Selected}

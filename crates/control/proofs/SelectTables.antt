@@ -20,7 +20,7 @@ use Rattle.split.specs.Acts.{built, with-made}
 use Rattle.split.specs.Decide.{or, no-table, table-of}
 use Rattle.split.proofs.Reading.{there-still, same-book}
 use Rattle.laws.proofs.Lists.{at-place}
-use Rattle.promises.proofs.Asserts.Lists.{All, all-first, all-rest}
+use Rattle.laws.proofs.All.{All, all-first, all-rest}
 use Rattle.book.specs.Access.{entry-by, entry}
 use Rattle.book.specs.View.{span}
 use Rattle.book.proofs.Spans.{span-length, span-ext}

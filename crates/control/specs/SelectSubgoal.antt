@@ -17,8 +17,8 @@ use Rattle.definitions.specs.Slg.{next-subgoal-index}
 use Rattle.definitions.specs.Stop.{Stops, stop, go}
 use Rattle.definitions.specs.Table.{Table}
 use Rattle.definitions.specs.Tables.{Forest, index-of}
-use Rattle.promises.proofs.Asserts.Lists.{All}
-use Rattle.promises.proofs.Asserts.Sound.{SoundClause}
+use Rattle.laws.proofs.All.{All}
+use Rattle.asserts.proofs.Sound.{SoundClause}
 use Rattle.split.specs.Acts.{built, with-made}
 use Rattle.split.specs.Decide.{View, Picked, picking, table-of}
 use Rattle.book.specs.Access.{entry}

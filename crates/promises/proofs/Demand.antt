@@ -21,7 +21,7 @@ use Rattle.definitions.specs.Claim.{MarkedSays, reply-stopped, AllSay, exceeded
 use Rattle.definitions.proofs.Refusal.{not-accepted, all-pass}
 use Rattle.laws.proofs.Options.{no-such}
 use Rattle.laws.proofs.Bools.{both-false}
-use Rattle.promises.proofs.Reading.{Good, read-good}
+use Rattle.asserts.proofs.Books.{Good, read-good}
 use Rattle.promises.proofs.Plain.Machine as M
 use Rattle.promises.proofs.Plain.Whole.{potential, initial-ok, initial-total}
 use Rattle.promises.proofs.Link.View.{t-end}

@@ -17,14 +17,14 @@ use Rattle.definitions.specs.Listing.{listing-rounds, listing-turns, listing-cl
 use Rattle.definitions.specs.Listing.{Listed, list-from, list-goal, list-goals, lines}
 use Rattle.definitions.specs.Model.{Each}
 use Rattle.laws.proofs.Bools.{case-bool}
-use Rattle.promises.proofs.Asserts.Safe.{case-safe}
-use Rattle.promises.proofs.Asserts.Sound.{Reached, SoundForest}
-use Rattle.promises.proofs.Asserts.Making.{makes}
-use Rattle.promises.proofs.Asserts.Unwinding.{Ended}
-use Rattle.promises.proofs.Asserts.Searches.{Fine, mark-kept}
-use Rattle.promises.proofs.Asserts.Peeks.{PeekWell, peeks-well}
-use Rattle.promises.proofs.Asserts.Bounds.{answers-at-most}
-use Rattle.promises.proofs.Asserts.Reading.{made-sound}
+use Rattle.asserts.proofs.Safe.{case-safe}
+use Rattle.asserts.proofs.Sound.{Reached, SoundForest}
+use Rattle.asserts.proofs.Making.{makes}
+use Rattle.asserts.proofs.Unwinding.{Ended}
+use Rattle.asserts.proofs.Searches.{Fine, mark-kept}
+use Rattle.asserts.proofs.Peeks.{PeekWell, peeks-well}
+use Rattle.asserts.proofs.Bounds.{answers-at-most}
+use Rattle.asserts.proofs.Reading.{made-sound}
 use Rattle.promises.proofs.ListingStored.{is-found, PeekStored, peek-stored}
 use Rattle.promises.specs.ListingWhole.{MayStand, StartsAt, Behind, InOrder, Whole, ListedAs, ListingWhole}
 

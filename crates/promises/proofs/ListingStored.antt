@@ -23,7 +23,7 @@ use Rattle.definitions.specs.Forest.{Peeked, is-invalid, is-exceeded, skip-inva
 use Rattle.laws.proofs.Options.{same-some, case-option}
 use Rattle.laws.proofs.Lists.{place-under}
 use Rattle.laws.proofs.Bools.{case-bool}
-use Rattle.promises.proofs.Asserts.Safe.{case-stops, stop-go, unwrapped}
+use Rattle.asserts.proofs.Safe.{case-stops, stop-go, unwrapped}
 
 -- how many answers a table has, if it is made
 abbrev answers-of : Option Table → ℕ

@@ -17,8 +17,8 @@ use Rattle.definitions.specs.Stack.{StackEntry, Stack, with-active, caller, no-
 use Rattle.definitions.specs.Logic.{QuantumExceeded, SolveState, Flow, continue, return-ok, return-err, activate, unwound}
 use Rattle.definitions.specs.Turn.{other-than, pursue-answer, create-refinement-strand, on-answer, on-no-remaining-subgoals}
 use Rattle.laws.proofs.Lists.{last-one, set-here}
-use Rattle.promises.proofs.Asserts.Keeping.{table-is, change-is}
-use Rattle.promises.proofs.Asserts.Safe.{unwraps}
+use Rattle.asserts.proofs.Keeping.{table-is, change-is}
+use Rattle.asserts.proofs.Safe.{unwraps}
 use Rattle.split.specs.Acts.{Deed, gives-up, flounders, answers, stored, answered, perform-deed, changed, top-table}
 use Rattle.split.specs.Decide.{table-of, decide-answer, decide-no-remaining}
 use Rattle.split.proofs.Matches.{Matches, asserts, both-go, Goes, asserting, going, goes-after, then, sure, by-option, guard, assert, by-bool}

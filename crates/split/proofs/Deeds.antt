@@ -20,7 +20,7 @@ use Rattle.definitions.specs.Stack.{StackEntry, Stack, is-active, top-of-stack-
 use Rattle.definitions.specs.Slg.{delay, apply-answer-subst}
 use Rattle.definitions.specs.Logic.{QuantumExceeded, SolveState, Flow, continue, return-err, most-strands, activate, enqueue-at-top, flounder-subgoal, Merge, merged, failed, next-answer-strand, enqueue-next-answer, no-solution, merge-into, merge-answer-into-strand}
 use Rattle.definitions.specs.Turn.{on-coinductive-subgoal, cycle-minimums, on-positive-cycle, coinductive-entries, on-cycle, on-subgoal-selected}
-use Rattle.promises.proofs.Asserts.Keeping.{queued-enqueue}
+use Rattle.asserts.proofs.Keeping.{queued-enqueue}
 use Rattle.split.specs.Acts.{Deed, goes-on, gives-up, cycles, perform-deed, copied, queued-at-top}
 use Rattle.split.specs.Decide.{or, no-literal, no-table, no-selected, literal-at, table-of, with-literal-floundered, decide-copy, decide-into, decide-merge, decide-coinductive, all-coinductive, decide-cycle, decide-awaiting, decide-selected}
 use Rattle.split.proofs.Matches.{Matches, asserts, both-stop, both-go, Goes, asserting, going, goes-after, goes-unwrap, after, then, after-same, sure, on-unwrap, by-option, guard, assert, by-bool}

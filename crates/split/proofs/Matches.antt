@@ -5,7 +5,7 @@ use mathlib.Core.Path.{_≡_, refl, sym, ap, subst, _∙_}
 use mathlib.Core.Bool.{Bool, true, false}
 use mathlib.Core.Option.{Option, none, some}
 use Rattle.definitions.specs.Stop.{Stops, stop, go, _>>=_, _>>_, stop-if, unwrap}
-use Rattle.promises.proofs.Asserts.Safe.{Safe, stops, goes}
+use Rattle.asserts.proofs.Safe.{Safe, stops, goes}
 use Rattle.split.specs.Decide.{or}
 
 pub data Matches {A B : Type 0} (R : A → B → Type 0) : Stops A → Stops B → Type 0 where

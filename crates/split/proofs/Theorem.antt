@@ -15,11 +15,11 @@ use Rattle.definitions.specs.Stack.{StackEntry, Stack, with-active, active}
 use Rattle.definitions.specs.Logic.{SubGoalSelection, Selected, NotSelected, SolveState, with-forest, Flow, continue, return-ok, return-err, select-subgoal}
 use Rattle.definitions.specs.Turn.{on-subgoal-selected, on-no-remaining-subgoals, on-no-strands-left, eligible, turn, Searched, stopped, fail, put-back, ok-ending, search-turns}
 use Rattle.definitions.proofs.Lists.{position-at}
-use Rattle.promises.proofs.Asserts.Safe.{Safe}
-use Rattle.promises.proofs.Asserts.Keeping.{change-is}
-use Rattle.promises.proofs.Asserts.Sound.{SoundState}
-use Rattle.promises.proofs.Asserts.Unwinding.{Flows}
-use Rattle.promises.proofs.Asserts.Turns.{turn-keeps}
+use Rattle.asserts.proofs.Safe.{Safe}
+use Rattle.asserts.proofs.Keeping.{change-is}
+use Rattle.asserts.proofs.Sound.{SoundState}
+use Rattle.asserts.proofs.Unwinding.{Flows}
+use Rattle.asserts.proofs.Turns.{turn-keeps}
 use Rattle.split.specs.Acts.{Origin, was-active, was-queued, Deed, Act, takes, perform-deed, perform, taken, with-made, changed}
 use Rattle.split.specs.Decide.{or, no-table, no-strand, table-of, Picked, picking, decide-subgoal, decide-deed, decide-idle, decide}
 use Rattle.split.proofs.Matches.{Matches, asserts, both-stop, both-go, after, on-unwrap, matched, safe-too}

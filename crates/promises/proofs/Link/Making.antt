@@ -15,7 +15,7 @@ use Rattle.definitions.specs.Table.{Table}
 use Rattle.definitions.specs.Tables.{Tables, Forest, index-of}
 use Rattle.definitions.specs.Model.{Each, PlainLiteral, PlainClause, PlainGoal}
 use Rattle.definitions.specs.Logic.{initial-strand, build-table, get-or-create-table-for-ucanonical-goal}
-use Rattle.laws.proofs.Lists.{at-append, last-one}
+use Rattle.laws.proofs.Lists.{at-append, last-one, at-place}
 use Rattle.laws.proofs.Options.{no-such, same-some}
 use Rattle.laws.proofs.Sums.{sum}
 use Rattle.promises.proofs.Plain.Model.{Lit, Body}
@@ -79,11 +79,6 @@ pub record Made (book : Book) (limit mark : ℕ) (gs : List ℕ) (ts : Tables) (
   pub more : Extends gs goals
   pub at : getElem? goals place ≡ some h
   pub agree : Agree book goals after (M.make p h)
-
-goal-at : (book : Book) (h : ℕ) → h < length book → (G : Goal) × (getElem? book h ≡ some G)
-goal-at [] h lt = absurd (omega arith)
-goal-at (G ∷ book) zero lt = (G, refl)
-goal-at (G ∷ book) (suc h) lt = goal-at book h (omega arith)
 
 made-put : (f : ℕ → Bool) (h g : ℕ) → f g ≡ true → M.put f h true g ≡ true
 made-put f h g e = go (ℕ-discrete h g)
@@ -198,4 +193,4 @@ module _ {book : Book} (sound : Sound book) (limit mark : ℕ) {gs : List ℕ} {
         at = k;
         agree = found-made a h;
       }
-      go none e (found-none n) = let G = goal-at book h lt in make-new e n (G .0) (G .1)
+      go none e (found-none n) = let G = at-place book h lt in make-new e n (G .0) (G .1)

@@ -12,6 +12,7 @@ use Rattle.definitions.specs.Book.{Book, Goal, Clause, Literal, Positive, Negat
 use Rattle.definitions.specs.Model as D
 use Rattle.definitions.specs.Model.{Each, PlainClause, clauses-of, LevelLiteral, Holds, holds-end, holds-below, holds-here, holds-not}
 use Rattle.laws.proofs.Sums.{sum, sum-shift}
+use Rattle.laws.proofs.Lists.{place-under}
 use Rattle.promises.proofs.Plain.Model as P
 use Rattle.promises.proofs.Plain.Model.{Lit, pos, neg, Body, LevelLit, LevelBody, levels, levels-end, Derived, done, lower, here}
 use Rattle.promises.proofs.Plain.Model.{absent, either}
@@ -63,17 +64,12 @@ levelled-is book level l g b m =
     subst (LevelBody level (level g)) (sym (r .2)) (level-body level (level g) (r .0 .literals) (l g (r .0) (r .1)))
 
 -- every clause belongs to a goal of the book
-goal-within : (book : Book) (g : ℕ) (G : Goal) → getElem? book g ≡ some G → g < length book
-goal-within [] g G e = let z : _≡_ {A = ℕ} 0 1 = cc in absurd (omega arith)
-goal-within (x ∷ book) zero G e = omega arith
-goal-within (x ∷ book) (suc g) G e = let r = goal-within book g G e in omega arith
-
 pub inside-is : (book : Book) → Inside (book-of book) (length book)
 inside-is book g b m = go (getElem? book g) refl m
   where
     go : (o : Option Goal) → getElem? book g ≡ o → List·Memᴰ b (bodies (elim o [ none ↦ [] | some G ↦ G .clauses ])) → g < length book
     go none e x = absurd (List·Memᴰ·not-nil x)
-    go (some G) e x = goal-within book g G e
+    go (some G) e x = place-under book g G e
 
 -- How many clauses.
 

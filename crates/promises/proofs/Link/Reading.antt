@@ -12,7 +12,7 @@ use Rattle.definitions.specs.Book.{Book, Goal, Clause, Literal, Positive, Negat
 use Rattle.definitions.specs.Model.{Each, Plain, PlainGoal}
 use Rattle.laws.proofs.Options.{no-such, same-some}
 use Rattle.laws.proofs.Bools.{both-true}
-use Rattle.promises.proofs.Reading.{Good}
+use Rattle.asserts.proofs.Books.{Good}
 use Rattle.promises.proofs.Plain.Model.{Lit, Body, literal-goal}
 use Rattle.promises.proofs.Link.View.{Names, names, names-end}
 use Rattle.promises.proofs.Link.Tables.{lit, body-of}

@@ -5,11 +5,11 @@ use native.Mathlib.Decide.{decLt}
 use mathlib.Core.Path.{_≡_, refl, sym, ap, subst, _∙_}
 use mathlib.Core.Bool.{Bool, true, false, false≢true}
 use mathlib.Core.Logic.{_⊎_, inl, inr}
-use mathlib.Core.List.{List, [], _∷_, List·Memᴰ, List·Memᴰ·head, List·Memᴰ·tail, List·Memᴰ·not-nil, List·Memᴰ·cases-cons, map}
+use mathlib.Core.List.{List, [], _∷_, List·Memᴰ, List·Memᴰ·head, List·Memᴰ·not-nil, map, Memᴰ·map, Memᴰ·of-map}
 use Rattle.promises.proofs.Plain.Model.{Body, Book, either, In, Levelled, closed, unfounded}
 use Rattle.promises.proofs.Plain.Steps.{Setting, Good, Fine, fine-step, step-trans, Holds, moved, step-on, step-tick}
 use Rattle.promises.proofs.Plain.Cases.{Inv}
-use lib.ListN.{length}
+use lib.ListN.{length, length-map}
 use Rattle.laws.proofs.Sums.{sum, sum-mono, sum-drop}
 use Rattle.promises.proofs.Plain.Claim.{Reply, Plainly, Says, AllSay, agains, Inside, Demand}
 use Rattle.promises.proofs.Plain.Machine.{Limits, Strand, Entry, Forest, take-from, Outcome, found, no-more-left, again, cut}
@@ -236,31 +236,18 @@ calls-ok S (c ∷ cs) m f rest =
     let r = calls-ok S cs (marked m (call-on (S .limits) m c f .0)) (call-on (S .limits) m c f .2) (k .rest) in
     ((k .says, r .0), (let x = k .falls in let y = r .1 in omega arith))
 
-mem-map : (bs : List Body) (s : Strand) → List·Memᴰ s (map fresh bs) → (c : Body) × List·Memᴰ c bs × (fresh c ≡ s)
-mem-map [] s m = absurd (List·Memᴰ·not-nil m)
-mem-map (b ∷ bs) s m = either (λ p. (b, List·Memᴰ·head refl, sym p)) (λ x. let r = mem-map bs s x in (r .0, List·Memᴰ·tail (r .1), r .2))
-    (List·Memᴰ·cases-cons m)
-
-map-mem : (bs : List Body) (c : Body) → List·Memᴰ c bs → List·Memᴰ (fresh c) (map fresh bs)
-map-mem bs c (List·Memᴰ·head p) = List·Memᴰ·head (ap fresh p)
-map-mem bs c (List·Memᴰ·tail {xs = xs} m) = List·Memᴰ·tail (map-mem xs c m)
-
-map-length : (bs : List Body) → length (map fresh bs) ≡ length bs
-map-length [] = refl
-map-length (b ∷ bs) = ap suc (map-length bs)
-
 -- a forest just made
 pub initial-ok : (S : Setting) → Ready S (initial (S .book))
 initial-ok S = record {
   fine = record {
     good = λ g s h. from g s h (λ c m. record { inside = S .inside g c m; sound = S .closed g c m; levels = S .levelled g c m });
-    timely = λ g s h. subst (λ z. z .time ≤ 0) (mem-map (S .book g) s (queued g s h) .2) (omega arith);
+    timely = λ g s h. subst (λ z. z .time ≤ 0) (Memᴰ·of-map fresh (S .book g) (queued g s h) .2) (omega arith);
     proved = λ g a. absurd (false≢true a);
     quiet = λ g a. absurd (false≢true a);
-    kept = λ g a c m. inr (fresh c, inl (map-mem (S .book g) c m), λ l x. x);
+    kept = λ g a c m. inr (fresh c, inl (Memᴰ·map fresh m), λ l x. x);
   };
   bound = omega arith;
-  live = λ u. let x = map-length (S .book u) in omega arith;
+  live = λ u. let x = length-map (S .book u) fresh in omega arith;
 }
   where
     queued : (g : ℕ) (s : Strand) → Holds (initial (S .book) .queue) [] g s → List·Memᴰ s (map fresh (S .book g))
@@ -269,11 +256,11 @@ initial-ok S = record {
 
     from : (g : ℕ) (s : Strand) → Holds (initial (S .book) .queue) [] g s → ((c : Body) → List·Memᴰ c (S .book g) → Good S g (fresh c))
         → Good S g s
-    from g s h k = let r = mem-map (S .book g) s (queued g s h) in subst (Good S g) (r .2) (k (r .0) (r .1))
+    from g s h k = let r = Memᴰ·of-map fresh (S .book g) (queued g s h) in subst (Good S g) (r .2) (k (r .0) (r .1))
 
 pub initial-total : (n : ℕ) (book : Book) → sum n (size (initial book) []) ≤ n + sum n (λ g. length (book g))
 initial-total zero book = omega arith
-initial-total (suc n) book = let x = initial-total n book in let y = map-length (book n) in omega arith
+initial-total (suc n) book = let x = initial-total n book in let y = length-map (book n) fresh in omega arith
 
 -- the strands of all tables are never more than the clauses
 pub ready-strands : (S : Setting) (f : Forest) → Ready S f
