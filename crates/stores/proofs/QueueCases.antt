@@ -1,5 +1,5 @@
--- The sign of a strand's selected literal; looking along a queue: what `find_strand` finds by where the first eligible strand stands, and that looking and then unlinking is taking.
--- From the laws of walks.
+-- The sign of a strand's selected literal; looking along a queue: what `find_strand` finds by where the first eligible strand stands, and
+-- that looking and then unlinking is taking. From the laws of walks.
 use Prim.Native.Nat.{ℕ, zero, suc, _+_, _-_, _≤_, _<_}
 use native.Mathlib.Numerals.{add-one}
 use native.Mathlib.Omega.{arith}

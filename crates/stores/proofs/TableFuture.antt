@@ -35,7 +35,8 @@ any-cong : {A : Type 0} (f g : A → Bool) (l : List A) → All (λ x. f x ≡ g
 any-cong f g [] a = refl
 any-cong f g (x ∷ l) a = ap₂ (λ (b c : Bool). b || c) (a .0) (any-cong f g l (a .1))
 
-module _ (fresh : FirstStrands) (ts : Tables) (s : Strands) (a : Answers) (held : List ℕ) (t i v : ℕ) (h : t < ts .count) (ss : SoundStrands fresh s (ts .count) held)
+module _ (fresh : FirstStrands) (ts : Tables) (s : Strands) (a : Answers) (held : List ℕ) (t i v : ℕ) (h : t < ts .count)
+    (ss : SoundStrands fresh s (ts .count) held)
     (rs : SoundAnswers a (ts .count)) where
   abbrev stored-test : said.Answer → Bool
   stored-test b = eqb (b .variant) v
@@ -63,8 +64,10 @@ module _ (fresh : FirstStrands) (ts : Tables) (s : Strands) (a : Answers) (held 
   future-view f is stored queued es eq =
       ap (λ (l : List Table). here (getElem? l t)) is ∙ ap here (span-at (held-table fresh ts s a) (ts .count) t h)
       ∙ ap₂ (λ (x y : Bool). x || y)
-      (sym (es ∙ any-found stored-test (answer-at a) (a .places) [] (rs .places) (a .variant) (a .key) 0 (λ q k. ap (λ (n : ℕ). eqb n v) (rs .stored t q h k .is-variant)) i))
-      (sym (eq ∙ any-found queued-test (strand-at fresh s) (s .places) held (ss .places) (s .variant) (s .time) 0 (λ q k. ap (λ (n : ℕ). eqb n v) (ss .queued t q h k .is-variant)) 0))
+      (sym (es ∙ any-found stored-test (answer-at a) (a .places) [] (rs .places) (a .variant) (a .key) 0
+      (λ q k. ap (λ (n : ℕ). eqb n v) (rs .stored t q h k .is-variant)) i))
+      (sym (eq ∙ any-found queued-test (strand-at fresh s) (s .places) held (ss .places) (s .variant) (s .time) 0
+      (λ q k. ap (λ (n : ℕ). eqb n v) (ss .queued t q h k .is-variant)) 0))
     where
       here : Option Table → Bool
       here o = elim o [

@@ -14,7 +14,8 @@ use Rattle.stores.proofs.ListsSpans.{first-if}
 use Rattle.stores.proofs.NumbersSearch.{position-from}
 
 -- `index_of` of the definitions, by what `first_of` finds among the tables' goals
-pub index-of-view : (fresh : FirstStrands) (ts : Tables) (s : Strands) (a : Answers) (goal r : ℕ) → ts .count ≤ 64 → r ≡ first-at (λ i. eqb (getD (ts .goal) i 0) goal) 0 (within (ts .count))
+pub index-of-view : (fresh : FirstStrands) (ts : Tables) (s : Strands) (a : Answers) (goal r : ℕ) → ts .count ≤ 64
+    → r ≡ first-at (λ i. eqb (getD (ts .goal) i 0) goal) 0 (within (ts .count))
     → index-of goal (tables fresh ts s a) ≡ first-if (ltb r (ts .count)) r
 index-of-view fresh ts s a goal r few e =
     let w : within (ts .count) ≡ ts .count = omega arith in
