@@ -12,8 +12,19 @@ use borrow.Author.Tests.{eqb-true}
 use Rattle.rings.specs.Lists.{one, times, turned}
 use Rattle.rings.proofs.Counts.{is-or-not, times-append, times-self, times-out}
 use Rattle.rings.proofs.Walks.{length-walk}
-use Rattle.rings.proofs.RingViews.{ring-enqueue-own, ring-enqueue-other, ring-enqueue-sound, ring-unlink-own, ring-unlink-other}
-use Rattle.rings.proofs.RingViews.{ring-unlink-sound, ring-unlink-out, ring-unlink-used, ring-fresh-top, ring-start, ring-start-sound}
+use Rattle.rings.proofs.RingViews.{
+  ring-enqueue-own,
+  ring-enqueue-other,
+  ring-enqueue-sound,
+  ring-unlink-own,
+  ring-unlink-other,
+  ring-unlink-sound,
+  ring-unlink-out,
+  ring-unlink-used,
+  ring-fresh-top,
+  ring-start,
+  ring-start-sound,
+}
 use Rattle.stores.specs.declared.places.Places.{Places}
 use Rattle.stores.specs.Numbers.{free}
 use Rattle.stores.specs.Places.{ring, enqueued, taken-at, popped, begun, blank-places}

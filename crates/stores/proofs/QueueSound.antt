@@ -23,8 +23,17 @@ use Rattle.stores.specs.Queue.{waits-of, wants-of, with-places, with-num
 use Rattle.stores.specs.Queue.{freed-strands, blank-strand, blank-strands}
 use Rattle.stores.proofs.ListsAlike.{Alike, times-at, times-cases}
 use Rattle.stores.proofs.PlacesWaiting.{sound-alike, sound-grown}
-use Rattle.stores.proofs.PlacesViews.{enqueued-own, enqueued-other, enqueued-sound, given-sound, given-other, taken-own}
-use Rattle.stores.proofs.PlacesViews.{taken-other, taken-sound, blank-places-sound}
+use Rattle.stores.proofs.PlacesViews.{
+  enqueued-own,
+  enqueued-other,
+  enqueued-sound,
+  given-sound,
+  given-other,
+  taken-own,
+  taken-other,
+  taken-sound,
+  blank-places-sound,
+}
 use Rattle.stores.proofs.PlacesCases.{freed-sound}
 use Rattle.stores.proofs.PlacesMoves.{moved-own, moved-other, moved-sound}
 use Rattle.stores.proofs.QueueCases.{waits-written}

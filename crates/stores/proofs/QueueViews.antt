@@ -31,8 +31,18 @@ use Rattle.stores.specs.Sound.{SoundPlaces, InUse, FirstOf, Long, SoundS
 use Rattle.stores.specs.Queue.{waits-of, wants-of, with-places, strands-of, with-numbers, written, made-fresh}
 use Rattle.stores.specs.Queue.{enqueued-strand, given, test-at, taken-strand, strand-place, any-strand, cleared, freed-strands}
 use Rattle.stores.proofs.NumbersCases.{flag-of}
-use Rattle.stores.proofs.ListsSpans.{span-same, span-set, first-if, position-is, first-map, first-cong, rotate-front, map-turned}
-use Rattle.stores.proofs.ListsSpans.{map-at, all-times}
+use Rattle.stores.proofs.ListsSpans.{
+  span-same,
+  span-set,
+  first-if,
+  position-is,
+  first-map,
+  first-cong,
+  rotate-front,
+  map-turned,
+  map-at,
+  all-times,
+}
 use Rattle.stores.proofs.PlacesViews.{enqueued-own, enqueued-other, given-other, taken-own, taken-other}
 use Rattle.stores.proofs.PlacesCases.{freed-sound}
 use Rattle.stores.proofs.PlacesMoves.{moved-own, moved-other}

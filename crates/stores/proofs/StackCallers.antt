@@ -12,8 +12,16 @@ use lib.Seq.{getD-set-same, getD-set-other}
 use lib.Dec.{eqb}
 use borrow.Author.Tests.{lt-ltb, eq-eqb, ne-eqb, eqb-true, eqb-false}
 use Rattle.definitions.specs.Stop.{go, _>>=_, unwrap}
-use Rattle.definitions.specs.Stack.{StackEntry, with-active, no-caller, caller, pop-and-take-caller-strand, pop-and-borrow-caller-strand}
-use Rattle.definitions.specs.Stack.{active, active-count}
+use Rattle.definitions.specs.Stack.{
+  StackEntry,
+  with-active,
+  no-caller,
+  caller,
+  pop-and-take-caller-strand,
+  pop-and-borrow-caller-strand,
+  active,
+  active-count,
+}
 use Rattle.definitions.specs.Strand as said-strand
 use Rattle.rings.specs.Lists.{times}
 use Rattle.rings.specs.Rings.{most-places, place-if}

@@ -25,8 +25,22 @@ use Rattle.stores.specs.Numbers.{flag, flag-number}
 use Rattle.stores.specs.Places.{ring, freed, free-place, numbered, found-or, found-in}
 use Rattle.stores.specs.View.{FirstStrands, answer-at, held-table, tables}
 use Rattle.stores.specs.Sound.{GoodAnswer, Stored, SoundAnswers}
-use Rattle.stores.specs.Table.{key-of, with-answer-places, written-answer, answer-stored, repeated-of, new-if, outcome-if, room-if}
-use Rattle.stores.specs.Table.{pushed-if, same-place, push-outcome, pushed-places, PushMeans, PushLeaves}
+use Rattle.stores.specs.Table.{
+  key-of,
+  with-answer-places,
+  written-answer,
+  answer-stored,
+  repeated-of,
+  new-if,
+  outcome-if,
+  room-if,
+  pushed-if,
+  same-place,
+  push-outcome,
+  pushed-places,
+  PushMeans,
+  PushLeaves,
+}
 use Rattle.stores.proofs.ListsSpans.{all-times}
 use Rattle.stores.proofs.NumbersCases.{flag-of}
 use Rattle.stores.proofs.PlacesWaiting.{waiting-same}

@@ -106,5 +106,6 @@ abbrev pub active-places : List ℕ → ℕ → List ℕ
 active-places active zero = []
 active-places active (suc n) = elim (eqb (getD active n 0) most-places) [
   | true ↦ active-places active n
-  | false ↦ getD active n 0 ∷ active-places active n
+  | false ↦ getD active n 0
+      ∷ active-places active n
 ]
