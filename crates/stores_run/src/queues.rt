@@ -310,8 +310,8 @@ fn enqueue(s: Strands, t: u8, q: u8) -> Strands
     r
 }
 
-// The first strand that was pursued before the time is taken, written at this time, and enqueued again. A fresh place's is written there for
-// the first time, with its clause's variant, which stands beside it.
+// The first strand that was pursued before the time is taken, written at this time, and enqueued again. A fresh place's is written there
+// for the first time, with its clause's variant, which stands beside it.
 fn pursue(s: Strands, t: u8, clock: u64) -> Strands {
     let d = take(s, t, clock);
     let q = d.place;

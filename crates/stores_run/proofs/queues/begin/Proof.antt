@@ -8,15 +8,15 @@ fresh-places-requires c κs = search needs
 
 returns : tie.Need-returns
 returns c =
-    let clauses-lent = c .before .before .before in
+    let made = c .before in
+    let clauses-lent = made .before .before .before in
     let numbers-lent = clauses-lent .before .before .before in
     let places-lent = numbers-lent .before .before .before in
     let copied = places-lent .before .before .before in
     let half = copied .before .before .before in
     let first = half .before .before .before in
-    let time = first .before .before .before in
-    let a = time .before .args in
-    c .fresh-places .ensures (a .s .strands)
+    let a = first .before .before .before .args in
+    made .fresh-places .ensures (a .s .strands)
 
 pub begin-spec : {M : Type 1} → statement M
 begin-spec = tie.close (tie.spec fresh-places-requires returns)

@@ -15,7 +15,8 @@ returns c =
     let a = lent .before .before .before .before .args in
     let r = c .ring-enqueue in
     ap (with-places (a .s))
-    (enqueued-is (a .s .places) (a .t) (a .q) (r .last .0) (r .last .1 .0) (r .last .1 .1 .0) (r .ensures .0) (r .ensures .1) (r .ensures .2))
+    (enqueued-is (a .s .places) (a .t) (a .q) (r .last .0) (r .last .1 .0) (r .last .1 .1 .0) (r .ensures .0) (r .ensures .1)
+    (r .ensures .2))
 
 pub enqueue-spec : {M : Type 1} → statement M
 enqueue-spec = tie.close (tie.spec ring-enqueue-requires returns)

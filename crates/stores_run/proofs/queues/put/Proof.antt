@@ -15,7 +15,8 @@ returns c =
     let copied = lent .before .before .before in
     let a = copied .before .before .args in
     let l = p .take-place .last in
-    put-none (a .s) (a .t) (a .at) (a .x) (l .0) (l .1 .1 .0) (l .1 .1 .1 .0) (p .take-place .result) (p .take-place .ensures) (search needs)
+    put-none (a .s) (a .t) (a .at) (a .x) (l .0) (l .1 .1 .0) (l .1 .1 .1 .0) (p .take-place .result) (p .take-place .ensures)
+    (search needs)
 
 cast-ring-enqueue : tie.Need-cast-ring-enqueue
 cast-ring-enqueue c = search needs
@@ -40,7 +41,8 @@ returns-2 c =
     let copied = lent .before .before .before in
     let a = copied .before .before .args in
     let l = p .take-place .last in
-    put-some (a .s) (a .t) (a .at) (a .x) (l .0) (l .1 .1 .0) (l .1 .1 .1 .0) (p .take-place .result) (p .take-place .ensures) (search needs)
+    put-some (a .s) (a .t) (a .at) (a .x) (l .0) (l .1 .1 .0) (l .1 .1 .1 .0) (p .take-place .result) (p .take-place .ensures)
+    (search needs)
     (c .write .result) (c .write .ensures) (e .last .0) (e .last .1 .0) (e .last .1 .1 .0) (e .ensures .0) (e .ensures .1) (e .ensures .2)
 
 pub put-spec : {M : Type 1} → statement M
