@@ -24,9 +24,9 @@ use Rattle.control.specs.SelectSubgoal.{select-subgoal}
 
 -- A table with no answer for the strand, whose lowest entry of n is at this height.
 module _ (entry-table coinductive : List ℕ) (depth t n height : ℕ) (n-is : n ≡ within depth)
-    (height-is : height ≡ height-of entry-table coinductive depth t) where
+    (height-is : height ≡ height-of entry-table depth t) where
   abbrev lowest : ℕ
-  lowest = height-of entry-table coinductive depth t
+  lowest = height-of entry-table depth t
 
   pub says-push : n ≤ height → looks.Push t ≡ on-stack entry-table coinductive depth t
   says-push h =
@@ -45,7 +45,7 @@ module _ (entry-table coinductive : List ℕ) (depth t n height : ℕ) (n-is : n
 
 -- The answer at an index of the table, looked for at the place p.
 module _ (entry-table coinductive : List ℕ) (depth : ℕ) (answer-next answer-tail answer-len : List ℕ) (t index p : ℕ)
-    (is : p ≡ answer-place entry-table coinductive depth answer-next answer-tail answer-len t index) where
+    (is : p ≡ answer-place answer-next answer-tail answer-len t index) where
   abbrev else-look : Look
   else-look = on-stack entry-table coinductive depth t
 

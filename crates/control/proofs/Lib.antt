@@ -2,7 +2,10 @@
 -- models mean, and what they keep and leave (Leaves).
 pub mod Decisions
 pub mod Seen
+pub mod Stores
 pub mod EnsureRootAnswerCases
+pub mod EnsureRootAnswerFirst
+pub mod EnsureRootAnswer
 pub mod SelectCases
 pub mod SelectTables
 pub mod SelectRoom
@@ -17,6 +20,7 @@ pub mod OnSubgoalSelectedLeaves
 pub mod OnNoRemainingSubgoalsCases
 pub mod OnNoRemainingSubgoals
 pub mod ChooseCases
+pub mod ChooseLook
 pub mod OnNoStrandsLeftCases
 pub mod ClearStrandsAfterCycleCases
 pub mod ClearStrandsAfterCycleSound

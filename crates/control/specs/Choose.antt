@@ -43,25 +43,30 @@ abbrev pub look-by : (stored : Bool) → (place : ℕ) → Look → Look
 look-by true place look = looks.Answer place
 look-by false place look = look
 
-module _ (entry-table coinductive : List ℕ) (depth : ℕ) where
-  -- the lowest entry of table t
-  abbrev pub height-of : (t : ℕ) → ℕ
-  height-of t = first-at (λ i. eqb (getD entry-table i 0) t) 0 (within depth)
+-- the lowest entry of table t
+abbrev pub height-of : (entry-table : List ℕ) → (depth t : ℕ) → ℕ
+height-of entry-table depth t = first-at (λ i. eqb (getD entry-table i 0) t) 0 (within depth)
 
+-- the place of the answer at an index of table t
+abbrev pub answer-place : (answer-next answer-tail answer-len : List ℕ) → (t index : ℕ) → ℕ
+answer-place answer-next answer-tail answer-len t index =
+    place-if (ltb index (getD answer-len t 0)) (getD (ring-of answer-next answer-tail answer-len t) index 0)
+
+module _ (entry-table coinductive : List ℕ) (depth : ℕ) where
   -- all entries from a height up to the top are of coinductive tables
   abbrev pub coinductive-from : (height : ℕ) → Bool
   coinductive-from height = all-from (coinductive-at entry-table coinductive) height (within depth - height)
 
   abbrev pub on-stack : (t : ℕ) → Look
-  on-stack t = on-stack-by (leb (within depth) (height-of t)) (coinductive-from (height-of t)) t (height-of t)
+  on-stack t =
+      on-stack-by (leb (within depth) (height-of entry-table depth t)) (coinductive-from (height-of entry-table depth t)) t
+      (height-of entry-table depth t)
 
   module _ (answer-next answer-tail answer-len : List ℕ) where
-    -- the place of the answer at an index of table t
-    abbrev pub answer-place : (t index : ℕ) → ℕ
-    answer-place t index = place-if (ltb index (getD answer-len t 0)) (getD (ring-of answer-next answer-tail answer-len t) index 0)
-
     abbrev pub look-at : (t index : ℕ) → Look
-    look-at t index = look-by (ltb (answer-place t index) 256) (answer-place t index) (on-stack t)
+    look-at t index =
+        look-by (ltb (answer-place answer-next answer-tail answer-len t index) 256)
+        (answer-place answer-next answer-tail answer-len t index) (on-stack t)
 
     abbrev pub selected-sight : Selected → Sight
     selected-sight selected.Nothing = sights.Nothing

@@ -6,3 +6,5 @@ pub mod OnNoRemainingSubgoals
 pub mod Choose
 pub mod OnNoStrandsLeft
 pub mod ClearStrandsAfterCycle
+pub mod Stores
+pub mod Turn

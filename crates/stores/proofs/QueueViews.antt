@@ -192,13 +192,13 @@ module _ (fresh : FirstStrands) (ts : Tables) (a : Answers) (s : Strands) (held 
       ∙ sym (first-cong (test-at clock complete s) (λ q. test (strand-at fresh s q)) places
       (all-times (λ q. test-at clock complete s q ≡ test (strand-at fresh s q)) places (λ q k. test-is fresh s clock (getD (ts .complete) t 0) q (sound .queued t q h k))))
 
-  found : (b : Bool) → any-strand clock complete t s ≡ b → position test (strands-of fresh s t) ≡ first-if b j
-  found b e = position-is test (strands-of fresh s t) ∙ ap₂ (λ (i m : ℕ). first-if (ltb i m) i) first-is (length-map places (strand-at fresh s)) ∙ ap (λ (c : Bool). first-if c j) e
+  pub first-eligible : (b : Bool) → any-strand clock complete t s ≡ b → position test (strands-of fresh s t) ≡ first-if b j
+  first-eligible b e = position-is test (strands-of fresh s t) ∙ ap₂ (λ (i m : ℕ). first-if (ltb i m) i) first-is (length-map places (strand-at fresh s)) ∙ ap (λ (c : Bool). first-if c j) e
 
   -- none where none is found
   pub taken-none : any-strand clock complete t s ≡ false → dequeue-next-strand-that test (held-table fresh ts s a t) ≡ none
   taken-none e =
-      ap (λ (o : Option ℕ). elim o [ none ↦ none | some first ↦ pop-front (with-strands (held-table fresh ts s a t) (rotate-left (strands-of fresh s t) first)) ]) (found false e)
+      ap (λ (o : Option ℕ). elim o [ none ↦ none | some first ↦ pop-front (with-strands (held-table fresh ts s a t) (rotate-left (strands-of fresh s t) first)) ]) (first-eligible false e)
 
   module _ (e : any-strand clock complete t s ≡ true) where
     there : j < length places
@@ -226,7 +226,7 @@ module _ (fresh : FirstStrands) (ts : Tables) (a : Answers) (s : Strands) (held 
         let d : said-strand.Strand = strand-at fresh s 256 in
         let k : j < length l = omega (arith, there, length-map places (strand-at fresh s)) in
         let f : rotate-left l j ≡ strand-at fresh s (getD places j 0) ∷ turned j l = rotate-front l j d k ∙ ap (λ (x : said-strand.Strand). x ∷ turned j l) (map-at (strand-at fresh s) places j 0 d there) in
-        ap (λ (o : Option ℕ). elim o [ none ↦ none | some first ↦ pop-front (with-strands (held-table fresh ts s a t) (rotate-left l first)) ]) (found true e)
+        ap (λ (o : Option ℕ). elim o [ none ↦ none | some first ↦ pop-front (with-strands (held-table fresh ts s a t) (rotate-left l first)) ]) (first-eligible true e)
         ∙ ap (λ (m : List said-strand.Strand). pop-front (with-strands (held-table fresh ts s a t) m)) f
         ∙ ap₂ (λ (x : said-strand.Strand) (m : List said-strand.Strand). some (x, with-strands (held-table fresh ts s a t) m)) (ap (strand-at fresh s) (sym place-is))
         (sym own ∙ ap (λ (r : Strands). strands-of fresh r t) (sym taken-is))
