@@ -22,3 +22,4 @@ pub mod ClearStrandsAfterCycleCases
 pub mod ClearStrandsAfterCycleSound
 pub mod ClearStrandsAfterCycleDecides
 pub mod ClearStrandsAfterCycleEmptied
+pub mod UnwindStackCases

@@ -6,3 +6,4 @@ pub mod OnNoRemainingSubgoals
 pub mod Choose
 pub mod OnNoStrandsLeft
 pub mod ClearStrandsAfterCycle
+pub mod UnwindStack
