@@ -23,3 +23,5 @@ pub mod ClearStrandsAfterCycleSound
 pub mod ClearStrandsAfterCycleDecides
 pub mod ClearStrandsAfterCycleEmptied
 pub mod UnwindStackCases
+pub mod OnPositiveCycleCases
+pub mod PerformDeedCases

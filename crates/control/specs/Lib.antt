@@ -7,3 +7,5 @@ pub mod Choose
 pub mod OnNoStrandsLeft
 pub mod ClearStrandsAfterCycle
 pub mod UnwindStack
+pub mod OnPositiveCycle
+pub mod PerformDeed
