@@ -39,7 +39,8 @@ pub no-caller-view : (fresh : FirstStrands) (k : Stack) (s : Strands) → k .dep
     → (pop-and-take-caller-strand (entered fresh k s) ≡ go no-caller) × (pop-and-borrow-caller-strand (entered fresh k s) ≡ go no-caller)
 no-caller-view fresh k s h = go-on (k .depth) h
   where
-    go-on : (n : ℕ) → n < 2 → (pop-and-take-caller-strand (entries fresh k s n) ≡ go no-caller) × (pop-and-borrow-caller-strand (entries fresh k s n) ≡ go no-caller)
+    go-on : (n : ℕ) → n < 2 → (pop-and-take-caller-strand (entries fresh k s n) ≡ go no-caller)
+        × (pop-and-borrow-caller-strand (entries fresh k s n) ≡ go no-caller)
     go-on zero h = (refl, refl)
     go-on (suc zero) h = (refl, refl)
     go-on (suc (suc n)) h = absurd (omega arith)
@@ -73,8 +74,7 @@ module _ (fresh : FirstStrands) (k : Stack) (s : Strands) (sound : SoundStack k)
     table = k .table;
     clock = k .clock;
     positive = k .positive;
-    negative =
-        k .negative;
+    negative = k .negative;
     active = set-if b j 256 (k .active);
   }) has
 
@@ -83,10 +83,12 @@ module _ (fresh : FirstStrands) (k : Stack) (s : Strands) (sound : SoundStack k)
 
   module _ (some-strand : caller-place (k .depth) (k .active) ≡ 256 → ⊥) where
     is-some : active-strand-at fresh s p ≡ some (strand-at fresh s p)
-    is-some = ap (λ (b : Bool). elim b as (λ (c : Bool). Option said-strand.Strand) [ true ↦ none | false ↦ some (strand-at fresh s p) ]) (ne-eqb p 256 (λ e. some-strand (caller-place-is ∙ e)))
+    is-some = ap (λ (b : Bool). elim b as (λ (c : Bool). Option said-strand.Strand) [ true ↦ none | false ↦ some (strand-at fresh s p) ])
+        (ne-eqb p 256 (λ e. some-strand (caller-place-is ∙ e)))
 
     popped-top : entered fresh (popped k) s ≡ entry-at fresh k s j ∷ entries fresh k s j
-    popped-top = let e : k .depth - 1 ≡ suc j = omega arith in ap (entries fresh (popped k) s) e ∙ ap (λ (es : List StackEntry). entry-at fresh k s j ∷ es) (entries-same fresh k (popped k) s s j (λ i h. refl))
+    popped-top = let e : k .depth - 1 ≡ suc j = omega arith in ap (entries fresh (popped k) s) e
+        ∙ ap (λ (es : List StackEntry). entry-at fresh k s j ∷ es) (entries-same fresh k (popped k) s s j (λ i h. refl))
 
     taken-top : entered fresh (caller-taken k) s ≡ with-active (entry-at fresh k s j) none ∷ entries fresh k s j
     taken-top =
@@ -94,19 +96,25 @@ module _ (fresh : FirstStrands) (k : Stack) (s : Strands) (sound : SoundStack k)
         ap (λ (r : Stack). entered fresh r s) taken-is ∙ ap (entries fresh k′ s) e
         ∙ ap₂ (λ (x : Option said-strand.Strand) (es : List StackEntry). with-active (entry-at fresh k s j) x ∷ es)
         (ap (active-strand-at fresh s) (getD-set-same (k .active) j 256 0 (omega (arith, sound .few, sound .long-active))))
-        (entries-same fresh k k′ s s j (λ i h. ap (λ (q : ℕ). with-active (entry-at fresh k s i) (active-strand-at fresh s q)) (getD-set-other (k .active) j i 256 0 (λ e. omega arith))))
+        (entries-same fresh k k′ s s j (λ i h. ap (λ (q : ℕ). with-active (entry-at fresh k s i) (active-strand-at fresh s q))
+        (getD-set-other (k .active) j i 256 0 (λ e. omega arith))))
 
-    pub borrow-caller-view : pop-and-borrow-caller-strand (entered fresh k s) ≡ go (caller (strand-at fresh s (caller-place (k .depth) (k .active))) (entered fresh (popped k) s))
+    pub borrow-caller-view : pop-and-borrow-caller-strand (entered fresh k s) ≡ go
+        (caller (strand-at fresh s (caller-place (k .depth) (k .active))) (entered fresh (popped k) s))
     borrow-caller-view =
         ap pop-and-borrow-caller-strand whole
         ∙ ap (λ (o : Option said-strand.Strand). unwrap o >>= λ x. go (caller x (entry-at fresh k s j ∷ entries fresh k s j))) is-some
-        ∙ ap₂ (λ (x : said-strand.Strand) (es : List StackEntry). go (caller x es)) (ap (strand-at fresh s) (sym caller-place-is)) (sym popped-top)
+        ∙ ap₂ (λ (x : said-strand.Strand) (es : List StackEntry). go (caller x es)) (ap (strand-at fresh s) (sym caller-place-is))
+        (sym popped-top)
 
-    pub take-caller-view : pop-and-take-caller-strand (entered fresh k s) ≡ go (caller (strand-at fresh s (caller-place (k .depth) (k .active))) (entered fresh (caller-taken k) s))
+    pub take-caller-view : pop-and-take-caller-strand (entered fresh k s) ≡ go
+        (caller (strand-at fresh s (caller-place (k .depth) (k .active))) (entered fresh (caller-taken k) s))
     take-caller-view =
         ap pop-and-take-caller-strand whole
-        ∙ ap (λ (o : Option said-strand.Strand). unwrap o >>= λ x. go (caller x (with-active (entry-at fresh k s j) none ∷ entries fresh k s j))) is-some
-        ∙ ap₂ (λ (x : said-strand.Strand) (es : List StackEntry). go (caller x es)) (ap (strand-at fresh s) (sym caller-place-is)) (sym taken-top)
+        ∙ ap (λ (o : Option said-strand.Strand). unwrap o >>= λ x. go
+        (caller x (with-active (entry-at fresh k s j) none ∷ entries fresh k s j))) is-some
+        ∙ ap₂ (λ (x : said-strand.Strand) (es : List StackEntry). go (caller x es)) (ap (strand-at fresh s) (sym caller-place-is))
+        (sym taken-top)
 
   pub take-caller-sound : SoundStack (caller-taken k)
   take-caller-sound = subst SoundStack (sym taken-is) (record {
@@ -157,7 +165,7 @@ held-more : (l : List ℕ) (n q : ℕ) (b : Bool) → 1 ≤ times q (active-plac
 held-more l n q true h = h
 held-more l n q false h = omega arith
 
-pub active-held : (l : List ℕ) (n i : ℕ) → i < n → (getD l i 0 ≡ most-places → ⊥) → 1 ≤ times (getD l i 0) (active-places l n)
+active-held : (l : List ℕ) (n i : ℕ) → i < n → (getD l i 0 ≡ most-places → ⊥) → 1 ≤ times (getD l i 0) (active-places l n)
 active-held l zero i h d = absurd (omega arith)
 active-held l (suc n) i h d = at (eqb i n) refl (λ k. active-held l n i k d)
   where
@@ -176,13 +184,22 @@ entered-holds fresh k s s′ holds =
     entered-kept fresh k s s′ (λ i h d. holds (getD (k .active) i 0) (active-held (k .active) (k .depth) i h d))
 
 -- as many as the definitions count
-pub active-is : (fresh : FirstStrands) (k : Stack) (s : Strands) (n : ℕ) → active (entries fresh k s n) ≡ length (active-places (k .active) n)
+pub active-is : (fresh : FirstStrands) (k : Stack) (s : Strands) (n : ℕ)
+    → active (entries fresh k s n) ≡ length (active-places (k .active) n)
 active-is fresh k s zero = refl
 active-is fresh k s (suc n) = at (eqb (getD (k .active) n 0) 256) (active-is fresh k s n)
   where
     at : (b : Bool) → active (entries fresh k s n) ≡ length (active-places (k .active) n)
-        → active-count (elim b as (λ (c : Bool). Option said-strand.Strand) [ true ↦ none | false ↦ some (strand-at fresh s (getD (k .active) n 0)) ]) + active (entries fresh k s n)
-        ≡ length {A = ℕ} (elim b as (λ (c : Bool). List ℕ) [ true ↦ active-places (k .active) n | false ↦ getD (k .active) n 0 ∷ active-places (k .active) n ])
+        → active-count (elim b as (λ (c : Bool). Option said-strand.Strand) [
+          | true ↦ none
+          | false ↦ some
+              (strand-at fresh s (getD (k .active) n 0))
+        ]) + active (entries fresh k s n)
+        ≡ length {A = ℕ} (elim b as (λ (c : Bool). List ℕ) [
+          | true ↦ active-places (k .active) n
+          | false ↦ getD (k .active) n 0
+              ∷ active-places (k .active) n
+        ])
     at true e = omega arith
     at false e = omega arith
 

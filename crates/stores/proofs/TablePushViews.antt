@@ -87,7 +87,8 @@ module _ (x : Answer) (good : GoodAnswer x) (a : Answers) where
       by false e = e
 
 -- WHAT THE OUTCOME MEANS, in a table that isn't floundered
-module _ (fresh : FirstStrands) (ts : Tables) (s : Strands) (a : Answers) (t : ℕ) (x : Answer) (h : t < ts .count) (sound : SoundAnswers a (ts .count)) (good : GoodAnswer x)
+module _ (fresh : FirstStrands) (ts : Tables) (s : Strands) (a : Answers) (t : ℕ) (x : Answer) (h : t < ts .count)
+    (sound : SoundAnswers a (ts .count)) (good : GoodAnswer x)
     (live : held-table fresh ts s a t .floundered ≡ false) where
   abbrev p : Places
   p = a .places
@@ -156,7 +157,14 @@ module _ (fresh : FirstStrands) (ts : Tables) (s : Strands) (a : Answers) (t : �
       room-for : free-place p < 256 → held < 256
       room-for i =
           let f = freed-sound p (ts .count) [] (sound .places) i in
-          omega (arith, held-is fresh ts s a, f .sound .all, f .sound .rings .room, waiting-same p (freed p) (ts .count) (λ u j. ap length (f .same u j)))
+          omega (
+            arith,
+            held-is fresh ts s a,
+            f .sound .all,
+            f .sound .rings .room,
+            waiting-same p (freed p) (ts .count)
+                (λ u j. ap length (f .same u j)),
+          )
 
   new-means : (room : Bool) → ltb (free-place p) 256 ≡ room → equal-answer said-x (table .answers) ≡ none
       → PushMeans held said-x table new (new-if room (free-place p))
@@ -169,7 +177,8 @@ module _ (fresh : FirstStrands) (ts : Tables) (s : Strands) (a : Answers) (t : �
   new-means false er e =
       let k : 256 ≤ free-place p = ltb-false (free-place p) 256 er in
       let f : held ≡ 256 = omega (arith, held-is fresh ts s a, freed-none p (ts .count) [] (sound .places) k) in
-      start ∙ ap after e ∙ ap (λ (b : Bool). stop-if b 23 >> go (some (length (table .answers)), with-answers table (push (table .answers) said-x))) (le-leb 256 held (omega arith))
+      start ∙ ap after e ∙ ap (λ (b : Bool). stop-if b 23 >> go
+      (some (length (table .answers)), with-answers table (push (table .answers) said-x))) (le-leb 256 held (omega arith))
 
   by-search : (b : Bool) → ltb at 256 ≡ b
       → PushMeans held said-x table new (outcome-if b (repeated-of (flag (getD (a .ambiguous) at 0)) (x .ambiguous))

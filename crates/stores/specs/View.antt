@@ -25,7 +25,19 @@ use Rattle.stores.specs.Places.{ring}
 
 -- what is read past a store's end
 abbrev pub unread-strand : Strand
-unread-strand = record { variant = 0; outsized = false; ambiguous = false; «answer_time» = 0; «literal_count» = 0; «floundered_count» = 0; «delayed_count» = 0; literals = []; floundered = []; delayed = []; selected = Nothing }
+unread-strand = record {
+  variant = 0;
+  outsized = false;
+  ambiguous = false;
+  «answer_time» = 0;
+  «literal_count» = 0;
+  «floundered_count» = 0;
+  «delayed_count» = 0;
+  literals = [];
+  floundered = [];
+  delayed = [];
+  selected = Nothing;
+}
 
 abbrev pub unread-answer : Answer
 unread-answer = record { variant = 0; ambiguous = false; «delayed_count» = 0; delayed = [] }
