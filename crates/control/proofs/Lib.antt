@@ -29,3 +29,6 @@ pub mod ClearStrandsAfterCycleCases
 pub mod ClearStrandsAfterCycleSound
 pub mod ClearStrandsAfterCycleDecides
 pub mod ClearStrandsAfterCycleEmptied
+pub mod UnwindStackCases
+pub mod OnPositiveCycleCases
+pub mod PerformDeedCases

@@ -8,3 +8,6 @@ pub mod OnNoStrandsLeft
 pub mod ClearStrandsAfterCycle
 pub mod Stores
 pub mod Turn
+pub mod UnwindStack
+pub mod OnPositiveCycle
+pub mod PerformDeed

@@ -8,3 +8,7 @@ pub mod on_no_remaining_subgoals; // on_no_remaining_subgoals.rt: a strand with 
 pub mod choose; // choose.rt: a turn with a strand: what it sees, and what it is decided to do
 pub mod on_no_strands_left; // on_no_strands_left.rt: what is done where the top has no strand to go on with
 pub mod clear_strands_after_cycle; // clear_strands_after_cycle.rt: the queues of a cycle, taken
+pub mod unwind_stack; // unwind_stack.rt: active strands go back to their tables
+pub mod on_positive_cycle; // on_positive_cycle.rt: what a cycle means to the entry on top
+pub mod perform; // perform.rt: a turn done
+pub mod perform_deed; // perform_deed.rt: what is done about the strand in hand

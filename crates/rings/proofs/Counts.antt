@@ -1,4 +1,5 @@
--- Laws of "all of a list", of how often a number stands in a list, and of the two with `filter`, `++` and `set`: distinct is "at most once".
+-- Laws of "all of a list", of how often a number stands in a list, and of the two with `filter`, `++` and `set`: distinct is "at most
+-- once".
 use Prim.Native.Nat.{ℕ, zero, suc, _+_, _≤_, _<_}
 use native.Mathlib.Omega.{arith}
 use mathlib.Core.Path.{_≡_, refl, sym, ap, ap₂, subst, _∙_}
@@ -129,7 +130,8 @@ map-away st p s d l e =
 -- taken out at j
 pub times-out : (p : ℕ) (l : List ℕ) (j : ℕ) → j < length l → times p (drop (suc j) l ++ take j l) + one (eqb p (getD l j 0)) ≡ times p l
 times-out p l j h =
-    let a : times p (drop (suc j) l ++ take j l) ≡ times p (drop (suc j) l) + times p (take j l) = times-append p (drop (suc j) l) (take j l) in
+    let a : times p (drop (suc j) l ++ take j l) ≡ times p (drop (suc j) l) + times p (take j l) = times-append p (drop (suc j) l)
+    (take j l) in
     let b : times p l ≡ times p (take j l) + (one (eqb p (getD l j 0)) + times p (drop (suc j) l)) =
     ap (times p) (split-at l j 0 h) ∙ times-append p (take j l) (getD l j 0 ∷ drop (suc j) l) in
     omega arith
@@ -140,7 +142,8 @@ pigeons zero [] once none = omega arith
 pigeons zero (x ∷ l) once none = omega (arith, none x (omega arith), times-self x)
 pigeons (suc m) l once none =
     let f : ℕ → Bool = λ y. not (eqb m y) in
-    let r : length (filter f l) ≤ m = pigeons m (filter f l) (λ p. omega (arith, once p, times-filter p f l)) (λ p h. gone p h (eqb p m) refl) in
+    let r : length (filter f l) ≤ m = pigeons m (filter f l) (λ p. omega (arith, once p, times-filter p f l))
+    (λ p h. gone p h (eqb p m) refl) in
     let c : length (filter (eqb m) l) + length (filter f l) ≡ length l = filter-count (eqb m) l in
     let t : length (filter (eqb m) l) ≡ times m l = counted l in
     omega (arith, once m)
@@ -164,7 +167,8 @@ module _ {A : Type 0} where
   abbrev First : (A → Bool) → List A → ℕ → A → Type 0
   First f l j d = All (λ x. f x ≡ false) (take j l) × (j < length l → f (getD l j d) ≡ true)
 
-  first-step : (f : A → Bool) (d x : A) (l : List A) (b : Bool) → f x ≡ b → First f l (first-index f l) d → First f (x ∷ l) (stop b (first-index f l)) d
+  first-step : (f : A → Bool) (d x : A) (l : List A) (b : Bool) → f x ≡ b → First f l (first-index f l) d
+      → First f (x ∷ l) (stop b (first-index f l)) d
   first-step f d x l true e h = (tt, λ k. e)
   first-step f d x l false e h = ((e, h .0), λ k. h .1 (omega arith))
 

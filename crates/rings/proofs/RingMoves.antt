@@ -49,7 +49,8 @@ module _ (next tail len : List ℕ) (top : ℕ) (sound : RingSound next tail len
     room-both = omega (arith, pigeons top (q g ++ q f) once-both small-both, sound .room, length-append (q g) (q f), size g, size f)
 
     lens : l′ ≡ set (set len f 0) g (getD len g 0 + getD len f 0)
-    lens = did .size ∙ ap (set (set len f 0) g) (joined-within (getD len g 0) (getD len f 0) (omega (arith, room-both)) (omega (arith, room-both)))
+    lens = did .size ∙ ap (set (set len f 0) g) (joined-within (getD len g 0) (getD len f 0) (omega (arith, room-both))
+        (omega (arith, room-both)))
 
     len-g : getD l′ g 0 ≡ length (q g ++ q f)
     len-g =
@@ -62,11 +63,13 @@ module _ (next tail len : List ℕ) (top : ℕ) (sound : RingSound next tail len
         ∙ getD-set-same len f 0 0 (omega (arith, sound .long-len))
 
     len-u : (u : ℕ) → (u ≡ g → ⊥) → (u ≡ f → ⊥) → getD l′ u 0 ≡ getD len u 0
-    len-u u a b = ap (λ (l : List ℕ). getD l u 0) lens ∙ getD-set-other (set len f 0) g u (getD len g 0 + getD len f 0) 0 a ∙ getD-set-other len f u 0 0 b
+    len-u u a b = ap (λ (l : List ℕ). getD l u 0) lens ∙ getD-set-other (set len f 0) g u (getD len g 0 + getD len f 0) 0 a
+        ∙ getD-set-other len f u 0 0 b
 
     -- by what the two queues are: the ring of g, and every other
     Rings : List ℕ → List ℕ → Type 0
-    Rings m a = Chain m (getD a g 0) (q g ++ q f) (getD a g 0) × ((u : ℕ) → (u ≡ g → ⊥) → (u ≡ f → ⊥) → Chain m (getD tail u 0) (q u) (getD tail u 0))
+    Rings m a = Chain m (getD a g 0) (q g ++ q f) (getD a g 0)
+        × ((u : ℕ) → (u ≡ g → ⊥) → (u ≡ f → ⊥) → Chain m (getD tail u 0) (q u) (getD tail u 0))
 
     rings : Rings n′ t′
     unfolding Rings
@@ -79,10 +82,12 @@ module _ (next tail len : List ℕ) (top : ℕ) (sound : RingSound next tail len
         some-of t x l i = ne-eqb (getD len t 0) 0 (λ e. omega (arith, size t, ap length i, e))
 
         go : (l : List ℕ) → q f ≡ l → (m : List ℕ) → q g ≡ m
-            → Rings (moved-next (eqb (getD len f 0) 0) (eqb (getD len g 0) 0) next (getD tail f 0) (getD tail g 0)) (moved-tail (eqb (getD len f 0) 0) tail g (getD tail f 0))
+            → Rings (moved-next (eqb (getD len f 0) 0) (eqb (getD len g 0) 0) next (getD tail f 0) (getD tail g 0))
+            (moved-tail (eqb (getD len f 0) 0) tail g (getD tail f 0))
         go [] i m k = rw (zero-of f i, i, append-nil (q g)) (sound .closed g, λ u a b. sound .closed u)
         go (x ∷ l) i [] k =
-            rw (some-of f x l i, zero-of g k, k, getD-set-same tail g (getD tail f 0) 0 (omega (arith, sound .long-tail))) (sound .closed f, λ u a b. sound .closed u)
+            rw (some-of f x l i, zero-of g k, k, getD-set-same tail g (getD tail f 0) 0 (omega (arith, sound .long-tail)))
+            (sound .closed f, λ u a b. sound .closed u)
         go (x ∷ l) i (y ∷ m) k =
             let cf : Chain next (getD tail f 0) (x ∷ l) (getD tail f 0) = rw i at (sound .closed f) in
             let cg : Chain next (getD tail g 0) (y ∷ m) (getD tail g 0) = rw k at (sound .closed g) in
@@ -92,9 +97,12 @@ module _ (next tail len : List ℕ) (top : ℕ) (sound : RingSound next tail len
               rw (i, k) (ring-splice next (getD tail f 0) (getD tail g 0) x y l m cf cg
                   (rw k at (sound .apart f g (getD tail f 0) n inf)) (rw i at (sound .apart g f (getD tail g 0) (λ e. n (sym e)) ing))
                   (rw i at (sound .once f (getD tail f 0))) (rw k at (sound .once g (getD tail g 0)))
-                  (omega (arith, sound .long-next, below f (getD tail f 0) inf)) (omega (arith, sound .long-next, below g (getD tail g 0) ing))),
-              λ u a b. ring-frame (set next (getD tail f 0) (getD next (getD tail g 0) 0)) (getD tail g 0) (getD next (getD tail f 0) 0) (getD tail u 0) (q u)
-                  (ring-frame next (getD tail f 0) (getD next (getD tail g 0) 0) (getD tail u 0) (q u) (sound .closed u) (sound .apart f u (getD tail f 0) b inf))
+                  (omega (arith, sound .long-next, below f (getD tail f 0) inf))
+                  (omega (arith, sound .long-next, below g (getD tail g 0) ing))),
+              λ u a b. ring-frame (set next (getD tail f 0) (getD next (getD tail g 0) 0)) (getD tail g 0) (getD next (getD tail f 0) 0)
+                  (getD tail u 0) (q u)
+                  (ring-frame next (getD tail f 0) (getD next (getD tail g 0) 0) (getD tail u 0) (q u) (sound .closed u)
+                  (sound .apart f u (getD tail f 0) b inf))
                   (sound .apart g u (getD tail g 0) a ing),
             )
 
@@ -115,12 +123,15 @@ module _ (next tail len : List ℕ) (top : ℕ) (sound : RingSound next tail len
     pub ring-move-other : (u : ℕ) → (u ≡ g → ⊥) → (u ≡ f → ⊥) → ring-of n′ t′ l′ u ≡ q u
     unfolding Rings
     ring-move-other u a b =
-        ap₂ (λ (m x : ℕ). walk m n′ x) (len-u u a b ∙ sym (size u)) (tail-u u a) ∙ chain-walk n′ (getD tail u 0) (q u) (getD tail u 0) (rings .1 u a b)
+        ap₂ (λ (m x : ℕ). walk m n′ x) (len-u u a b ∙ sym (size u)) (tail-u u a)
+        ∙ chain-walk n′ (getD tail u 0) (q u) (getD tail u 0) (rings .1 u a b)
 
     -- what holds of the three kinds of queue holds of all
-    each : (P : ℕ → List ℕ → Type 0) → P g (q g ++ q f) → P f [] → ((u : ℕ) → (u ≡ g → ⊥) → (u ≡ f → ⊥) → P u (q u)) → (u : ℕ) → P u (ring-of n′ t′ l′ u)
+    each : (P : ℕ → List ℕ → Type 0) → P g (q g ++ q f) → P f [] → ((u : ℕ) → (u ≡ g → ⊥) → (u ≡ f → ⊥) → P u (q u)) → (u : ℕ)
+        → P u (ring-of n′ t′ l′ u)
     each P pg pf pu = is-or-not g (λ u. P u (ring-of n′ t′ l′ u)) (rw ring-move-to pg)
-        (λ u a. is-or-not f (λ v. (v ≡ g → ⊥) → P v (ring-of n′ t′ l′ v)) (λ b. rw ring-move-from pf) (λ v b c. rw (ring-move-other v c b) (pu v c b)) u a)
+        (λ u a. is-or-not f (λ v. (v ≡ g → ⊥) → P v (ring-of n′ t′ l′ v)) (λ b. rw ring-move-from pf)
+        (λ v b c. rw (ring-move-other v c b) (pu v c b)) u a)
 
     pub ring-move-sound : RingSound n′ t′ l′ top
     unfolding Rings

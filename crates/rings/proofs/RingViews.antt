@@ -11,7 +11,19 @@ use borrow.Author.Tests.{ne-eqb, eqb-true, eqb-false, lt-ltb, ltb-true, ltb-fals
 use Rattle.rings.specs.Lists.{one, times, grown, turned, Full}
 use Rattle.rings.specs.Rings.{walk, end, ring-of, held-at, unlinked, shortened, Chain, RingSound, linked-at, linked, lengthened}
 use Rattle.rings.proofs.Counts.{is-or-not, map-append, map-away, times-append, times-self, times-out, pigeons}
-use Rattle.rings.proofs.Walks.{length-walk, walk-at, chain-walk, chain-join, chain-front, chain-back, chain-last, chain-in, ring-frame, ring-turn, ring-append}
+use Rattle.rings.proofs.Walks.{
+  length-walk,
+  walk-at,
+  chain-walk,
+  chain-join,
+  chain-front,
+  chain-back,
+  chain-last,
+  chain-in,
+  ring-frame,
+  ring-turn,
+  ring-append,
+}
 
 -- THE START: every queue is empty, and no place was used
 none-at : (n t : ℕ) → _≡_ {A = ℕ} (getD (replicate n 0) t 0) 0
@@ -108,7 +120,8 @@ module _ (next tail len : List ℕ) (top : ℕ) (sound : RingSound next tail len
     b-in = omega (arith, chain-in next p rest b round, counts b)
 
     ring : Chain next′ b rest b
-    ring = rw behind (ring-turn next p b rest round (omega (arith, counts b, sound .once t b)) (λ h. omega (arith, below t b b-in, sound .long-next)))
+    ring = rw behind (ring-turn next p b rest round (omega (arith, counts b, sound .once t b))
+        (λ h. omega (arith, below t b b-in, sound .long-next)))
 
     tail-t : getD tail′ t 0 ≡ b
     tail-t = getD-set-same tail t b 0 (omega (arith, sound .long-tail))
@@ -208,8 +221,10 @@ module _ (next tail len : List ℕ) (top : ℕ) (sound : RingSound next tail len
 
     len-e-t : getD len-e t 0 ≡ length (q t ++ (p ∷ []))
     len-e-t =
-        let g : grown (ltb (getD len t 0) 256) (getD len t 0) ≡ getD len t 0 + 1 = ap (λ (b : Bool). grown b (getD len t 0)) (lt-ltb (getD len t 0) 256 room) in
-        getD-set-same len t (grown (ltb (getD len t 0) 256) (getD len t 0)) 0 (omega (arith, sound .long-len)) ∙ omega (arith, g, length-append (q t) (p ∷ []), size t)
+        let g : grown (ltb (getD len t 0) 256) (getD len t 0) ≡ getD len t 0 + 1 = ap (λ (b : Bool). grown b (getD len t 0))
+        (lt-ltb (getD len t 0) 256 room) in
+        getD-set-same len t (grown (ltb (getD len t 0) 256) (getD len t 0)) 0 (omega (arith, sound .long-len))
+        ∙ omega (arith, g, length-append (q t) (p ∷ []), size t)
 
     pub ring-enqueue-own : ring-of next-e tail-e len-e t ≡ q t ++ (p ∷ [])
     ring-enqueue-own = ap₂ (λ (m a : ℕ). walk m next-e a) len-e-t tail-e-t ∙ chain-walk next-e p (q t ++ (p ∷ [])) p ring-e
@@ -228,11 +243,13 @@ module _ (next tail len : List ℕ) (top : ℕ) (sound : RingSound next tail len
               let c : Chain next (getD tail t 0) (x ∷ l) (getD tail t 0) = rw i at (sound .closed t) in
               let h : 1 ≤ times (getD tail t 0) (q t) = rw i (chain-last next (getD tail t 0) x l (getD tail t 0) c) in
               rw e (ring-frame (set next p (getD next (getD tail t 0) 0)) (getD tail t 0) p (getD tail u 0) (q u)
-              (ring-frame next p (getD next (getD tail t 0) 0) (getD tail u 0) (q u) (sound .closed u) (fresh u)) (sound .apart t u (getD tail t 0) n h))
+              (ring-frame next p (getD next (getD tail t 0) 0) (getD tail u 0) (q u) (sound .closed u) (fresh u))
+              (sound .apart t u (getD tail t 0) n h))
 
       pub ring-enqueue-other : ring-of next-e tail-e len-e u ≡ q u
       ring-enqueue-other =
-          ap₂ (λ (m a : ℕ). walk m next-e a) (getD-set-other len t u (grown (ltb (getD len t 0) 256) (getD len t 0)) 0 n ∙ sym (size u)) tail-e-u
+          ap₂ (λ (m a : ℕ). walk m next-e a) (getD-set-other len t u (grown (ltb (getD len t 0) 256) (getD len t 0)) 0 n ∙ sym (size u))
+          tail-e-u
           ∙ chain-walk next-e (getD tail u 0) (q u) (getD tail u 0) ring-e-u
 
     full-e : Full next-e
@@ -240,13 +257,16 @@ module _ (next tail len : List ℕ) (top : ℕ) (sound : RingSound next tail len
       where
         go : (b : Bool) → Full (linked-at b next (getD tail t 0) p)
         go true = length-set next p p ∙ sound .long-next
-        go false = length-set (set next p (getD next (getD tail t 0) 0)) (getD tail t 0) p ∙ length-set next p (getD next (getD tail t 0) 0) ∙ sound .long-next
+        go false = length-set (set next p (getD next (getD tail t 0) 0)) (getD tail t 0) p
+            ∙ length-set next p (getD next (getD tail t 0) 0) ∙ sound .long-next
 
     -- where a place is in the queues after it: as before, and p behind t's
     apart-e : (u v x : ℕ) → (v ≡ u → ⊥) → 1 ≤ times x (ring-of next-e tail-e len-e u) → times x (ring-of next-e tail-e len-e v) ≡ 0
-    apart-e = is-or-not t (λ u. (v x : ℕ) → (v ≡ u → ⊥) → 1 ≤ times x (ring-of next-e tail-e len-e u) → times x (ring-of next-e tail-e len-e v) ≡ 0)
+    apart-e = is-or-not t (λ u. (v x : ℕ) → (v ≡ u → ⊥) → 1 ≤ times x (ring-of next-e tail-e len-e u)
+        → times x (ring-of next-e tail-e len-e v) ≡ 0)
         (λ v x n h. rw (ring-enqueue-other v n) (new v x n (eqb x p) refl (rw ring-enqueue-own at h)))
-        (λ u m. is-or-not t (λ v. (x : ℕ) → (v ≡ u → ⊥) → 1 ≤ times x (ring-of next-e tail-e len-e u) → times x (ring-of next-e tail-e len-e v) ≡ 0)
+        (λ u m. is-or-not t (λ v. (x : ℕ) → (v ≡ u → ⊥) → 1 ≤ times x (ring-of next-e tail-e len-e u)
+        → times x (ring-of next-e tail-e len-e v) ≡ 0)
         (λ x n h. rw ring-enqueue-own (old u x n (rw (ring-enqueue-other u m) at h)))
         (λ v k x n h. rw (ring-enqueue-other v k) (sound .apart u v x n (rw (ring-enqueue-other u m) at h))))
       where
@@ -279,7 +299,8 @@ module _ (next tail len : List ℕ) (top : ℕ) (sound : RingSound next tail len
       pub ring-put : (u : ℕ) → held-at d (set store p s) (q u) ≡ held-at d store (q u)
       ring-put u = map-away store p s d (q u) (fresh u)
 
-      pub ring-put-enqueue : length store ≡ 256 → held-at d (set store p s) (ring-of next-e tail-e len-e t) ≡ held-at d store (q t) ++ (s ∷ [])
+      pub ring-put-enqueue : length store ≡ 256 → held-at d (set store p s) (ring-of next-e tail-e len-e t) ≡ held-at d store (q t)
+          ++ (s ∷ [])
       ring-put-enqueue long =
           let f : ℕ → A = λ x. getD (set store p s) x d in
           ap (map f) ring-enqueue-own ∙ map-append f (q t) (p ∷ [])

@@ -1,4 +1,5 @@
--- Laws of walks along links: where links lead, chains, and what a write to one link does to a chain; and the ring functions at their tests' answers.
+-- Laws of walks along links: where links lead, chains, and what a write to one link does to a chain; and the ring functions at their tests'
+-- answers.
 use Prim.Native.Nat.{ℕ, zero, suc, _+_, _-_, _≤_, _<_}
 use native.Mathlib.Omega.{arith}
 use mathlib.Core.Path.{_≡_, refl, sym, ap, ap₂, subst, _∙_}
@@ -9,7 +10,21 @@ use lib.Seq.{getD-set-same, getD-set-other, set-getD}
 use lib.Dec.{eqb, ltb}
 use borrow.Author.Tests.{eq-eqb, ne-eqb, lt-ltb, le-ltb}
 use Rattle.rings.specs.Lists.{one, times}
-use Rattle.rings.specs.Rings.{walk, end, Chain, ring-of, place-if, has-any, unlinked, shortened, popped-next, RingMoved, moved-next, moved-tail, joined}
+use Rattle.rings.specs.Rings.{
+  walk,
+  end,
+  Chain,
+  ring-of,
+  place-if,
+  has-any,
+  unlinked,
+  shortened,
+  popped-next,
+  RingMoved,
+  moved-next,
+  moved-tail,
+  joined,
+}
 
 pub length-walk : (m : ℕ) (next : List ℕ) (a : ℕ) → length (walk m next a) ≡ m
 length-walk zero next a = refl
@@ -49,7 +64,8 @@ pub chain-end : (next : List ℕ) (a : ℕ) (l : List ℕ) (b : ℕ) → Chain n
 chain-end next a [] b c = c
 chain-end next a (x ∷ l) b c = chain-end next x l b (c .1)
 
-pub chain-join : (next : List ℕ) (a : ℕ) (l : List ℕ) (b : ℕ) (m : List ℕ) (c : ℕ) → Chain next a l b → Chain next b m c → Chain next a (l ++ m) c
+pub chain-join : (next : List ℕ) (a : ℕ) (l : List ℕ) (b : ℕ) (m : List ℕ) (c : ℕ) → Chain next a l b → Chain next b m c
+    → Chain next a (l ++ m) c
 chain-join next a [] b m c p q = subst (λ (x : ℕ). Chain next x m c) (sym p) q
 chain-join next a (x ∷ l) b m c p q = (p .0, chain-join next x l b m c (p .1) q)
 
@@ -67,7 +83,8 @@ chain-last next a x [] b c = omega (arith, ap one (eq-eqb b x (sym (c .1))))
 chain-last next a x (y ∷ l) b c = omega (arith, chain-last next x y l b (c .1))
 
 -- a write to a link that the chain does not go by
-pub chain-frame : (next : List ℕ) (z v a : ℕ) (l : List ℕ) (b : ℕ) → Chain next a l b → (a ≡ z → ⊥) → times z l ≡ 0 → Chain (set next z v) a l b
+pub chain-frame : (next : List ℕ) (z v a : ℕ) (l : List ℕ) (b : ℕ) → Chain next a l b → (a ≡ z → ⊥) → times z l ≡ 0
+    → Chain (set next z v) a l b
 chain-frame next z v a [] b c n e = c
 chain-frame next z v a (x ∷ l) b c n e =
     let o : one (eqb z x) ≡ 0 = omega arith in (
@@ -129,17 +146,26 @@ ring-splice next a b x y l m ca cb a∉ b∉ a≤ b≤ ha hb =
     let apart : b ≡ a → ⊥ = λ e. omega (arith, chain-last next b y m b cb, ap (λ (k : ℕ). times k (y ∷ m)) e) in
     let y≢a : y ≡ a → ⊥ = λ e. omega (arith, a∉, ap one (eq-eqb a y (sym e))) in
     let x≢b : x ≡ b → ⊥ = λ e. omega (arith, b∉, ap one (eq-eqb b x (sym e))) in
-    let c₁ : Chain next₁ a (y ∷ m) b = (getD-set-same next a (getD next b 0) 0 ha ∙ cb .0, chain-frame next a (getD next b 0) y m b (cb .1) y≢a (omega arith)) in
+    let c₁ : Chain next₁ a (y ∷ m) b = (
+      getD-set-same next a (getD next b 0) 0 ha
+          ∙ cb .0,
+      chain-frame next a (getD next b 0) y m b (cb .1) y≢a (omega arith),
+    ) in
     let c₂ : Chain next₂ a (y ∷ m) b = chain-keep next₁ b (getD next a 0) a (y ∷ m) c₁ (omega (arith, ap one (ne-eqb b a apart))) in
     let h : b < length next₁ = omega (arith, length-set next a (getD next b 0)) in
     let d₁ : Chain next₁ x l a = chain-keep next a (getD next b 0) x l (ca .1) a≤ in
-    let d₂ : Chain next₂ b (x ∷ l) a = (getD-set-same next₁ b (getD next a 0) 0 h ∙ ca .0, chain-frame next₁ b (getD next a 0) x l a d₁ x≢b (omega arith)) in
+    let d₂ : Chain next₂ b (x ∷ l) a = (
+      getD-set-same next₁ b (getD next a 0) 0 h
+          ∙ ca .0,
+      chain-frame next₁ b (getD next a 0) x l a d₁ x≢b (omega arith),
+    ) in
     chain-join next₂ a (y ∷ m) b (x ∷ l) a c₂ d₂
 
 -- `ring_move` at the tests' answers
 pub ring-moved : (next tail len : List ℕ) (f g : ℕ) (x y : Bool) (s : ℕ) → eqb (getD len f 0) 0 ≡ x → eqb (getD len g 0) 0 ≡ y
     → s ≡ joined (getD len g 0) (getD len f 0)
-    → RingMoved next tail len f g (moved-next x y next (getD tail f 0) (getD tail g 0)) (moved-tail x tail g (getD tail f 0)) (set (set len f 0) g s)
+    → RingMoved next tail len f g (moved-next x y next (getD tail f 0) (getD tail g 0)) (moved-tail x tail g (getD tail f 0))
+    (set (set len f 0) g s)
 ring-moved next tail len f g x y s ex ey es = record {
   links = ap₂ (λ (u v : Bool). moved-next u v next (getD tail f 0) (getD tail g 0)) (sym ex) (sym ey);
   ends = ap (λ (u : Bool). moved-tail u tail g (getD tail f 0)) (sym ex);
@@ -180,7 +206,8 @@ module _ (next tail len : List ℕ) (t index : ℕ) where
   pub at-none : getD len t 0 ≤ index → 256 ≡ place-if (ltb index (getD len t 0)) at
   at-none h = sym (ap (λ (c : Bool). place-if c at) (le-ltb index (getD len t 0) h))
 
-  pub at-some : index < getD len t 0 → (p : ℕ) → p ≡ after index next (getD tail t 0) → getD next p 0 ≡ place-if (ltb index (getD len t 0)) at
+  pub at-some : index < getD len t 0 → (p : ℕ) → p ≡ after index next (getD tail t 0)
+      → getD next p 0 ≡ place-if (ltb index (getD len t 0)) at
   at-some h p e =
       ap (λ (x : ℕ). getD next x 0) e ∙ sym (walk-after (getD len t 0) next (getD tail t 0) index h)
       ∙ sym (ap (λ (c : Bool). place-if c at) (lt-ltb index (getD len t 0) h))

@@ -1,4 +1,5 @@
--- What the rings mean: a table's queue is what a walk along the links from the table's last place meets, as many steps as the queue is long.
+-- What the rings mean: a table's queue is what a walk along the links from the table's last place meets, as many steps as the queue is
+-- long.
 use Prim.Native.Nat.{ℕ, zero, suc, _+_, _-_, _≤_}
 use mathlib.Core.Path.{_≡_}
 use mathlib.Core.Bool.{Bool, true, false}

@@ -7,7 +7,8 @@ ghost use Prim.Native.Nat.{_-_, _<_};
 ghost use lib.ListN.{getD, set};
 ghost use lib.Dec.{ltb};
 ghost use Rattle.rings.specs.Lists.{grown};
-ghost use Rattle.rings.specs.Rings.{ring-of, place-if, has-any, unlinked, shortened, popped-next, linked, lengthened, joined, RingMove};
+ghost use Rattle.rings.specs.Rings.{ring-of, place-if, has-any, unlinked, shortened};
+ghost use Rattle.rings.specs.Rings.{popped-next, linked, lengthened, joined, RingMove};
 
 // A store's places are named by a byte; this number, which is no place, stands for none. It is `most-places` of `specs/Rings.antt`.
 pub const PLACES: usize = 256;
@@ -126,7 +127,8 @@ pub fn ring_move(
     from: u8,
     to: u8,
 )
-    ensures { λ _. ⌜ RingMove (now (next .entry)) (now (tail .entry)) (now (len .entry)) from to (now (next .exit)) (now (tail .exit)) (now (len .exit)) ⌝ }
+    ensures { λ _. ⌜ RingMove (now (next .entry)) (now (tail .entry)) (now (len .entry)) from to
+        (now (next .exit)) (now (tail .exit)) (now (len .exit)) ⌝ }
 {
     let f = from as usize;
     let g = to as usize;

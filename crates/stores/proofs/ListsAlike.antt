@@ -32,7 +32,8 @@ pub length-without : (x : ℕ) (l : List ℕ) → 1 ≤ times x l → length l �
 length-without x [] h = absurd (omega arith)
 length-without x (y ∷ l) h = go (eqb x y) refl (length-without x l)
   where
-    go : (b : Bool) → eqb x y ≡ b → (1 ≤ times x l → length l ≡ suc (length (without x l))) → length (y ∷ l) ≡ suc (length (skip b y l (without x l)))
+    go : (b : Bool) → eqb x y ≡ b → (1 ≤ times x l → length l ≡ suc (length (without x l)))
+        → length (y ∷ l) ≡ suc (length (skip b y l (without x l)))
     go true e more = refl
     go false e more = omega (arith, more (omega (arith, ap one e)))
 

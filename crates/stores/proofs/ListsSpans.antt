@@ -71,7 +71,8 @@ module _ {A : Type 0} where
   span-set-from f g s (suc n) (suc t) h e =
       let i : suc s + t ≡ s + suc t = omega arith in
       ap₂ (λ (x : A) (l : List A). x ∷ l) (e s (omega arith) (λ d. omega arith))
-      (span-set-from f g (suc s) n t (omega arith) (λ u a b. e u (omega arith) (λ d. b (omega arith))) ∙ ap (λ (k : ℕ). set (span f (suc s) n) t (g k)) i)
+      (span-set-from f g (suc s) n t (omega arith) (λ u a b. e u (omega arith) (λ d. b (omega arith)))
+      ∙ ap (λ (k : ℕ). set (span f (suc s) n) t (g k)) i)
 
   -- one of them changes
   pub span-set : (f g : ℕ → A) (n t : ℕ) → t < n → ((u : ℕ) → u < n → (u ≡ t → ⊥) → g u ≡ f u) → span g 0 n ≡ set (span f 0 n) t (g t)

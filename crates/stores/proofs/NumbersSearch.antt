@@ -1,5 +1,5 @@
--- The search among numbers: where the first one that passes a test stands, when one more is looked at, and in a list that is a span. From the
--- definition of `first-at`.
+-- The search among numbers: where the first one that passes a test stands, when one more is looked at, and in a list that is a span. From
+-- the definition of `first-at`.
 use Prim.Native.Nat.{ℕ, zero, suc, _+_, _-_, _≤_, _<_}
 use native.Mathlib.Omega.{arith}
 use mathlib.Core.Path.{_≡_, refl, sym, ap, _∙_}
@@ -38,8 +38,10 @@ module _ (test : ℕ → Bool) where
       at : (b : Bool) → test i ≡ b
           → (first-at test (suc i) n < suc i + n → first-at test (suc i) (suc n) ≡ first-at test (suc i) n)
           × (first-at test (suc i) n ≡ suc i + n → first-at test (suc i) (suc n) ≡ choose (test (suc i + n)) (suc i + n) (suc (suc i + n)))
-          → (choose b i (first-at test (suc i) n) < i + suc n → choose b i (first-at test (suc i) (suc n)) ≡ choose b i (first-at test (suc i) n))
-          × (choose b i (first-at test (suc i) n) ≡ i + suc n → choose b i (first-at test (suc i) (suc n)) ≡ choose (test (i + suc n)) (i + suc n) (suc (i + suc n)))
+          → (choose b i (first-at test (suc i) n) < i + suc n
+          → choose b i (first-at test (suc i) (suc n)) ≡ choose b i (first-at test (suc i) n))
+          × (choose b i (first-at test (suc i) n) ≡ i + suc n
+          → choose b i (first-at test (suc i) (suc n)) ≡ choose (test (i + suc n)) (i + suc n) (suc (i + suc n)))
       at true e more = (λ h. refl, λ h. absurd (omega arith))
       at false e more =
           let s : suc i + n ≡ i + suc n = omega arith in
@@ -47,18 +49,23 @@ module _ (test : ℕ → Bool) where
 
 -- the search in a list that is a span
 module _ {A : Type 0} (f : ℕ → A) (test : A → Bool) where
-  pub position-from : (i n : ℕ) → position test (span f i n) ≡ first-if (ltb (first-at (λ j. test (f j)) i n) (i + n)) (first-at (λ j. test (f j)) i n - i)
+  pub position-from : (i n : ℕ) → position test (span f i n) ≡ first-if (ltb (first-at (λ j. test (f j)) i n) (i + n))
+      (first-at (λ j. test (f j)) i n - i)
   position-from i zero = sym (ap (λ (b : Bool). first-if b (i - i)) (le-ltb i (i + 0) (omega arith)))
   position-from i (suc n) = at (test (f i)) (position-from (suc i) n)
     where
-      at : (b : Bool) → position test (span f (suc i) n) ≡ first-if (ltb (first-at (λ j. test (f j)) (suc i) n) (suc i + n)) (first-at (λ j. test (f j)) (suc i) n - suc i)
+      at : (b : Bool) → position test (span f (suc i) n) ≡ first-if (ltb (first-at (λ j. test (f j)) (suc i) n) (suc i + n))
+          (first-at (λ j. test (f j)) (suc i) n - suc i)
           → _≡_ {A = Option ℕ} (elim b [ true ↦ some 0 | false ↦ later (position test (span f (suc i) n)) ])
-          (first-if (ltb (choose b i (first-at (λ j. test (f j)) (suc i) n)) (i + suc n)) (choose b i (first-at (λ j. test (f j)) (suc i) n) - i))
-      at true e = let z : 0 ≡ i - i = omega arith in ap some z ∙ sym (ap (λ (b : Bool). first-if b (i - i)) (lt-ltb i (i + suc n) (omega arith)))
+          (first-if (ltb (choose b i (first-at (λ j. test (f j)) (suc i) n)) (i + suc n))
+          (choose b i (first-at (λ j. test (f j)) (suc i) n) - i))
+      at true e = let z : 0 ≡ i - i = omega arith in ap some z
+          ∙ sym (ap (λ (b : Bool). first-if b (i - i)) (lt-ltb i (i + suc n) (omega arith)))
       at false e =
           let s : suc i + n ≡ i + suc n = omega arith in
           let l : suc i ≤ first-at (λ j. test (f j)) (suc i) n = first-bound (λ j. test (f j)) (suc i) n .0 in
-          ap later e ∙ ap (λ (m : ℕ). later (first-if (ltb (first-at (λ j. test (f j)) (suc i) n) m) (first-at (λ j. test (f j)) (suc i) n - suc i))) s
+          ap later e ∙ ap (λ (m : ℕ). later (first-if (ltb (first-at (λ j. test (f j)) (suc i) n) m)
+          (first-at (λ j. test (f j)) (suc i) n - suc i))) s
           ∙ shift (ltb (first-at (λ j. test (f j)) (suc i) n) (i + suc n)) (first-at (λ j. test (f j)) (suc i) n) l
         where
           shift : (b : Bool) (r : ℕ) → suc i ≤ r → later (first-if b (r - suc i)) ≡ first-if b (r - i)

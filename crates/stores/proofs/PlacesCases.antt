@@ -11,7 +11,8 @@ use Rattle.rings.specs.Rings.{place-if, has-any, shortened, popped-next}
 use Rattle.rings.proofs.Walks.{walk-at}
 use Rattle.stores.specs.declared.places.Places.{Places}
 use Rattle.stores.specs.Numbers.{free}
-use Rattle.stores.specs.Places.{ring, places, popped, begun, freed-if, free-place-if, any-free, any-unused, freed, free-place, TookPlace}
+use Rattle.stores.specs.Places.{ring, places, popped, begun, freed-if, free-place-if, any-free, any-unused, freed, free-place}
+use Rattle.stores.specs.Places.{TookPlace}
 use Rattle.stores.specs.Sound.{waiting, SoundPlaces}
 use Rattle.stores.proofs.PlacesViews.{length-ring, popped-sound, popped-other, begun-sound, taken-used}
 
@@ -56,7 +57,8 @@ module _ (p : Places) (n : ℕ) (held : List ℕ) (sound : SoundPlaces p n held)
   freed-begun h = record { small = h; sound = begun-sound p n held sound h; same = λ u k. refl }
 
   by-tests : (a b : Bool) → any-free p ≡ a → any-unused p ≡ b
-      → (free-place-if a b p < 256 → Freed p n held (freed-if a b p) (free-place-if a b p)) × (256 ≤ free-place-if a b p → waiting p n + length held ≡ 256)
+      → (free-place-if a b p < 256 → Freed p n held (freed-if a b p) (free-place-if a b p))
+      × (256 ≤ free-place-if a b p → waiting p n + length held ≡ 256)
   by-tests true b ea eb =
       let has : 0 < length (ring p free) = omega (arith, length-ring p free, ltb-true 0 (getD (p .len) free 0) ea) in
       (λ h. freed-pop has, λ h. absurd (omega (arith, freed-pop has .small)))

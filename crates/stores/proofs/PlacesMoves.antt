@@ -29,18 +29,22 @@ module _ (p : Places) (n : ℕ) (held : List ℕ) (t : ℕ) (h : t < n) (sound :
   small = omega (arith, sound .few)
 
   pub moved-free : ring (moved-to t free p) free ≡ ring p free ++ ring p t
-  moved-free = ring-move-to (p .next) (p .tail) (p .len) (p .top) (sound .rings) t free apart small (omega arith) (p′ .next) (p′ .tail) (p′ .len) did
+  moved-free = ring-move-to (p .next) (p .tail) (p .len) (p .top) (sound .rings) t free apart small (omega arith) (p′ .next) (p′ .tail)
+      (p′ .len) did
 
   pub moved-own : ring (moved-to t free p) t ≡ []
-  moved-own = ring-move-from (p .next) (p .tail) (p .len) (p .top) (sound .rings) t free apart small (omega arith) (p′ .next) (p′ .tail) (p′ .len) did
+  moved-own = ring-move-from (p .next) (p .tail) (p .len) (p .top) (sound .rings) t free apart small (omega arith) (p′ .next) (p′ .tail)
+      (p′ .len) did
 
   pub moved-other : (u : ℕ) → (u ≡ free → ⊥) → (u ≡ t → ⊥) → ring (moved-to t free p) u ≡ ring p u
-  moved-other u a b = ring-move-other (p .next) (p .tail) (p .len) (p .top) (sound .rings) t free apart small (omega arith) (p′ .next) (p′ .tail) (p′ .len) did u a b
+  moved-other u a b = ring-move-other (p .next) (p .tail) (p .len) (p .top) (sound .rings) t free apart small (omega arith) (p′ .next)
+      (p′ .tail) (p′ .len) did u a b
 
   not-held : (x u : ℕ) → 1 ≤ times x held → times x (ring p′ u) ≡ 0
   not-held x u k = is-or-not free (λ v. times x (ring p′ v) ≡ 0)
       (rw moved-free (omega (arith, times-append x (ring p free) (ring p t), sound .apart x free k, sound .apart x t k)))
-      (λ v a. is-or-not t (λ w. (w ≡ free → ⊥) → times x (ring p′ w) ≡ 0) (λ b. rw moved-own refl) (λ w c b. rw (moved-other w b c) (sound .apart x w k)) v a) u
+      (λ v a. is-or-not t (λ w. (w ≡ free → ⊥) → times x (ring p′ w) ≡ 0) (λ b. rw moved-own refl)
+      (λ w c b. rw (moved-other w b c) (sound .apart x w k)) v a) u
 
   -- the whole ring of a table goes to the free places
   pub moved-sound : SoundPlaces (moved-to t free p) n held
@@ -48,7 +52,8 @@ module _ (p : Places) (n : ℕ) (held : List ℕ) (t : ℕ) (h : t < n) (sound :
       let w : waiting p′ n + length (ring p t) ≡ waiting p n + length (ring p′ t) =
       waiting-one p p′ n t h (λ u k d. ap length (moved-other u (λ e. omega (arith, sound .few)) d)) in
       record {
-        rings = ring-move-sound (p .next) (p .tail) (p .len) (p .top) (sound .rings) t free apart small (omega arith) (p′ .next) (p′ .tail) (p′ .len) did;
+        rings = ring-move-sound (p .next) (p .tail) (p .len) (p .top) (sound .rings) t free apart small (omega arith) (p′ .next) (p′ .tail)
+            (p′ .len) did;
         few = sound .few;
         empty = λ u a b. moved-other u b (λ e. omega arith) ∙ sound .empty u a b;
         apart = not-held;
@@ -61,13 +66,17 @@ module _ (p : Places) (n : ℕ) (held : List ℕ) (t : ℕ) (h : t < n) (sound :
 pub places-is : (n n′ t t′ l l′ : List ℕ) (m m′ : ℕ) → n ≡ n′ → t ≡ t′ → l ≡ l′ → m ≡ m′ → places n t l m ≡ places n′ t′ l′ m′
 places-is n n′ t t′ l l′ m m′ a b c d = cc
 
-pub moved-is : (p : Places) (t g : ℕ) (n′ t′ l′ : List ℕ) → RingMoved (p .next) (p .tail) (p .len) t g n′ t′ l′ → places n′ t′ l′ (p .top) ≡ moved-to t g p
+pub moved-is : (p : Places) (t g : ℕ) (n′ t′ l′ : List ℕ) → RingMoved (p .next) (p .tail) (p .len) t g n′ t′ l′
+    → places n′ t′ l′ (p .top) ≡ moved-to t g p
 moved-is p t g n′ t′ l′ did =
-    places-is n′ (moved-to t g p .next) t′ (moved-to t g p .tail) l′ (moved-to t g p .len) (p .top) (p .top) (did .links) (did .ends) (did .size) refl
+    places-is n′ (moved-to t g p .next) t′ (moved-to t g p .tail) l′ (moved-to t g p .len) (p .top) (p .top) (did .links) (did .ends)
+    (did .size) refl
 
-pub enqueued-is : (p : Places) (t q : ℕ) (n′ t′ l′ : List ℕ) → n′ ≡ linked (p .next) (p .tail) (p .len) t q → t′ ≡ set (p .tail) t q → l′ ≡ lengthened (p .len) t
+pub enqueued-is : (p : Places) (t q : ℕ) (n′ t′ l′ : List ℕ) → n′ ≡ linked (p .next) (p .tail) (p .len) t q → t′ ≡ set (p .tail) t q
+    → l′ ≡ lengthened (p .len) t
     → places n′ t′ l′ (p .top) ≡ enqueued t q p
-enqueued-is p t q n′ t′ l′ en et el = places-is n′ (enqueued t q p .next) t′ (enqueued t q p .tail) l′ (enqueued t q p .len) (p .top) (p .top) en et el refl
+enqueued-is p t q n′ t′ l′ en et el = places-is n′ (enqueued t q p .next) t′ (enqueued t q p .tail) l′ (enqueued t q p .len) (p .top)
+    (p .top) en et el refl
 
 -- `take_place` and then `ring_enqueue` of the place that it found
 pub freed-enqueued-is : (p : Places) (t : ℕ) (n′ l′ : List ℕ) (m′ q : ℕ) → TookPlace (p .next) (p .tail) (p .len) (p .top) n′ l′ m′ q

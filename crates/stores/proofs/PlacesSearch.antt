@@ -43,17 +43,20 @@ module _ (test : ℕ → Bool) where
   cons-here zero x l e = ap (λ (b : Bool). found-or b x (found-in test l)) e
   cons-here (suc n) x l e = true-false (eqb (suc n) 0 && test x) e (ap (λ (b : Bool). b && test x) (ne-eqb (suc n) 0 (λ d. omega arith)))
 
-  cons-next : (skip x : ℕ) (l : List ℕ) → eqb skip 0 && test x ≡ false → found-in test (drop skip (x ∷ l)) ≡ found-in test (drop (skip - 1) l)
+  cons-next : (skip x : ℕ) (l : List ℕ) → eqb skip 0 && test x ≡ false
+      → found-in test (drop skip (x ∷ l)) ≡ found-in test (drop (skip - 1) l)
   cons-next zero x l e = ap (λ (b : Bool). found-or b x (found-in test l)) e
   cons-next (suc n) x l e = let d : n ≡ suc n - 1 = omega arith in ap (λ (i : ℕ). found-in test (drop i l)) d
 
   module _ (next : List ℕ) (n a skip : ℕ) where
     pub found-here : 0 < n → eqb skip 0 && test (getD next a 0) ≡ true → found-in test (drop skip (walk n next a)) ≡ getD next a 0
-    found-here h e = ap (λ (l : List ℕ). found-in test (drop skip l)) (walk-step n next a h) ∙ cons-here skip (getD next a 0) (walk (n - 1) next (getD next a 0)) e
+    found-here h e = ap (λ (l : List ℕ). found-in test (drop skip l)) (walk-step n next a h)
+        ∙ cons-here skip (getD next a 0) (walk (n - 1) next (getD next a 0)) e
 
     pub found-next : 0 < n → eqb skip 0 && test (getD next a 0) ≡ false
         → found-in test (drop skip (walk n next a)) ≡ found-in test (drop (skip - 1) (walk (n - 1) next (getD next a 0)))
-    found-next h e = ap (λ (l : List ℕ). found-in test (drop skip l)) (walk-step n next a h) ∙ cons-next skip (getD next a 0) (walk (n - 1) next (getD next a 0)) e
+    found-next h e = ap (λ (l : List ℕ). found-in test (drop skip l)) (walk-step n next a h)
+        ∙ cons-next skip (getD next a 0) (walk (n - 1) next (getD next a 0)) e
 
     pub found-over : n ≤ 0 → found-in test (drop skip (walk n next a)) ≡ 256
     found-over h =

@@ -12,7 +12,19 @@ use borrow.Author.Tests.{eqb-true}
 use Rattle.rings.specs.Lists.{one, times, turned}
 use Rattle.rings.proofs.Counts.{is-or-not, times-append, times-self, times-out}
 use Rattle.rings.proofs.Walks.{length-walk}
-use Rattle.rings.proofs.RingViews.{ring-enqueue-own, ring-enqueue-other, ring-enqueue-sound, ring-unlink-own, ring-unlink-other, ring-unlink-sound, ring-unlink-out, ring-unlink-used, ring-fresh-top, ring-start, ring-start-sound}
+use Rattle.rings.proofs.RingViews.{
+  ring-enqueue-own,
+  ring-enqueue-other,
+  ring-enqueue-sound,
+  ring-unlink-own,
+  ring-unlink-other,
+  ring-unlink-sound,
+  ring-unlink-out,
+  ring-unlink-used,
+  ring-fresh-top,
+  ring-start,
+  ring-start-sound,
+}
 use Rattle.stores.specs.declared.places.Places.{Places}
 use Rattle.stores.specs.Numbers.{free}
 use Rattle.stores.specs.Places.{ring, enqueued, taken-at, popped, begun, blank-places}
@@ -39,13 +51,15 @@ module _ (p : Places) (n : ℕ) (held : List ℕ) (q t : ℕ) (sound : SoundPlac
   enqueued-own = ring-enqueue-own (p .next) (p .tail) (p .len) (p .top) (sound .rings) t q waits-nowhere (sound .used q has) small
 
   pub enqueued-other : (u : ℕ) → (u ≡ t → ⊥) → ring (enqueued t q p) u ≡ ring p u
-  enqueued-other u d = ring-enqueue-other (p .next) (p .tail) (p .len) (p .top) (sound .rings) t q waits-nowhere (sound .used q has) small u d
+  enqueued-other u d = ring-enqueue-other (p .next) (p .tail) (p .len) (p .top)
+      (sound .rings) t q waits-nowhere (sound .used q has) small u d
 
   longer : length (ring (enqueued t q p) t) ≡ length (ring p t) + 1
   longer = ap length enqueued-own ∙ length-append (ring p t) (q ∷ [])
 
   not-held : (x u : ℕ) → 1 ≤ times x held → times x (ring (enqueued t q p) u) ≡ 0
-  not-held x u h = is-or-not t (λ v. times x (ring (enqueued t q p) v) ≡ 0) own (λ v d. rw (enqueued-other v d) (sound .apart x v (omega arith))) u
+  not-held x u h = is-or-not t (λ v. times x (ring (enqueued t q p) v) ≡ 0) own
+      (λ v d. rw (enqueued-other v d) (sound .apart x v (omega arith))) u
     where
       own : times x (ring (enqueued t q p) t) ≡ 0
       own = rw enqueued-own (omega (arith, times-append x (ring p t) (q ∷ []), sound .apart x t (omega arith), sound .once x))
@@ -64,7 +78,8 @@ module _ (p : Places) (n : ℕ) (held : List ℕ) (q t : ℕ) (sound : SoundPlac
   }
 
 -- at the end of a table's ring
-pub enqueued-sound : (p : Places) (n : ℕ) (held : List ℕ) (q t : ℕ) → t < n → SoundPlaces p n (q ∷ held) → SoundPlaces (enqueued t q p) n held
+pub enqueued-sound : (p : Places) (n : ℕ) (held : List ℕ) (q t : ℕ) → t < n → SoundPlaces p n (q ∷ held)
+    → SoundPlaces (enqueued t q p) n held
 enqueued-sound p n held q t h sound =
     let small : t < 256 = omega (arith, sound .few) in
     let apart : free ≡ t → ⊥ = λ e. omega (arith, sound .few) in
@@ -77,14 +92,17 @@ enqueued-sound p n held q t h sound =
 pub given-sound : (p : Places) (n : ℕ) (held : List ℕ) (q : ℕ) → SoundPlaces p n (q ∷ held) → SoundPlaces (enqueued free q p) n held
 given-sound p n held q sound =
     let w : waiting (enqueued free q p) n ≡ waiting p n =
-    waiting-same p (enqueued free q p) n (λ u k. ap length (enqueued-other p n held q free sound (omega arith) u (λ e. omega (arith, sound .few)))) in
+    waiting-same p (enqueued free q p) n (λ u k. ap length
+    (enqueued-other p n held q free sound (omega arith) u (λ e. omega (arith, sound .few)))) in
     put p n held q free sound (omega arith) (λ u k d e. d e) (omega (arith, w, longer p n held q free sound (omega arith)))
 
-pub given-other : (p : Places) (n : ℕ) (held : List ℕ) (q : ℕ) → SoundPlaces p n (q ∷ held) → (u : ℕ) → u < n → ring (enqueued free q p) u ≡ ring p u
+pub given-other : (p : Places) (n : ℕ) (held : List ℕ) (q : ℕ) → SoundPlaces p n (q ∷ held) → (u : ℕ) → u < n
+    → ring (enqueued free q p) u ≡ ring p u
 given-other p n held q sound u h = enqueued-other p n held q free sound (omega arith) u (λ e. omega (arith, sound .few))
 
 -- TAKE: the place at j of ring t is held
-module _ (p : Places) (n : ℕ) (held : List ℕ) (t j : ℕ) (sound : SoundPlaces p n held) (small : t < 256) (there : j < length (ring p t)) where
+module _ (p : Places) (n : ℕ) (held : List ℕ) (t j : ℕ) (sound : SoundPlaces p n held) (small : t < 256)
+    (there : j < length (ring p t)) where
   abbrev q : ℕ
   q = getD (ring p t) j 0
 
@@ -158,13 +176,15 @@ taken-sound p n held t j h sound there =
 
 -- POP: the first of the free places
 popped-is : (p : Places) → taken-at free 0 p ≡ popped free p
-popped-is p = ap (λ (l : List ℕ). record { next = popped free p .next; tail = l; len = popped free p .len; top = p .top }) (set-getD (p .tail) free 0)
+popped-is p = ap (λ (l : List ℕ). record { next = popped free p .next; tail = l; len = popped free p .len; top = p .top })
+    (set-getD (p .tail) free 0)
 
 pub popped-sound : (p : Places) (n : ℕ) (held : List ℕ) → SoundPlaces p n held → 0 < length (ring p free)
     → SoundPlaces (popped free p) n (getD (ring p free) 0 0 ∷ held)
 popped-sound p n held sound there =
     let w : waiting (taken-at free 0 p) n ≡ waiting p n =
-    waiting-same p (taken-at free 0 p) n (λ u k. ap length (taken-other p n held free 0 sound (omega arith) there u (λ e. omega (arith, sound .few)))) in
+    waiting-same p (taken-at free 0 p) n (λ u k. ap length
+    (taken-other p n held free 0 sound (omega arith) there u (λ e. omega (arith, sound .few)))) in
     subst (λ (r : Places). SoundPlaces r n (getD (ring p free) 0 0 ∷ held)) (popped-is p)
     (hold p n held free 0 sound (omega arith) there (λ u k d e. d e) (omega (arith, w, shorter p n held free 0 sound (omega arith) there)))
 

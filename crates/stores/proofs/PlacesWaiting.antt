@@ -38,7 +38,8 @@ waiting-one p p′ (suc n) t h other = go (eqb n t) refl (λ k. waiting-one p p�
         omega (arith, more (omega arith), other n (omega arith) d)
 
 -- a count over all tables that each table's ring has
-pub total-waiting : {A : Type 0} (f : ℕ → A) (count : A → ℕ) (p : Places) → ((u : ℕ) → count (f u) ≡ length (ring p u)) → (n : ℕ) → total count (span f 0 n) ≡ waiting p n
+pub total-waiting : {A : Type 0} (f : ℕ → A) (count : A → ℕ) (p : Places) → ((u : ℕ) → count (f u) ≡ length (ring p u)) → (n : ℕ)
+    → total count (span f 0 n) ≡ waiting p n
 total-waiting f count p h zero = refl
 total-waiting f count p h (suc n) =
     ap (total count) (span-push f n) ∙ total-push count (span f 0 n) (f n) ∙ omega (arith, total-waiting f count p h n, h n)

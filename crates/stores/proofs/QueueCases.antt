@@ -1,5 +1,5 @@
--- The sign of a strand's selected literal; looking along a queue: what `find_strand` finds by where the first eligible strand stands, and that looking and then unlinking is taking.
--- From the laws of walks.
+-- The sign of a strand's selected literal; looking along a queue: what `find_strand` finds by where the first eligible strand stands, and
+-- that looking and then unlinking is taking. From the laws of walks.
 use Prim.Native.Nat.{ℕ, zero, suc, _+_, _-_, _≤_, _<_}
 use native.Mathlib.Numerals.{add-one}
 use native.Mathlib.Omega.{arith}
@@ -39,7 +39,8 @@ module _ (l : List Literal) (count index : ℕ) (long : length l ≡ 8) where
   pub not-far : 8 ≤ index → false ≡ is-not (getElem? (map meant (take count l)) index)
   not-far h = ap is-not (sym (map-elem-past meant (take count l) index (omega (arith, length-take count l))))
 
-  pub not-there : index < count → index < 8 → (d : Literal) → is-negative (meant (getD l index d)) ≡ is-not (getElem? (map meant (take count l)) index)
+  pub not-there : index < count → index < 8 → (d : Literal)
+      → is-negative (meant (getD l index d)) ≡ is-not (getElem? (map meant (take count l)) index)
   not-there h k d =
       ap is-not (ap (λ (x : Literal). some (meant x)) (sym (getD-take count l index d h))
       ∙ sym (map-elem meant (take count l) index d (omega (arith, length-take count l))))
@@ -59,17 +60,20 @@ waits-written x = for-no-mark (clause x .subgoals) (selected (x .selected))
 
 -- THE LOOP
 module _ (test : ℕ → Bool) (next : List ℕ) (n a : ℕ) (h : 0 < n) where
-  pub spot-here : test (getD next a 0) ≡ true → spot-from test a (walk n next a) ≡ record { found = true; before = a; place = getD next a 0 }
+  pub spot-here : test (getD next a 0) ≡ true → spot-from test a
+      (walk n next a) ≡ record { found = true; before = a; place = getD next a 0 }
   spot-here e =
       ap (spot-from test a) (walk-step n next a h)
       ∙ ap (λ (b : Bool). spot-if b a (getD next a 0) (spot-from test (getD next a 0) (walk (n - 1) next (getD next a 0)))) e
 
-  pub spot-next : test (getD next a 0) ≡ false → spot-from test a (walk n next a) ≡ spot-from test (getD next a 0) (walk (n - 1) next (getD next a 0))
+  pub spot-next : test (getD next a 0) ≡ false → spot-from test a (walk n next a) ≡ spot-from test (getD next a 0)
+      (walk (n - 1) next (getD next a 0))
   spot-next e =
       ap (spot-from test a) (walk-step n next a h)
       ∙ ap (λ (b : Bool). spot-if b a (getD next a 0) (spot-from test (getD next a 0) (walk (n - 1) next (getD next a 0)))) e
 
-pub spot-over : (test : ℕ → Bool) (next : List ℕ) (n a : ℕ) → n ≤ 0 → spot-from test a (walk n next a) ≡ record { found = false; before = a; place = 0 }
+pub spot-over : (test : ℕ → Bool) (next : List ℕ) (n a : ℕ) → n ≤ 0
+    → spot-from test a (walk n next a) ≡ record { found = false; before = a; place = 0 }
 spot-over test next n a h = let e : n ≡ 0 = omega arith in ap (λ (m : ℕ). spot-from test a (walk m next a)) e
 
 -- what is found, by where the first that passes the test stands
@@ -134,7 +138,8 @@ module _ (test : ℕ → Bool) (t : ℕ) (next tail len : List ℕ) (s : Spot)
 
   pub strand-none : s .found ≡ false → TookStrand test t next tail len next tail len 256
   strand-none e =
-      let none : (top : ℕ) → (256 ≡ taken-place test t (places next tail len top)) × (places next tail len top ≡ taken test t (places next tail len top)) =
+      let none : (top : ℕ) → (256 ≡ taken-place test t (places next tail len top))
+      × (places next tail len top ≡ taken test t (places next tail len top)) =
       λ top. looked-none test t (places next tail len top) (looked-at false e) in
       record { is = none 0 .0; left = λ top. none top .1 }
 
@@ -146,8 +151,10 @@ module _ (test : ℕ → Bool) (t : ℕ) (next tail len : List ℕ) (s : Spot)
       record {
         is = er ∙ ap (λ (b : ℕ). getD next b 0) before ∙ looked-behind test t (places next tail len 0) found
             ∙ looked-unlinked test t (places next tail len 0) found .0;
-        left = λ top. places-is next′ (unlinked next (s .before)) tail′ (set tail t (s .before)) len′ (shortened len t) top top en et el refl
-            ∙ ap (λ (b : ℕ). unlinked-at t b (places next tail len top)) before ∙ looked-unlinked test t (places next tail len top) found .1;
+        left = λ top. places-is next′ (unlinked next (s .before)) tail′ (set tail t (s .before)) len′
+            (shortened len t) top top en et el refl
+            ∙ ap (λ (b : ℕ). unlinked-at t b (places next tail len top)) before
+            ∙ looked-unlinked test t (places next tail len top) found .1;
       }
 
 -- A FRESH PLACE, by what `take_place` found

@@ -23,18 +23,30 @@ use Rattle.stores.specs.Queue.{waits-of, wants-of, with-places, with-num
 use Rattle.stores.specs.Queue.{freed-strands, blank-strand, blank-strands}
 use Rattle.stores.proofs.ListsAlike.{Alike, times-at, times-cases}
 use Rattle.stores.proofs.PlacesWaiting.{sound-alike, sound-grown}
-use Rattle.stores.proofs.PlacesViews.{enqueued-own, enqueued-other, enqueued-sound, given-sound, given-other, taken-own, taken-other, taken-sound, blank-places-sound}
+use Rattle.stores.proofs.PlacesViews.{
+  enqueued-own,
+  enqueued-other,
+  enqueued-sound,
+  given-sound,
+  given-other,
+  taken-own,
+  taken-other,
+  taken-sound,
+  blank-places-sound,
+}
 use Rattle.stores.proofs.PlacesCases.{freed-sound}
 use Rattle.stores.proofs.PlacesMoves.{moved-own, moved-other, moved-sound}
 use Rattle.stores.proofs.QueueCases.{waits-written}
 
 -- other places, the same strands: what the rings must give
-with-sound : (fresh : FirstStrands) (s : Strands) (n : ℕ) (held held′ : List ℕ) (p′ : Places) → SoundStrands fresh s n held → SoundPlaces p′ n held′
+with-sound : (fresh : FirstStrands) (s : Strands) (n : ℕ) (held held′ : List ℕ) (p′ : Places) → SoundStrands fresh s n held
+    → SoundPlaces p′ n held′
     → ((t q : ℕ) → t < n → 1 ≤ times q (ring p′ t) → InUse fresh s q) → ((q : ℕ) → 1 ≤ times q held′ → InUse fresh s q)
     → SoundStrands fresh (with-places s p′) n held′
 with-sound fresh s n held held′ p′ sound ps waits holds = record { places = ps; long = sound .long; queued = waits; in-hand = holds }
 
-pub strands-alike : (fresh : FirstStrands) (s : Strands) (n : ℕ) (held held′ : List ℕ) → Alike held held′ → SoundStrands fresh s n held → SoundStrands fresh s n held′
+pub strands-alike : (fresh : FirstStrands) (s : Strands) (n : ℕ) (held held′ : List ℕ) → Alike held held′ → SoundStrands fresh s n held
+    → SoundStrands fresh s n held′
 strands-alike fresh s n held held′ a sound = record {
   places = sound-alike (s .places) n held held′ a (sound .places);
   long = sound .long;
@@ -43,7 +55,8 @@ strands-alike fresh s n held held′ a sound = record {
 }
 
 -- for one table more, whose queue is empty
-pub strands-grown : (fresh : FirstStrands) (s : Strands) (n : ℕ) (held : List ℕ) → n < free → SoundStrands fresh s n held → SoundStrands fresh s (suc n) held
+pub strands-grown : (fresh : FirstStrands) (s : Strands) (n : ℕ) (held : List ℕ) → n < free → SoundStrands fresh s n held
+    → SoundStrands fresh s (suc n) held
 strands-grown fresh s n held room sound = record {
   places = sound-grown (s .places) n held room (sound .places);
   long = sound .long;
@@ -148,7 +161,8 @@ module _ (fresh : FirstStrands) (s : Strands) (n : ℕ) (held : List ℕ) (q : �
       (fresh-use c variant flags first)
 
 -- a held place is ready for another strand
-pub held-ready : (fresh : FirstStrands) (s : Strands) (n : ℕ) (held : List ℕ) (q : ℕ) → SoundStrands fresh s n (q ∷ held) → Ready fresh s n held q
+pub held-ready : (fresh : FirstStrands) (s : Strands) (n : ℕ) (held : List ℕ) (q : ℕ) → SoundStrands fresh s n (q ∷ held)
+    → Ready fresh s n held q
 held-ready fresh s n held q sound = record {
   places = sound .places;
   long = sound .long;
@@ -169,7 +183,8 @@ freed-ready fresh s n held sound h =
     }
 
 -- ENQUEUE
-pub enqueue-sound : (fresh : FirstStrands) (s : Strands) (n : ℕ) (held : List ℕ) (t q : ℕ) → t < n → SoundStrands fresh s n (q ∷ held) → SoundStrands fresh (enqueued-strand t q s) n held
+pub enqueue-sound : (fresh : FirstStrands) (s : Strands) (n : ℕ) (held : List ℕ) (t q : ℕ) → t < n → SoundStrands fresh s n (q ∷ held)
+    → SoundStrands fresh (enqueued-strand t q s) n held
 enqueue-sound fresh s n held t q h sound =
     with-sound fresh s n (q ∷ held) held (enqueued t q (s .places)) sound (enqueued-sound (s .places) n held q t h (sound .places))
     (λ u x k i. is-or-not t (λ v. v < n → 1 ≤ times x (ring (enqueued t q (s .places)) v) → InUse fresh s x)
@@ -188,14 +203,16 @@ enqueue-sound fresh s n held t q h sound =
     own x false e k = sound .queued t x h (omega (arith, ap one e, times-append x (ring (s .places) t) (q ∷ [])))
 
 -- GIVE BACK
-pub given-strand-sound : (fresh : FirstStrands) (s : Strands) (n : ℕ) (held : List ℕ) (q : ℕ) → SoundStrands fresh s n (q ∷ held) → SoundStrands fresh (given q s) n held
+pub given-strand-sound : (fresh : FirstStrands) (s : Strands) (n : ℕ) (held : List ℕ) (q : ℕ) → SoundStrands fresh s n (q ∷ held)
+    → SoundStrands fresh (given q s) n held
 given-strand-sound fresh s n held q sound =
     with-sound fresh s n (q ∷ held) held (enqueued free q (s .places)) sound (given-sound (s .places) n held q (sound .places))
     (λ u x k i. sound .queued u x k (rw (given-other (s .places) n held q (sound .places) u k) at i))
     (λ x k. sound .in-hand x (omega arith))
 
 -- TAKE the first eligible strand: its place is held
-module _ (fresh : FirstStrands) (s : Strands) (n : ℕ) (held : List ℕ) (t j : ℕ) (h : t < n) (sound : SoundStrands fresh s n held) (there : j < length (ring (s .places) t)) where
+module _ (fresh : FirstStrands) (s : Strands) (n : ℕ) (held : List ℕ) (t j : ℕ) (h : t < n) (sound : SoundStrands fresh s n held)
+    (there : j < length (ring (s .places) t)) where
   small : t < 256
   small = omega (arith, sound .places .few)
 
@@ -204,7 +221,8 @@ module _ (fresh : FirstStrands) (s : Strands) (n : ℕ) (held : List ℕ) (t j :
 
   pub taken-at-sound : SoundStrands fresh (with-places s (taken-at t j (s .places))) n (getD (ring (s .places) t) j 0 ∷ held)
   taken-at-sound =
-      with-sound fresh s n held (getD (ring (s .places) t) j 0 ∷ held) (taken-at t j (s .places)) sound (taken-sound (s .places) n held t j h (sound .places) there)
+      with-sound fresh s n held (getD (ring (s .places) t) j 0 ∷ held) (taken-at t j (s .places)) sound
+      (taken-sound (s .places) n held t j h (sound .places) there)
       (λ u x k i. is-or-not t (λ v. v < n → 1 ≤ times x (ring (taken-at t j (s .places)) v) → InUse fresh s x)
       (λ a b. sound .queued t x h (omega (arith, fewer x)))
       (λ v d a b. sound .queued v x a (rw (taken-other (s .places) n held t j (sound .places) small there v d) at b)) u k i)
@@ -213,12 +231,14 @@ module _ (fresh : FirstStrands) (s : Strands) (n : ℕ) (held : List ℕ) (t j :
       (λ i. sound .in-hand x i))
 
 -- TAKE ALL of a table's strands: their places are free
-pub cleared-sound : (fresh : FirstStrands) (s : Strands) (n : ℕ) (held : List ℕ) (t : ℕ) → t < n → SoundStrands fresh s n held → SoundStrands fresh (cleared t s) n held
+pub cleared-sound : (fresh : FirstStrands) (s : Strands) (n : ℕ) (held : List ℕ) (t : ℕ) → t < n → SoundStrands fresh s n held
+    → SoundStrands fresh (cleared t s) n held
 cleared-sound fresh s n held t h sound =
     with-sound fresh s n held held (moved-to t free (s .places)) sound (moved-sound (s .places) n held t h (sound .places))
     (λ u x k i. is-or-not t (λ v. v < n → 1 ≤ times x (ring (moved-to t free (s .places)) v) → InUse fresh s x)
     (λ a b. absurd (omega (arith, ap (times x) (moved-own (s .places) n held t h (sound .places)))))
-    (λ v d a b. sound .queued v x a (rw (moved-other (s .places) n held t h (sound .places) v (λ e. omega (arith, sound .places .few)) d) at b)) u k i)
+    (λ v d a b. sound .queued v x a (rw (moved-other (s .places) n held t h (sound .places) v (λ e. omega (arith, sound .places .few)) d)
+    at b)) u k i)
     (λ x k. sound .in-hand x k)
 
 -- BLANK: no table has a strand

@@ -24,7 +24,8 @@ use Rattle.stores.specs.Numbers.{most-clauses, flag-number}
 use Rattle.stores.specs.Places.{ring, places, free-place, TookPlace}
 use Rattle.stores.specs.View.{FirstStrands, strand-at, held-table, tables}
 use Rattle.stores.specs.Sound.{waiting, FirstOf, SoundStrands, Ready}
-use Rattle.stores.specs.Queue.{waits-of, wants-of, with-places, strands-of, written, made-fresh, enqueued-strand, freed-strands, stored}
+use Rattle.stores.specs.Queue.{waits-of, wants-of, with-places, strands-of, written, made-fresh, enqueued-strand, freed-strands}
+use Rattle.stores.specs.Queue.{stored}
 use Rattle.stores.specs.Queue.{fresh-if, fresh-stored, clauses-from, fresh-each}
 use Rattle.stores.proofs.PlacesWaiting.{waiting-one, total-waiting}
 use Rattle.stores.proofs.PlacesCases.{freed-sound, freed-none, freed-room}
@@ -65,8 +66,7 @@ pub grown-on : (fresh : FirstStrands) (s s′ s″ : Strands) (n : ℕ) (held : 
     → Grown fresh s s′ n held t new → Grown fresh s′ s″ n held t more → Grown fresh s s″ n held t (new ++ more)
 grown-on fresh s s′ s″ n held t new more g m = record {
   sound = m .sound;
-  own =
-      m .own ∙ ap (λ (l : List said-strand.Strand). l ++ more) (g .own) ∙ append-assoc (strands-of fresh s t) new more;
+  own = m .own ∙ ap (λ (l : List said-strand.Strand). l ++ more) (g .own) ∙ append-assoc (strands-of fresh s t) new more;
   others = λ u k d. m .others u k d ∙ g .others u k d;
   holds = λ u k. m .holds u k ∙ g .holds u k;
 }
@@ -163,15 +163,20 @@ fresh-whole variants flags t first count s h =
     ap (λ (left : ℕ). fresh-each variants flags t left first s) all
 
 -- HOW MANY: the definitions' count of the strands in the queues is what waits in the tables' rings
-pub queued-is : (fresh : FirstStrands) (ts : Tables) (s : Strands) (a : Answers) → total (λ t. length (t .strands)) (tables fresh ts s a) ≡ waiting (s .places) (ts .count)
-queued-is fresh ts s a = total-waiting (held-table fresh ts s a) (λ t. length (t .strands)) (s .places) (λ u. length-map (ring (s .places) u) (strand-at fresh s)) (ts .count)
+pub queued-is : (fresh : FirstStrands) (ts : Tables) (s : Strands) (a : Answers)
+    → total (λ t. length (t .strands)) (tables fresh ts s a) ≡ waiting (s .places) (ts .count)
+queued-is fresh ts s a = total-waiting (held-table fresh ts s a) (λ t. length (t .strands)) (s .places)
+    (λ u. length-map (ring (s .places) u) (strand-at fresh s)) (ts .count)
 
 -- 22: no place is found exactly where 256 strands are live, queued or held
-pub no-place-is-full : (fresh : FirstStrands) (ts : Tables) (s : Strands) (a : Answers) (held : List ℕ) → SoundStrands fresh s (ts .count) held
+pub no-place-is-full : (fresh : FirstStrands) (ts : Tables) (s : Strands) (a : Answers) (held : List ℕ)
+    → SoundStrands fresh s (ts .count) held
     → 256 ≤ free-place (s .places) → total (λ t. length (t .strands)) (tables fresh ts s a) + length held ≡ 256
-no-place-is-full fresh ts s a held sound h = omega (arith, queued-is fresh ts s a, freed-none (s .places) (ts .count) held (sound .places) h)
+no-place-is-full fresh ts s a held sound h = omega
+    (arith, queued-is fresh ts s a, freed-none (s .places) (ts .count) held (sound .places) h)
 
-pub a-place-is-found : (fresh : FirstStrands) (ts : Tables) (s : Strands) (a : Answers) (held : List ℕ) → SoundStrands fresh s (ts .count) held
+pub a-place-is-found : (fresh : FirstStrands) (ts : Tables) (s : Strands) (a : Answers) (held : List ℕ)
+    → SoundStrands fresh s (ts .count) held
     → total (λ t. length (t .strands)) (tables fresh ts s a) + length held < 256 → free-place (s .places) < 256
 a-place-is-found fresh ts s a held sound h = freed-room (s .places) (ts .count) held (sound .places) (omega (arith, queued-is fresh ts s a))
 
@@ -196,4 +201,5 @@ pub stored-is : (s : Strands) (t time : ℕ) (x : Strand) (n′ l′ : List ℕ)
     → (n″ t″ l″ : List ℕ) → n″ ≡ linked n′ (s .places .tail) l′ t q → t″ ≡ set (s .places .tail) t q → l″ ≡ lengthened l′ t
     → with-places (written q time x s) (places n″ t″ l″ m′) ≡ stored t time x s
 stored-is s t time x n′ l′ m′ q took n″ t″ l″ en et el =
-    ap₂ (λ (i : ℕ) (r : Places). with-places (written i time x s) r) (took .is) (freed-enqueued-is (s .places) t n′ l′ m′ q took n″ t″ l″ en et el)
+    ap₂ (λ (i : ℕ) (r : Places). with-places (written i time x s) r) (took .is)
+    (freed-enqueued-is (s .places) t n′ l′ m′ q took n″ t″ l″ en et el)

@@ -31,7 +31,18 @@ use Rattle.stores.specs.Sound.{SoundPlaces, InUse, FirstOf, Long, SoundS
 use Rattle.stores.specs.Queue.{waits-of, wants-of, with-places, strands-of, with-numbers, written, made-fresh}
 use Rattle.stores.specs.Queue.{enqueued-strand, given, test-at, taken-strand, strand-place, any-strand, cleared, freed-strands}
 use Rattle.stores.proofs.NumbersCases.{flag-of}
-use Rattle.stores.proofs.ListsSpans.{span-same, span-set, first-if, position-is, first-map, first-cong, rotate-front, map-turned, map-at, all-times}
+use Rattle.stores.proofs.ListsSpans.{
+  span-same,
+  span-set,
+  first-if,
+  position-is,
+  first-map,
+  first-cong,
+  rotate-front,
+  map-turned,
+  map-at,
+  all-times,
+}
 use Rattle.stores.proofs.PlacesViews.{enqueued-own, enqueued-other, given-other, taken-own, taken-other}
 use Rattle.stores.proofs.PlacesCases.{freed-sound}
 use Rattle.stores.proofs.PlacesMoves.{moved-own, moved-other}
@@ -40,12 +51,14 @@ use Rattle.stores.proofs.QueueCases.{waits-written}
 -- THE LIST OF TABLES, when the strands of one change or of none
 module _ (fresh : FirstStrands) (ts : Tables) (a : Answers) (s s′ : Strands) where
   pub tables-kept : ((u : ℕ) → u < ts .count → strands-of fresh s′ u ≡ strands-of fresh s u) → tables fresh ts s′ a ≡ tables fresh ts s a
-  tables-kept h = span-same (held-table fresh ts s a) (held-table fresh ts s′ a) (ts .count) (λ u k. ap (with-strands (held-table fresh ts s a u)) (h u k))
+  tables-kept h = span-same (held-table fresh ts s a) (held-table fresh ts s′ a) (ts .count)
+      (λ u k. ap (with-strands (held-table fresh ts s a u)) (h u k))
 
   pub tables-changed : (t : ℕ) → t < ts .count → ((u : ℕ) → u < ts .count → (u ≡ t → ⊥) → strands-of fresh s′ u ≡ strands-of fresh s u)
       → tables fresh ts s′ a ≡ set (tables fresh ts s a) t (with-strands (held-table fresh ts s a t) (strands-of fresh s′ t))
   tables-changed t h other =
-      span-set (held-table fresh ts s a) (held-table fresh ts s′ a) (ts .count) t h (λ u k d. ap (with-strands (held-table fresh ts s a u)) (other u k d))
+      span-set (held-table fresh ts s a) (held-table fresh ts s′ a) (ts .count) t h
+      (λ u k d. ap (with-strands (held-table fresh ts s a u)) (other u k d))
 
 -- WRITE at a place that waits nowhere: what another place shows is as it was
 module _ (fresh : FirstStrands) (s : Strands) (q : ℕ) (strands : List Strand) (time ambiguous variant waits wants : ℕ)
@@ -53,7 +66,8 @@ module _ (fresh : FirstStrands) (s : Strands) (q : ℕ) (strands : List Strand) 
   abbrev s′ : Strands
   s′ = with-numbers q strands time ambiguous variant waits wants s
 
-  pub numbers-away : (u : ℕ) → (u ≡ q → ⊥) → strand-at fresh (with-numbers q strands time ambiguous variant waits wants s) u ≡ strand-at fresh s u
+  pub numbers-away : (u : ℕ) → (u ≡ q → ⊥) → strand-at fresh
+      (with-numbers q strands time ambiguous variant waits wants s) u ≡ strand-at fresh s u
   numbers-away u d = rw (
     away u d,
     getD-set-other (s .time) q u time 0 d,
@@ -106,40 +120,49 @@ module _ (fresh : FirstStrands) (s : Strands) (q c variant flags : ℕ) where
   made-fresh-queue = numbers-queue fresh s q (s .strands) 0 (flag-number (books.bit0 flags)) variant waits-fresh c (λ u d. refl)
 
 -- ENQUEUE
-module _ (fresh : FirstStrands) (s : Strands) (n : ℕ) (held : List ℕ) (t q : ℕ) (h : t < n) (sound : SoundPlaces (s .places) n (q ∷ held)) where
+module _ (fresh : FirstStrands) (s : Strands) (n : ℕ) (held : List ℕ) (t q : ℕ) (h : t < n)
+    (sound : SoundPlaces (s .places) n (q ∷ held)) where
   small : t < 256
   small = omega (arith, sound .few)
 
   pub enqueue-own : strands-of fresh (enqueued-strand t q s) t ≡ push (strands-of fresh s t) (strand-at fresh s q)
-  enqueue-own = ap (map (strand-at fresh s)) (enqueued-own (s .places) n held q t sound small) ∙ map-append (strand-at fresh s) (ring (s .places) t) (q ∷ [])
+  enqueue-own = ap (map (strand-at fresh s)) (enqueued-own (s .places) n held q t sound small)
+      ∙ map-append (strand-at fresh s) (ring (s .places) t) (q ∷ [])
 
   pub enqueue-other : (u : ℕ) → (u ≡ t → ⊥) → strands-of fresh (enqueued-strand t q s) u ≡ strands-of fresh s u
   enqueue-other u d = ap (map (strand-at fresh s)) (enqueued-other (s .places) n held q t sound small u d)
 
   -- the definitions' `enqueue_strand`, at table t alone
   pub enqueue-view : (ts : Tables) (a : Answers) → ts .count ≡ n
-      → tables fresh ts (enqueued-strand t q s) a ≡ set (tables fresh ts s a) t (enqueue-strand (strand-at fresh s q) (held-table fresh ts s a t))
+      → tables fresh ts (enqueued-strand t q s) a ≡ set (tables fresh ts s a) t
+      (enqueue-strand (strand-at fresh s q) (held-table fresh ts s a t))
   enqueue-view ts a e =
       tables-changed fresh ts a s (enqueued-strand t q s) t (omega arith) (λ u k d. enqueue-other u d)
       ∙ ap (λ (l : List said-strand.Strand). set (tables fresh ts s a) t (with-strands (held-table fresh ts s a t) l)) enqueue-own
 
 -- GIVE BACK, and a place taken: no queue changes
-pub given-view : (fresh : FirstStrands) (ts : Tables) (a : Answers) (s : Strands) (held : List ℕ) (q : ℕ) → SoundPlaces (s .places) (ts .count) (q ∷ held)
+pub given-view : (fresh : FirstStrands) (ts : Tables) (a : Answers) (s : Strands) (held : List ℕ) (q : ℕ)
+    → SoundPlaces (s .places) (ts .count) (q ∷ held)
     → tables fresh ts (given q s) a ≡ tables fresh ts s a
 given-view fresh ts a s held q sound =
     tables-kept fresh ts a s (given q s) (λ u k. ap (map (strand-at fresh s)) (given-other (s .places) (ts .count) held q sound u k))
 
-pub freed-view : (fresh : FirstStrands) (ts : Tables) (a : Answers) (s : Strands) (held : List ℕ) → SoundPlaces (s .places) (ts .count) held → free-place (s .places) < 256
+pub freed-view : (fresh : FirstStrands) (ts : Tables) (a : Answers) (s : Strands) (held : List ℕ)
+    → SoundPlaces (s .places) (ts .count) held → free-place (s .places) < 256
     → tables fresh ts (freed-strands s) a ≡ tables fresh ts s a
 freed-view fresh ts a s held sound h =
-    tables-kept fresh ts a s (freed-strands s) (λ u k. ap (map (strand-at fresh s)) (freed-sound (s .places) (ts .count) held sound h .same u k))
+    tables-kept fresh ts a s (freed-strands s) (λ u k. ap (map (strand-at fresh s))
+    (freed-sound (s .places) (ts .count) held sound h .same u k))
 
 -- TAKE ALL
-pub cleared-view : (fresh : FirstStrands) (ts : Tables) (a : Answers) (s : Strands) (held : List ℕ) (t : ℕ) → t < ts .count → SoundPlaces (s .places) (ts .count) held
+pub cleared-view : (fresh : FirstStrands) (ts : Tables) (a : Answers) (s : Strands) (held : List ℕ) (t : ℕ) → t < ts .count
+    → SoundPlaces (s .places) (ts .count) held
     → tables fresh ts (cleared t s) a ≡ set (tables fresh ts s a) t (take-strands (held-table fresh ts s a t))
 cleared-view fresh ts a s held t h sound =
-    tables-changed fresh ts a s (cleared t s) t h (λ u k d. ap (map (strand-at fresh s)) (moved-other (s .places) (ts .count) held t h sound u (λ e. omega (arith, sound .few)) d))
-    ∙ ap (λ (l : List ℕ). set (tables fresh ts s a) t (with-strands (held-table fresh ts s a t) (map (strand-at fresh s) l))) (moved-own (s .places) (ts .count) held t h sound)
+    tables-changed fresh ts a s (cleared t s) t h
+    (λ u k d. ap (map (strand-at fresh s)) (moved-other (s .places) (ts .count) held t h sound u (λ e. omega (arith, sound .few)) d))
+    ∙ ap (λ (l : List ℕ). set (tables fresh ts s a) t (with-strands (held-table fresh ts s a t) (map (strand-at fresh s) l)))
+    (moved-own (s .places) (ts .count) held t h sound)
 
 -- TAKE THE FIRST ELIGIBLE. The numbers beside the strands test as the strands do.
 is-mode : (k : ℕ) → said.is-complete (mode k) ≡ flag k
@@ -163,7 +186,8 @@ test-is fresh s clock k q u =
     ∙ ap₂ (λ (b c : Bool). ltb (strand-at fresh s q .last-pursued-time) clock && not (b && c)) (sym (is-mode k))
     (flag-of (strand-at fresh s q .ex-clause .ambiguous))
 
-module _ (fresh : FirstStrands) (ts : Tables) (a : Answers) (s : Strands) (held : List ℕ) (t clock : ℕ) (h : t < ts .count) (sound : SoundStrands fresh s (ts .count) held) where
+module _ (fresh : FirstStrands) (ts : Tables) (a : Answers) (s : Strands) (held : List ℕ) (t clock : ℕ) (h : t < ts .count)
+    (sound : SoundStrands fresh s (ts .count) held) where
   abbrev complete : Bool
   complete = flag (getD (ts .complete) t 0)
 
@@ -179,15 +203,21 @@ module _ (fresh : FirstStrands) (ts : Tables) (a : Answers) (s : Strands) (held 
   first-is : first-index test (strands-of fresh s t) ≡ j
   first-is = first-map test (strand-at fresh s) places
       ∙ sym (first-cong (test-at clock complete s) (λ q. test (strand-at fresh s q)) places
-      (all-times (λ q. test-at clock complete s q ≡ test (strand-at fresh s q)) places (λ q k. test-is fresh s clock (getD (ts .complete) t 0) q (sound .queued t q h k))))
+      (all-times (λ q. test-at clock complete s q ≡ test (strand-at fresh s q)) places
+      (λ q k. test-is fresh s clock (getD (ts .complete) t 0) q (sound .queued t q h k))))
 
-  pub first-eligible : (b : Bool) → any-strand clock complete t s ≡ b → position test (strands-of fresh s t) ≡ first-if b j
-  first-eligible b e = position-is test (strands-of fresh s t) ∙ ap₂ (λ (i m : ℕ). first-if (ltb i m) i) first-is (length-map places (strand-at fresh s)) ∙ ap (λ (c : Bool). first-if c j) e
+  found : (b : Bool) → any-strand clock complete t s ≡ b → position test (strands-of fresh s t) ≡ first-if b j
+  found b e = position-is test (strands-of fresh s t) ∙ ap₂ (λ (i m : ℕ). first-if (ltb i m) i) first-is
+      (length-map places (strand-at fresh s)) ∙ ap (λ (c : Bool). first-if c j) e
 
   -- none where none is found
   pub taken-none : any-strand clock complete t s ≡ false → dequeue-next-strand-that test (held-table fresh ts s a t) ≡ none
   taken-none e =
-      ap (λ (o : Option ℕ). elim o [ none ↦ none | some first ↦ pop-front (with-strands (held-table fresh ts s a t) (rotate-left (strands-of fresh s t) first)) ]) (first-eligible false e)
+      ap (λ (o : Option ℕ). elim o [
+        | none ↦ none
+        | some first ↦ pop-front
+            (with-strands (held-table fresh ts s a t) (rotate-left (strands-of fresh s t) first))
+      ]) (found false e)
 
   module _ (e : any-strand clock complete t s ≡ true) where
     there : j < length places
@@ -203,24 +233,33 @@ module _ (fresh : FirstStrands) (ts : Tables) (a : Answers) (s : Strands) (held 
     fits = omega (arith, sound .places .few)
 
     own : strands-of fresh (with-places s (taken-at t j (s .places))) t ≡ turned j (strands-of fresh s t)
-    own = ap (map (strand-at fresh s)) (taken-own (s .places) (ts .count) held t j (sound .places) fits there) ∙ map-turned (strand-at fresh s) j places
+    own = ap (map (strand-at fresh s)) (taken-own (s .places) (ts .count) held t j (sound .places) fits there)
+        ∙ map-turned (strand-at fresh s) j places
 
     other : (u : ℕ) → (u ≡ t → ⊥) → strands-of fresh (with-places s (taken-at t j (s .places))) u ≡ strands-of fresh s u
     other u d = ap (map (strand-at fresh s)) (taken-other (s .places) (ts .count) held t j (sound .places) fits there u d)
 
     -- what the queue gives, and what it leaves: those behind, and then those before
-    pub taken-view : dequeue-next-strand-that test (held-table fresh ts s a t) ≡ some (strand-at fresh s (strand-place clock complete t s), held-table fresh ts (taken-strand clock complete t s) a t)
+    pub taken-view : dequeue-next-strand-that test (held-table fresh ts s a t) ≡ some
+        (strand-at fresh s (strand-place clock complete t s), held-table fresh ts (taken-strand clock complete t s) a t)
     taken-view =
         let l : List said-strand.Strand = strands-of fresh s t in
         let d : said-strand.Strand = strand-at fresh s 256 in
         let k : j < length l = omega (arith, there, length-map places (strand-at fresh s)) in
-        let f : rotate-left l j ≡ strand-at fresh s (getD places j 0) ∷ turned j l = rotate-front l j d k ∙ ap (λ (x : said-strand.Strand). x ∷ turned j l) (map-at (strand-at fresh s) places j 0 d there) in
-        ap (λ (o : Option ℕ). elim o [ none ↦ none | some first ↦ pop-front (with-strands (held-table fresh ts s a t) (rotate-left l first)) ]) (first-eligible true e)
+        let f : rotate-left l j ≡ strand-at fresh s (getD places j 0) ∷ turned j l = rotate-front l j d k
+        ∙ ap (λ (x : said-strand.Strand). x ∷ turned j l) (map-at (strand-at fresh s) places j 0 d there) in
+        ap (λ (o : Option ℕ). elim o [
+          | none ↦ none
+          | some first ↦ pop-front
+              (with-strands (held-table fresh ts s a t) (rotate-left l first))
+        ]) (found true e)
         ∙ ap (λ (m : List said-strand.Strand). pop-front (with-strands (held-table fresh ts s a t) m)) f
-        ∙ ap₂ (λ (x : said-strand.Strand) (m : List said-strand.Strand). some (x, with-strands (held-table fresh ts s a t) m)) (ap (strand-at fresh s) (sym place-is))
+        ∙ ap₂ (λ (x : said-strand.Strand) (m : List said-strand.Strand). some (x, with-strands (held-table fresh ts s a t) m))
+        (ap (strand-at fresh s) (sym place-is))
         (sym own ∙ ap (λ (r : Strands). strands-of fresh r t) (sym taken-is))
 
     -- no other table changes
-    pub taken-tables : tables fresh ts (taken-strand clock complete t s) a ≡ set (tables fresh ts s a) t (held-table fresh ts (taken-strand clock complete t s) a t)
+    pub taken-tables : tables fresh ts (taken-strand clock complete t s) a ≡ set (tables fresh ts s a) t
+        (held-table fresh ts (taken-strand clock complete t s) a t)
     taken-tables = subst (λ (r : Strands). tables fresh ts r a ≡ set (tables fresh ts s a) t (held-table fresh ts r a t)) (sym taken-is)
         (tables-changed fresh ts a s (with-places s (taken-at t j (s .places))) t h (λ u k d. other u d))

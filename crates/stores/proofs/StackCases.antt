@@ -31,7 +31,8 @@ pub some-top : (d : ℕ) → (d ≡ 0 → ⊥) → d ≤ 64 → has-top d ≡ tr
 some-top d n k = ap₂ (λ (b c : Bool). not b && not c) (ne-eqb d 0 n) (le-ltb 64 d k)
 
 module _ (d : ℕ) (l : List ℕ) where
-  caller-by : (b : Bool) → has-caller d ≡ b → (place-if b (getD l (d - 2) 0) ≡ caller-place d l) × (set-if b (d - 2) 256 l ≡ caller-written d l)
+  caller-by : (b : Bool) → has-caller d ≡ b → (place-if b (getD l (d - 2) 0) ≡ caller-place d l)
+      × (set-if b (d - 2) 256 l ≡ caller-written d l)
   caller-by b e = (ap (λ (c : Bool). place-if c (getD l (d - 2) 0)) (sym e), ap (λ (c : Bool). set-if c (d - 2) 256 l) (sym e))
 
   -- `caller_place` and `take_caller`

@@ -1,5 +1,5 @@
--- The searches among the entries: `first_of` over their tables is `is_active`; `coinductive_from` is the definitions' test of the entries up to
--- the top. From the search among numbers and the definition of `all-from`.
+-- The searches among the entries: `first_of` over their tables is `is_active`; `coinductive_from` is the definitions' test of the entries
+-- up to the top. From the search among numbers and the definition of `all-from`.
 use Prim.Native.Nat.{ℕ, zero, suc, _+_, _-_, _≤_, _<_}
 use native.Mathlib.Omega.{arith}
 use mathlib.Core.Path.{_≡_, refl, sym, ap, ap₂, _∙_}
@@ -50,33 +50,42 @@ module _ (fresh : FirstStrands) (k : Stack) (s : Strands) (t : ℕ) where
           → on-top b ≡ (first-if (ltb (first-at on 0 (suc n)) (suc n)) (suc n - 1 - first-at on 0 (suc n)))
       next b e f =
           let z : 0 + n ≡ n = omega arith in
-          let m : first-at on 0 (suc n) ≡ choose b n (suc n) = first-more on 0 n .1 (f ∙ sym z) ∙ ap (λ (j : ℕ). choose (on j) j (suc j)) z ∙ ap (λ (c : Bool). choose c n (suc n)) e in
+          let m : first-at on 0 (suc n) ≡ choose b n (suc n) = first-more on 0 n .1 (f ∙ sym z) ∙ ap (λ (j : ℕ). choose (on j) j (suc j)) z
+          ∙ ap (λ (c : Bool). choose c n (suc n)) e in
           found b ∙ sym (ap (λ (j : ℕ). first-if (ltb j (suc n)) (suc n - 1 - j)) m)
         where
           found : (c : Bool) → on-top c ≡ (first-if (ltb (choose c n (suc n)) (suc n)) (suc n - 1 - choose c n (suc n)))
-          found true = let z : 0 ≡ suc n - 1 - n = omega arith in ap some z ∙ sym (ap (λ (b : Bool). first-if b (suc n - 1 - n)) (lt-ltb n (suc n) (omega arith)))
+          found true = let z : 0 ≡ suc n - 1 - n = omega arith in ap some z
+              ∙ sym (ap (λ (b : Bool). first-if b (suc n - 1 - n)) (lt-ltb n (suc n) (omega arith)))
           found false = sym (ap (λ (b : Bool). first-if b (suc n - 1 - suc n)) (le-ltb (suc n) (suc n) (omega arith)))
 
-      at : (b : Bool) → ltb (first-at on 0 n) n ≡ b → is-active t (entries fresh k s n) ≡ first-if (ltb (first-at on 0 n) n) (n - 1 - first-at on 0 n)
+      at : (b : Bool) → ltb (first-at on 0 n) n ≡ b → is-active t (entries fresh k s n) ≡ first-if (ltb (first-at on 0 n) n)
+          (n - 1 - first-at on 0 n)
           → is-active t (entries fresh k s (suc n)) ≡ first-if (ltb (first-at on 0 (suc n)) (suc n)) (suc n - 1 - first-at on 0 (suc n))
       at true e below =
           let h : first-at on 0 n < n = ltb-true (first-at on 0 n) n e in
           let m : first-at on 0 (suc n) ≡ first-at on 0 n = first-more on 0 n .0 (omega arith) in
           let d : suc (n - 1 - first-at on 0 n) ≡ suc n - 1 - first-at on 0 (suc n) = omega (arith, m) in
           let b : ltb (first-at on 0 (suc n)) (suc n) ≡ true = lt-ltb (first-at on 0 (suc n)) (suc n) (omega (arith, m)) in
-          beneath-some (is-active t (entries fresh k s n)) (on-top (on n)) (n - 1 - first-at on 0 n) (below ∙ ap (λ (c : Bool). first-if c (n - 1 - first-at on 0 n)) e)
-          (first-if (ltb (first-at on 0 (suc n)) (suc n)) (suc n - 1 - first-at on 0 (suc n))) (ap some d ∙ sym (ap (λ (c : Bool). first-if c (suc n - 1 - first-at on 0 (suc n))) b))
+          beneath-some (is-active t (entries fresh k s n)) (on-top (on n)) (n - 1 - first-at on 0 n)
+          (below ∙ ap (λ (c : Bool). first-if c (n - 1 - first-at on 0 n)) e)
+          (first-if (ltb (first-at on 0 (suc n)) (suc n)) (suc n - 1 - first-at on 0 (suc n)))
+          (ap some d ∙ sym (ap (λ (c : Bool). first-if c (suc n - 1 - first-at on 0 (suc n))) b))
       at false e below =
           let h : n ≤ first-at on 0 n = ltb-false (first-at on 0 n) n e in
-          beneath-none (is-active t (entries fresh k s n)) (on-top (on n)) (below ∙ ap (λ (c : Bool). first-if c (n - 1 - first-at on 0 n)) e)
-          (first-if (ltb (first-at on 0 (suc n)) (suc n)) (suc n - 1 - first-at on 0 (suc n))) (next (on n) refl (omega (arith, first-bound on 0 n)))
+          beneath-none (is-active t (entries fresh k s n)) (on-top (on n))
+          (below ∙ ap (λ (c : Bool). first-if c (n - 1 - first-at on 0 n)) e)
+          (first-if (ltb (first-at on 0 (suc n)) (suc n)) (suc n - 1 - first-at on 0 (suc n)))
+          (next (on n) refl (omega (arith, first-bound on 0 n)))
 
   within-is : k .depth ≤ 64 → within (k .depth) ≡ k .depth
   within-is h = omega arith
 
   -- `is_active` of the definitions, by what `first_of` finds among the entries' tables
-  pub is-active-view : k .depth ≤ 64 → (r : ℕ) → r ≡ first-at on 0 (within (k .depth)) → is-active t (entered fresh k s) ≡ first-if (ltb r (k .depth)) (k .depth - 1 - r)
-  is-active-view h r e = active-from (k .depth) ∙ ap (λ (i : ℕ). first-if (ltb i (k .depth)) (k .depth - 1 - i)) (sym (e ∙ ap (first-at on 0) (within-is h)))
+  pub is-active-view : k .depth ≤ 64 → (r : ℕ) → r ≡ first-at on 0 (within (k .depth))
+      → is-active t (entered fresh k s) ≡ first-if (ltb r (k .depth)) (k .depth - 1 - r)
+  is-active-view h r e = active-from (k .depth) ∙ ap (λ (i : ℕ). first-if (ltb i (k .depth)) (k .depth - 1 - i))
+      (sym (e ∙ ap (first-at on 0) (within-is h)))
 
 -- THE COINDUCTIVE TEST
 and-comm : (b c : Bool) → b && c ≡ c && b
@@ -98,12 +107,14 @@ all-snoc test i (suc n) =
     ∙ ap (λ (b : Bool). b && all-from test (suc i) n) (and-comm (test i) (test (i + suc n)))
     ∙ sym (and-assoc (test (i + suc n)) (test i) (all-from test (suc i) n))
 
-module _ (fresh : FirstStrands) (k : Stack) (s : Strands) (ts : Tables) (a : Answers) (f : Forest) (is : f .tables ≡ tables fresh ts s a) (few : ts .count ≤ 64) where
+module _ (fresh : FirstStrands) (k : Stack) (s : Strands) (ts : Tables) (a : Answers) (f : Forest) (is : f .tables ≡ tables fresh ts s a)
+    (few : ts .count ≤ 64) where
   abbrev test : ℕ → Bool
   test = coinductive-at (k .table) (ts .coinductive)
 
   flag-is : (i : ℕ) → getD (k .table) i 0 < ts .count → flag (getD (ts .coinductive) (getD (k .table) i 0) 0) ≡ test i
-  flag-is i h = sym (ap (λ (b : Bool). b && flag (getD (ts .coinductive) (getD (k .table) i 0) 0)) (lt-ltb (getD (k .table) i 0) 64 (omega arith)))
+  flag-is i h = sym (ap (λ (b : Bool). b && flag (getD (ts .coinductive) (getD (k .table) i 0) 0))
+      (lt-ltb (getD (k .table) i 0) 64 (omega arith)))
 
   up-to-top : (n m : ℕ) → m ≤ n → ((i : ℕ) → i < n → getD (k .table) i 0 < ts .count)
       → coinductive-entries f (take m (entries fresh k s n)) ≡ go (all-from test (n - m) m)
@@ -116,9 +127,12 @@ module _ (fresh : FirstStrands) (k : Stack) (s : Strands) (ts : Tables) (a : Ans
   up-to-top (suc n) (suc m) h made =
       let e : (n - m) + m ≡ n = omega arith in
       let z : suc n - suc m ≡ n - m = omega arith in
-      ap₂ (λ (x : Stops Table) (y : Stops Bool). x >>= λ t. y >>= λ o. go (t .coinductive-goal && o)) (table-at-is fresh ts s a f is (getD (k .table) n 0) (made n (omega arith))) (up-to-top n m (omega arith) (λ i j. made i (omega arith)))
+      ap₂ (λ (x : Stops Table) (y : Stops Bool). x >>= λ t. y >>= λ o. go (t .coinductive-goal && o))
+      (table-at-is fresh ts s a f is (getD (k .table) n 0) (made n (omega arith)))
+      (up-to-top n m (omega arith) (λ i j. made i (omega arith)))
       ∙ ap (λ (b : Bool). go (b && all-from test (n - m) m)) (flag-is n (made n (omega arith)))
-      ∙ ap go (ap (λ (j : ℕ). test j && all-from test (n - m) m) (sym e) ∙ sym (all-snoc test (n - m) m) ∙ ap (λ (j : ℕ). all-from test j (suc m)) (sym z))
+      ∙ ap go (ap (λ (j : ℕ). test j && all-from test (n - m) m) (sym e) ∙ sym (all-snoc test (n - m) m)
+      ∙ ap (λ (j : ℕ). all-from test j (suc m)) (sym z))
 
   -- the entries from one up to the top, by what `coinductive_from` says
   pub coinductive-from-view : k .depth ≤ 64 → ((i : ℕ) → i < k .depth → getD (k .table) i 0 < ts .count) → (from : ℕ) → from < k .depth

@@ -25,14 +25,17 @@ use Rattle.stores.specs.Stack.{has-top, top-written, pushed, popped, act
 use Rattle.stores.proofs.StackCases.{some-top}
 use Rattle.stores.proofs.QueueViews.{written-away}
 
-pub entries-same : (fresh : FirstStrands) (k k′ : Stack) (s s′ : Strands) (n : ℕ) → ((i : ℕ) → i < n → entry-at fresh k′ s′ i ≡ entry-at fresh k s i) → entries fresh k′ s′ n ≡ entries fresh k s n
+pub entries-same : (fresh : FirstStrands) (k k′ : Stack) (s s′ : Strands) (n : ℕ)
+    → ((i : ℕ) → i < n → entry-at fresh k′ s′ i ≡ entry-at fresh k s i) → entries fresh k′ s′ n ≡ entries fresh k s n
 entries-same fresh k k′ s s′ zero h = refl
-entries-same fresh k k′ s s′ (suc n) h = ap₂ (λ (e : StackEntry) (es : List StackEntry). e ∷ es) (h n (omega arith)) (entries-same fresh k k′ s s′ n (λ i j. h i (omega arith)))
+entries-same fresh k k′ s s′ (suc n) h = ap₂ (λ (e : StackEntry) (es : List StackEntry). e ∷ es) (h n (omega arith))
+    (entries-same fresh k k′ s s′ n (λ i j. h i (omega arith)))
 
 abbrev entry-of : (t c p n : ℕ) → Option said-strand.Strand → StackEntry
 entry-of t c p n a = record { table = t; clock = c; cyclic-minimums = record { positive = p; negative = n }; active-strand = a }
 
-entry-is : (fresh : FirstStrands) (s : Strands) (t t′ c c′ p p′ n n′ a a′ : ℕ) → t ≡ t′ → c ≡ c′ → p ≡ p′ → n ≡ n′ → a ≡ a′ → entry-of t c p n (active-strand-at fresh s a) ≡ entry-of t′ c′ p′ n′ (active-strand-at fresh s a′)
+entry-is : (fresh : FirstStrands) (s : Strands) (t t′ c c′ p p′ n n′ a a′ : ℕ) → t ≡ t′ → c ≡ c′ → p ≡ p′ → n ≡ n′ → a ≡ a′
+    → entry-of t c p n (active-strand-at fresh s a) ≡ entry-of t′ c′ p′ n′ (active-strand-at fresh s a′)
 entry-is fresh s t t′ c c′ p p′ n n′ a a′ et ec ep en ea = cc
 
 -- PUSH
@@ -41,15 +44,37 @@ module _ (fresh : FirstStrands) (k : Stack) (s : Strands) (t time most : ℕ) (s
   d = k .depth
 
   abbrev k′ : Stack
-  k′ = record { depth = suc d; table = set (k .table) d t; clock = set (k .clock) d time; positive = set (k .positive) d most; negative = set (k .negative) d most; active = set (k .active) d 256 }
+  k′ = record {
+    depth = suc d;
+    table = set (k .table) d t;
+    clock = set (k .clock) d time;
+    positive = set (k .positive) d most;
+    negative = set (k .negative) d most;
+    active = set (k .active) d 256;
+  }
 
   pushed-is : pushed t time most k ≡ k′
   pushed-is =
-      ap (λ (b : Bool). record { depth = add-if b d; table = set-if b d t (k .table); clock = set-if b d time (k .clock); positive = set-if b d most (k .positive); negative = set-if b d most (k .negative); active = set-if b d 256 (k .active) }) (lt-ltb d 64 room)
-      ∙ ap (λ (m : ℕ). record { depth = m; table = set (k .table) d t; clock = set (k .clock) d time; positive = set (k .positive) d most; negative = set (k .negative) d most; active = set (k .active) d 256 }) (add-one d)
+      ap (λ (b : Bool). record {
+        depth = add-if b d;
+        table = set-if b d t (k .table);
+        clock = set-if b d time (k .clock);
+        positive = set-if b d most (k .positive);
+        negative = set-if b d most (k .negative);
+        active = set-if b d 256 (k .active);
+      }) (lt-ltb d 64 room)
+      ∙ ap (λ (m : ℕ). record {
+        depth = m;
+        table = set (k .table) d t;
+        clock = set (k .clock) d time;
+        positive = set (k .positive) d most;
+        negative = set (k .negative) d most;
+        active = set (k .active) d 256;
+      }) (add-one d)
 
   new-entry : entry-at fresh k′ s d ≡ entry-of t time most most none
-  new-entry = entry-is fresh s (getD (set (k .table) d t) d 0) t (getD (set (k .clock) d time) d 0) time (getD (set (k .positive) d most) d 0) most (getD (set (k .negative) d most) d 0) most
+  new-entry = entry-is fresh s (getD (set (k .table) d t) d 0) t (getD (set (k .clock) d time) d 0) time
+      (getD (set (k .positive) d most) d 0) most (getD (set (k .negative) d most) d 0) most
       (getD (set (k .active) d 256) d 0) 256
       (getD-set-same (k .table) d t 0 (omega (arith, sound .long-table)))
       (getD-set-same (k .clock) d time 0 (omega (arith, sound .long-clock)))
@@ -66,7 +91,8 @@ module _ (fresh : FirstStrands) (k : Stack) (s : Strands) (t time most : ℕ) (s
       (getD-set-other (k .table) d i t 0 n) (getD-set-other (k .clock) d i time 0 n) (getD-set-other (k .positive) d i most 0 n)
       (getD-set-other (k .negative) d i most 0 n) (getD-set-other (k .active) d i 256 0 n)
 
-  pub push-view : entered fresh (pushed t time most k) s ≡ push-entry t (record { positive = most; negative = most }) time (entered fresh k s)
+  pub push-view : entered fresh (pushed t time most k) s ≡ push-entry t (record { positive = most; negative = most }) time
+      (entered fresh k s)
   push-view =
       ap (λ (r : Stack). entered fresh r s) pushed-is
       ∙ ap₂ (λ (e : StackEntry) (es : List StackEntry). e ∷ es) new-entry (entries-same fresh k k′ s s d old-entry)
@@ -83,13 +109,25 @@ module _ (fresh : FirstStrands) (k : Stack) (s : Strands) (t time most : ℕ) (s
   })
     where
       active-at : (i : ℕ) (b : Bool) → eqb i d ≡ b → i < suc d → getD (set (k .active) d 256) i 0 ≤ 256
-      active-at i true e h = omega (arith, ap (λ (j : ℕ). getD (set (k .active) d 256) j 0) (eqb-true i d e), getD-set-same (k .active) d 256 0 (omega (arith, sound .long-active)))
-      active-at i false e h = let n : i ≡ d → ⊥ = eqb-false i d e in omega (arith, getD-set-other (k .active) d i 256 0 n, sound .places i (omega arith))
+      active-at i true e h = omega (
+        arith,
+        ap (λ (j : ℕ). getD (set (k .active) d 256) j 0) (eqb-true i d e),
+        getD-set-same (k .active) d 256 0 (omega (arith, sound .long-active)),
+      )
+      active-at i false e h = let n : i ≡ d → ⊥ = eqb-false i d e in omega
+          (arith, getD-set-other (k .active) d i 256 0 n, sound .places i (omega arith))
 
 -- a full stack is as it was
 pub push-full : (k : Stack) (t time most : ℕ) → 64 ≤ k .depth → pushed t time most k ≡ k
 push-full k t time most h =
-    ap (λ (b : Bool). record { depth = add-if b (k .depth); table = set-if b (k .depth) t (k .table); clock = set-if b (k .depth) time (k .clock); positive = set-if b (k .depth) most (k .positive); negative = set-if b (k .depth) most (k .negative); active = set-if b (k .depth) 256 (k .active) }) (le-ltb (k .depth) 64 h)
+    ap (λ (b : Bool). record {
+      depth = add-if b (k .depth);
+      table = set-if b (k .depth) t (k .table);
+      clock = set-if b (k .depth) time (k .clock);
+      positive = set-if b (k .depth) most (k .positive);
+      negative = set-if b (k .depth) most (k .negative);
+      active = set-if b (k .depth) 256 (k .active);
+    }) (le-ltb (k .depth) 64 h)
 
 -- POP, and the top
 popped-entries : (fresh : FirstStrands) (k : Stack) (s : Strands) (n : ℕ) → entries fresh (popped k) s n ≡ entries fresh k s n
@@ -99,7 +137,8 @@ module _ (fresh : FirstStrands) (k : Stack) (s : Strands) where
   pub pop-view : 1 ≤ k .depth → entered fresh k s ≡ entry-at fresh k s (k .depth - 1) ∷ entered fresh (popped k) s
   pop-view h =
       let e : k .depth ≡ suc (k .depth - 1) = omega arith in
-      ap (entries fresh k s) e ∙ ap (λ (es : List StackEntry). entry-at fresh k s (k .depth - 1) ∷ es) (sym (popped-entries fresh k s (k .depth - 1)))
+      ap (entries fresh k s) e ∙ ap (λ (es : List StackEntry). entry-at fresh k s (k .depth - 1) ∷ es)
+      (sym (popped-entries fresh k s (k .depth - 1)))
 
   pub top-view : 1 ≤ k .depth → top (entered fresh k s) ≡ go (entry-at fresh k s (k .depth - 1))
   top-view h = ap top (pop-view h)
@@ -140,10 +179,12 @@ module _ (fresh : FirstStrands) (k : Stack) (s : Strands) (sound : SoundStack k)
   change-is change k′ e here there =
       let d : k .depth ≡ suc j = omega arith in
       ap (λ (n : ℕ). change-top (entries fresh k s n) change) d
-      ∙ ap go (ap₂ (λ (x : StackEntry) (es : List StackEntry). x ∷ es) (sym here) (sym (entries-same fresh k k′ s s j there)) ∙ ap (entries fresh k′ s) (sym d ∙ sym e))
+      ∙ ap go (ap₂ (λ (x : StackEntry) (es : List StackEntry). x ∷ es) (sym here) (sym (entries-same fresh k k′ s s j there))
+      ∙ ap (entries fresh k′ s) (sym d ∙ sym e))
 
   -- the top's active strand
-  pub activate-view : (place : ℕ) → change-top (entered fresh k s) (λ e. with-active e (active-strand-at fresh s place)) ≡ go (entered fresh (activated place k) s)
+  pub activate-view : (place : ℕ) → change-top (entered fresh k s) (λ e. with-active e (active-strand-at fresh s place)) ≡ go
+      (entered fresh (activated place k) s)
   activate-view place = change-is (λ e. with-active e (active-strand-at fresh s place)) (activated place k) refl
       (ap (λ (p : ℕ). with-active (entry-at fresh k s j) (active-strand-at fresh s p)) (top-at place (k .active) (sound .long-active)))
       (λ i a. ap (λ (p : ℕ). with-active (entry-at fresh k s i) (active-strand-at fresh s p)) (top-away place (k .active) i a))
@@ -160,16 +201,24 @@ module _ (fresh : FirstStrands) (k : Stack) (s : Strands) (sound : SoundStack k)
   }
     where
       at : (i : ℕ) (b : Bool) → eqb i j ≡ b → i < k .depth → getD (top-written (k .depth) place (k .active)) i 0 ≤ 256
-      at i true e a = omega (arith, ap (λ (n : ℕ). getD (top-written (k .depth) place (k .active)) n 0) (eqb-true i j e), top-at place (k .active) (sound .long-active))
+      at i true e a = omega (
+        arith,
+        ap (λ (n : ℕ). getD (top-written (k .depth) place (k .active)) n 0) (eqb-true i j e),
+        top-at place
+            (k .active) (sound .long-active),
+      )
       at i false e a =
           let n : i ≡ j → ⊥ = eqb-false i j e in
           omega (arith, top-away place (k .active) i (omega arith), sound .places i a)
 
   -- the top's minimums
-  pub minimize-view : (p n : ℕ) → change-top (entered fresh k s) (λ e. with-minimums e (record { positive = p; negative = n })) ≡ go (entered fresh (minimized p n k) s)
+  pub minimize-view : (p n : ℕ) → change-top (entered fresh k s) (λ e. with-minimums e (record { positive = p; negative = n })) ≡ go
+      (entered fresh (minimized p n k) s)
   minimize-view p n = change-is (λ e. with-minimums e (record { positive = p; negative = n })) (minimized p n k) refl
-      (ap₂ (λ (x y : ℕ). with-minimums (entry-at fresh k s j) (record { positive = x; negative = y })) (top-at p (k .positive) (sound .long-positive)) (top-at n (k .negative) (sound .long-negative)))
-      (λ i a. ap₂ (λ (x y : ℕ). with-minimums (entry-at fresh k s i) (record { positive = x; negative = y })) (top-away p (k .positive) i a) (top-away n (k .negative) i a))
+      (ap₂ (λ (x y : ℕ). with-minimums (entry-at fresh k s j) (record { positive = x; negative = y }))
+      (top-at p (k .positive) (sound .long-positive)) (top-at n (k .negative) (sound .long-negative)))
+      (λ i a. ap₂ (λ (x y : ℕ). with-minimums (entry-at fresh k s i) (record { positive = x; negative = y }))
+      (top-away p (k .positive) i a) (top-away n (k .negative) i a))
 
   pub minimize-sound : (p n : ℕ) → SoundStack (minimized p n k)
   minimize-sound p n = record {

@@ -35,7 +35,8 @@ any-cong : {A : Type 0} (f g : A → Bool) (l : List A) → All (λ x. f x ≡ g
 any-cong f g [] a = refl
 any-cong f g (x ∷ l) a = ap₂ (λ (b c : Bool). b || c) (a .0) (any-cong f g l (a .1))
 
-module _ (fresh : FirstStrands) (ts : Tables) (s : Strands) (a : Answers) (held : List ℕ) (t i v : ℕ) (h : t < ts .count) (ss : SoundStrands fresh s (ts .count) held)
+module _ (fresh : FirstStrands) (ts : Tables) (s : Strands) (a : Answers) (held : List ℕ) (t i v : ℕ) (h : t < ts .count)
+    (ss : SoundStrands fresh s (ts .count) held)
     (rs : SoundAnswers a (ts .count)) where
   abbrev stored-test : said.Answer → Bool
   stored-test b = eqb (b .variant) v
@@ -48,10 +49,12 @@ module _ (fresh : FirstStrands) (ts : Tables) (s : Strands) (a : Answers) (held 
       → (variant key : List ℕ) (k : ℕ) → ((q : ℕ) → 1 ≤ times q (ring p t) → eqb (getD variant q 0) v ≡ test (at q)) → (n : ℕ)
       → ltb (found-in (numbered false variant v key k) (drop n (ring p t))) 256 ≡ any-passes test (drop n (map at (ring p t)))
   any-found test at p held′ sound variant key k same n =
-      found-any (numbered false variant v key k) (drop n (ring p t)) (all-drop (λ q. q < 256) n (ring p t) (all-times (λ q. q < 256) (ring p t)
+      found-any (numbered false variant v key k) (drop n (ring p t))
+      (all-drop (λ q. q < 256) n (ring p t) (all-times (λ q. q < 256) (ring p t)
       (λ q j. omega (arith, below-top (p .next) (p .tail) (p .len) (p .top) (sound .rings) t q j, sound .rings .room))))
       ∙ any-cong (numbered false variant v key k) (λ q. test (at q)) (drop n (ring p t))
-      (all-drop (λ q. eqb (getD variant q 0) v ≡ test (at q)) n (ring p t) (all-times (λ q. eqb (getD variant q 0) v ≡ test (at q)) (ring p t) same))
+      (all-drop (λ q. eqb (getD variant q 0) v ≡ test (at q)) n (ring p t)
+      (all-times (λ q. eqb (getD variant q 0) v ≡ test (at q)) (ring p t) same))
       ∙ sym (any-map test at (drop n (ring p t))) ∙ ap (any-passes test) (map-drop at n (ring p t))
 
   -- what `any_answer` and `any_strand` say of the table
@@ -61,8 +64,14 @@ module _ (fresh : FirstStrands) (ts : Tables) (s : Strands) (a : Answers) (held 
   future-view f is stored queued es eq =
       ap (λ (l : List Table). here (getElem? l t)) is ∙ ap here (span-at (held-table fresh ts s a) (ts .count) t h)
       ∙ ap₂ (λ (x y : Bool). x || y)
-      (sym (es ∙ any-found stored-test (answer-at a) (a .places) [] (rs .places) (a .variant) (a .key) 0 (λ q k. ap (λ (n : ℕ). eqb n v) (rs .stored t q h k .is-variant)) i))
-      (sym (eq ∙ any-found queued-test (strand-at fresh s) (s .places) held (ss .places) (s .variant) (s .time) 0 (λ q k. ap (λ (n : ℕ). eqb n v) (ss .queued t q h k .is-variant)) 0))
+      (sym (es ∙ any-found stored-test (answer-at a) (a .places) [] (rs .places) (a .variant) (a .key) 0
+      (λ q k. ap (λ (n : ℕ). eqb n v) (rs .stored t q h k .is-variant)) i))
+      (sym (eq ∙ any-found queued-test (strand-at fresh s) (s .places) held (ss .places) (s .variant) (s .time) 0
+      (λ q k. ap (λ (n : ℕ). eqb n v) (ss .queued t q h k .is-variant)) 0))
     where
       here : Option Table → Bool
-      here o = elim o [ none ↦ false | some table ↦ any-passes stored-test (drop i (table .answers)) || any-passes queued-test (table .strands) ]
+      here o = elim o [
+        | none ↦ false
+        | some table ↦ any-passes stored-test (drop i (table .answers)) || any-passes queued-test
+            (table .strands)
+      ]

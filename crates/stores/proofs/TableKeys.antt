@@ -25,7 +25,8 @@ same-key (x ∷ l) [] a b = sym (ne-eqb (key-of (x ∷ l)) 0 (λ e. omega arith)
 same-key (x ∷ l) (y ∷ m) a b = first (eqb x y) refl (same-key l m (a .1) (b .1))
   where
     rest : (c : Bool) → eqb (key-of l) (key-of m) ≡ c → x ≡ y → c ≡ eqb (key-of (x ∷ l)) (key-of (y ∷ m))
-    rest true e d = sym (eq-eqb (key-of (x ∷ l)) (key-of (y ∷ m)) (ap₂ (λ (k g : ℕ). k * 128 + (g % 127 + 1)) (eqb-true (key-of l) (key-of m) e) d))
+    rest true e d = sym (eq-eqb (key-of (x ∷ l)) (key-of (y ∷ m))
+        (ap₂ (λ (k g : ℕ). k * 128 + (g % 127 + 1)) (eqb-true (key-of l) (key-of m) e) d))
     rest false e d = sym (ne-eqb (key-of (x ∷ l)) (key-of (y ∷ m))
         (λ i. eqb-false (key-of l) (key-of m) e (omega (arith, ap (λ (g : ℕ). g % 127) d))))
 

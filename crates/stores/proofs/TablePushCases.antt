@@ -1,4 +1,5 @@
--- `push_answer` at its tests' answers: the same answer is stored, no place is left, or the answer is new. From the contracts of its callees.
+-- `push_answer` at its tests' answers: the same answer is stored, no place is left, or the answer is new. From the contracts of its
+-- callees.
 use Prim.Native.Nat.{ℕ, _≤_, _<_}
 use mathlib.Core.Path.{_≡_, refl, sym, ap, ap₂, subst, _∙_}
 use mathlib.Core.Bool.{Bool, true, false}
@@ -27,8 +28,10 @@ module _ (variant key ambiguous next tail len : List ℕ) (top t : ℕ) (x : Ans
   abbrev at : ℕ
   at = same-place variant key ambiguous t x p
 
-  pushed-by : (found room : Bool) → ltb at 256 ≡ found → ltb (free-place p) 256 ≡ room → (next′ tail′ len′ : List ℕ) (top′ : ℕ) (o : PushAnswer)
-      → o ≡ outcome-if found (repeat-at at) (new-if room (free-place p)) → places next′ tail′ len′ top′ ≡ pushed-if found p (room-if room t p)
+  pushed-by : (found room : Bool) → ltb at 256 ≡ found → ltb (free-place p) 256 ≡ room
+      → (next′ tail′ len′ : List ℕ) (top′ : ℕ) (o : PushAnswer)
+      → o ≡ outcome-if found (repeat-at at) (new-if room (free-place p))
+      → places next′ tail′ len′ top′ ≡ pushed-if found p (room-if room t p)
       → AnswerPushed variant key ambiguous next tail len top t x next′ tail′ len′ top′ o
   pushed-by found room ef er next′ tail′ len′ top′ o eo ep = record {
     is = eo ∙ sym (ap₂ (λ (b c : Bool). outcome-if b (repeat-at at) (new-if c (free-place p))) ef er);
@@ -47,7 +50,8 @@ module _ (variant key ambiguous next tail len : List ℕ) (top t : ℕ) (x : Ans
 
     pub push-full : 256 ≤ q → AnswerPushed variant key ambiguous next tail len top t x next′ tail len′ top′ (Stop 23)
     push-full k =
-        pushed-by false false not-found (ap (λ (i : ℕ). ltb i 256) (sym (took .is)) ∙ le-ltb q 256 k) next′ tail len′ top′ (Stop 23) refl (took .left)
+        pushed-by false false not-found (ap (λ (i : ℕ). ltb i 256) (sym (took .is)) ∙ le-ltb q 256 k) next′ tail len′ top′ (Stop 23) refl
+        (took .left)
 
     pub push-new : q < 256 → (k : ℕ) → k ≡ q → (next″ tail″ len″ : List ℕ) → next″ ≡ linked next′ tail len′ t k → tail″ ≡ set tail t k
         → len″ ≡ lengthened len′ t → AnswerPushed variant key ambiguous next tail len top t x next″ tail″ len″ top′ (New k)

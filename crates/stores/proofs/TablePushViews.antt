@@ -1,5 +1,5 @@
--- `push_answer` is the definition's: the stored answer is what the search by numbers finds, 26 and 23 come where the definition stops, and a
--- new answer is pushed. From TableViews and the keys of delayed lists.
+-- `push_answer` is the definition's: the stored answer is what the search by numbers finds, 26 and 23 come where the definition stops, and
+-- a new answer is pushed. From TableViews and the keys of delayed lists.
 use Prim.Native.Nat.{ℕ, _≤_, _<_}
 use native.Mathlib.Omega.{arith}
 use mathlib.Core.Path.{_≡_, refl, sym, ap, ap₂, _∙_}
@@ -25,7 +25,22 @@ use Rattle.stores.specs.Numbers.{flag, flag-number}
 use Rattle.stores.specs.Places.{ring, freed, free-place, numbered, found-or, found-in}
 use Rattle.stores.specs.View.{FirstStrands, answer-at, held-table, tables}
 use Rattle.stores.specs.Sound.{GoodAnswer, Stored, SoundAnswers}
-use Rattle.stores.specs.Table.{key-of, with-answer-places, written-answer, answer-stored, repeated-of, new-if, outcome-if, room-if, pushed-if, same-place, push-outcome, pushed-places, PushMeans, PushLeaves}
+use Rattle.stores.specs.Table.{
+  key-of,
+  with-answer-places,
+  written-answer,
+  answer-stored,
+  repeated-of,
+  new-if,
+  outcome-if,
+  room-if,
+  pushed-if,
+  same-place,
+  push-outcome,
+  pushed-places,
+  PushMeans,
+  PushLeaves,
+}
 use Rattle.stores.proofs.ListsSpans.{all-times}
 use Rattle.stores.proofs.NumbersCases.{flag-of}
 use Rattle.stores.proofs.PlacesWaiting.{waiting-same}
@@ -53,17 +68,27 @@ module _ (x : Answer) (good : GoodAnswer x) (a : Answers) where
       → equal-answer (view.answer x) (map (answer-at a) l) ≡ found-if (ltb (found-in test l) 256) (answer-at a (found-in test l))
   equal-is [] few o = refl
   equal-is (q ∷ l) few o =
-      ap (λ (b : Bool). elim b as (λ (c : Bool). Option said.Answer) [ true ↦ some (answer-at a q) | false ↦ equal-answer (view.answer x) (map (answer-at a) l) ]) (sym (test-same q (o .0)))
+      ap (λ (b : Bool). elim b as (λ (c : Bool). Option said.Answer) [
+        | true ↦ some (answer-at a q)
+        | false ↦ equal-answer (view.answer x)
+            (map (answer-at a) l)
+      ]) (sym (test-same q (o .0)))
       ∙ by (test q) (equal-is l (few .1) (o .1))
     where
-      by : (b : Bool) → equal-answer (view.answer x) (map (answer-at a) l) ≡ found-if (ltb (found-in test l) 256) (answer-at a (found-in test l))
-          → _≡_ {A = Option said.Answer} (elim b [ true ↦ some (answer-at a q) | false ↦ equal-answer (view.answer x) (map (answer-at a) l) ])
+      by : (b : Bool) → equal-answer (view.answer x) (map (answer-at a) l) ≡ found-if (ltb (found-in test l) 256)
+          (answer-at a (found-in test l))
+          → _≡_ {A = Option said.Answer} (elim b [
+            | true ↦ some (answer-at a q)
+            | false ↦ equal-answer (view.answer x)
+                (map (answer-at a) l)
+          ])
           (found-if (ltb (found-or b q (found-in test l)) 256) (answer-at a (found-or b q (found-in test l))))
       by true e = ap (λ (c : Bool). found-if c (answer-at a q)) (sym (lt-ltb q 256 (few .0)))
       by false e = e
 
 -- WHAT THE OUTCOME MEANS, in a table that isn't floundered
-module _ (fresh : FirstStrands) (ts : Tables) (s : Strands) (a : Answers) (t : ℕ) (x : Answer) (h : t < ts .count) (sound : SoundAnswers a (ts .count)) (good : GoodAnswer x)
+module _ (fresh : FirstStrands) (ts : Tables) (s : Strands) (a : Answers) (t : ℕ) (x : Answer) (h : t < ts .count)
+    (sound : SoundAnswers a (ts .count)) (good : GoodAnswer x)
     (live : held-table fresh ts s a t .floundered ≡ false) where
   abbrev p : Places
   p = a .places
@@ -112,12 +137,15 @@ module _ (fresh : FirstStrands) (ts : Tables) (s : Strands) (a : Answers) (t : �
       found-stored (q ∷ l) o i = by (test x good a q) i (found-stored l (o .1))
         where
           by : (b : Bool) → found-or b q (found-in (test x good a) l) < 256
-              → (found-in (test x good a) l < 256 → flag (getD (a .ambiguous) (found-in (test x good a) l) 0) ≡ answer-at a (found-in (test x good a) l) .ambiguous)
-              → flag (getD (a .ambiguous) (found-or b q (found-in (test x good a) l)) 0) ≡ answer-at a (found-or b q (found-in (test x good a) l)) .ambiguous
+              → (found-in (test x good a) l < 256 → flag (getD (a .ambiguous) (found-in (test x good a) l) 0) ≡ answer-at a
+              (found-in (test x good a) l) .ambiguous)
+              → flag (getD (a .ambiguous) (found-or b q (found-in (test x good a) l)) 0) ≡ answer-at a
+              (found-or b q (found-in (test x good a) l)) .ambiguous
           by true j more = ap flag (o .0 .is-ambiguous) ∙ flag-of (answer-at a q .ambiguous)
           by false j more = more j
 
-  repeat-means : (was is : Bool) → answer-at a at .ambiguous ≡ was → said-x .ambiguous ≡ is → equal-answer said-x (table .answers) ≡ some (answer-at a at)
+  repeat-means : (was is : Bool) → answer-at a at .ambiguous ≡ was → said-x .ambiguous ≡ is
+      → equal-answer said-x (table .answers) ≡ some (answer-at a at)
       → PushMeans held said-x table new (repeated-of was is)
   repeat-means true true ew ei e = start ∙ ap after e ∙ ap₂ (λ (b c : Bool). stop-if (b && not c) 26 >> go (none, table)) ew ei
   repeat-means true false ew ei e = start ∙ ap after e ∙ ap₂ (λ (b c : Bool). stop-if (b && not c) 26 >> go (none, table)) ew ei
@@ -129,20 +157,32 @@ module _ (fresh : FirstStrands) (ts : Tables) (s : Strands) (a : Answers) (t : �
       room-for : free-place p < 256 → held < 256
       room-for i =
           let f = freed-sound p (ts .count) [] (sound .places) i in
-          omega (arith, held-is fresh ts s a, f .sound .all, f .sound .rings .room, waiting-same p (freed p) (ts .count) (λ u j. ap length (f .same u j)))
+          omega (
+            arith,
+            held-is fresh ts s a,
+            f .sound .all,
+            f .sound .rings .room,
+            waiting-same p (freed p) (ts .count)
+                (λ u j. ap length (f .same u j)),
+          )
 
-  new-means : (room : Bool) → ltb (free-place p) 256 ≡ room → equal-answer said-x (table .answers) ≡ none → PushMeans held said-x table new (new-if room (free-place p))
+  new-means : (room : Bool) → ltb (free-place p) 256 ≡ room → equal-answer said-x (table .answers) ≡ none
+      → PushMeans held said-x table new (new-if room (free-place p))
   new-means true er e =
       let k : free-place p < 256 = ltb-true (free-place p) 256 er in
-      start ∙ ap after e ∙ ap (λ (b : Bool). stop-if b 23 >> go (some (length (table .answers)), with-answers table (push (table .answers) said-x))) (held-few k)
-      ∙ ap (λ (l : List said.Answer). go (some (length (table .answers)), with-answers table l)) (sym (stored-answer-own a (ts .count) t x h sound good k))
+      start ∙ ap after e ∙ ap (λ (b : Bool). stop-if b 23 >> go
+      (some (length (table .answers)), with-answers table (push (table .answers) said-x))) (held-few k)
+      ∙ ap (λ (l : List said.Answer). go (some (length (table .answers)), with-answers table l))
+      (sym (stored-answer-own a (ts .count) t x h sound good k))
   new-means false er e =
       let k : 256 ≤ free-place p = ltb-false (free-place p) 256 er in
       let f : held ≡ 256 = omega (arith, held-is fresh ts s a, freed-none p (ts .count) [] (sound .places) k) in
-      start ∙ ap after e ∙ ap (λ (b : Bool). stop-if b 23 >> go (some (length (table .answers)), with-answers table (push (table .answers) said-x))) (le-leb 256 held (omega arith))
+      start ∙ ap after e ∙ ap (λ (b : Bool). stop-if b 23 >> go
+      (some (length (table .answers)), with-answers table (push (table .answers) said-x))) (le-leb 256 held (omega arith))
 
   by-search : (b : Bool) → ltb at 256 ≡ b
-      → PushMeans held said-x table new (outcome-if b (repeated-of (flag (getD (a .ambiguous) at 0)) (x .ambiguous)) (new-if (ltb (free-place p) 256) (free-place p)))
+      → PushMeans held said-x table new (outcome-if b (repeated-of (flag (getD (a .ambiguous) at 0)) (x .ambiguous))
+      (new-if (ltb (free-place p) 256) (free-place p)))
   by-search true e =
       repeat-means (flag (getD (a .ambiguous) at 0)) (x .ambiguous) (sym (found-flag (ltb-true at 256 e))) refl
       (equal ∙ ap (λ (c : Bool). found-if c (answer-at a at)) e)
@@ -159,7 +199,8 @@ module _ (fresh : FirstStrands) (ts : Tables) (s : Strands) (a : Answers) (t : �
   repeat-leaves true false = refl
   repeat-leaves false is = refl
 
-  new-leaves : (room : Bool) → ltb (free-place p) 256 ≡ room → PushLeaves p (answer-stored t x a .places) (room-if room t p) (new-if room (free-place p))
+  new-leaves : (room : Bool) → ltb (free-place p) 256 ≡ room
+      → PushLeaves p (answer-stored t x a .places) (room-if room t p) (new-if room (free-place p))
   new-leaves true e = (refl, ltb-true (free-place p) 256 e, refl)
   new-leaves false e = freed-still p (ts .count) [] (sound .places) (ltb-false (free-place p) 256 e)
 
@@ -168,14 +209,18 @@ module _ (fresh : FirstStrands) (ts : Tables) (s : Strands) (a : Answers) (t : �
   leaves-by true = repeat-leaves (flag (getD (a .ambiguous) at 0)) (x .ambiguous)
   leaves-by false = new-leaves (ltb (free-place p) 256) refl
 
-  pub push-leaves : PushLeaves (a .places) (answer-stored t x a .places) (pushed-places (a .variant) (a .key) (a .ambiguous) t x (a .places))
+  pub push-leaves : PushLeaves (a .places) (answer-stored t x a .places)
+      (pushed-places (a .variant) (a .key) (a .ambiguous) t x (a .places))
       (push-outcome (a .variant) (a .key) (a .ambiguous) t x (a .places))
   push-leaves = leaves-by (ltb at 256)
 
 -- WHAT THE OWNER'S STATEMENTS LEAVE: an answer written with the numbers beside it
-pub written-answer-is : (a : Answers) (q : ℕ) (x : Answer) (variant key ambiguous : List ℕ) → variant ≡ set (a .variant) q (view.answer x .variant)
-    → key ≡ set (a .key) q (key-of (view.answer x .delayed-subgoals)) → ambiguous ≡ set (a .ambiguous) q (flag-number (view.answer x .ambiguous))
-    → record { answers = set (a .answers) q x; variant = variant; key = key; ambiguous = ambiguous; places = a .places } ≡ written-answer q x a
+pub written-answer-is : (a : Answers) (q : ℕ) (x : Answer) (variant key ambiguous : List ℕ)
+    → variant ≡ set (a .variant) q (view.answer x .variant)
+    → key ≡ set (a .key) q (key-of (view.answer x .delayed-subgoals))
+    → ambiguous ≡ set (a .ambiguous) q (flag-number (view.answer x .ambiguous))
+    → record { answers = set (a .answers) q x; variant = variant; key = key; ambiguous = ambiguous; places = a .places } ≡ written-answer q
+    x a
 written-answer-is a q x variant key ambiguous ev ek ea = cc
 
 -- what the owner's write of a new answer, with its numbers, leaves

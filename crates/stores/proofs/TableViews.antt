@@ -37,14 +37,17 @@ use Rattle.stores.proofs.PlacesCases.{Freed, freed-sound}
 use Rattle.stores.proofs.PlacesMoves.{moved-own, moved-other, moved-sound}
 
 -- THE LIST OF TABLES, when the answers of one change
-pub answers-changed : (fresh : FirstStrands) (ts : Tables) (s : Strands) (a a′ : Answers) (t : ℕ) → t < ts .count → ((u : ℕ) → u < ts .count → (u ≡ t → ⊥) → answers-of a′ u ≡ answers-of a u)
+pub answers-changed : (fresh : FirstStrands) (ts : Tables) (s : Strands) (a a′ : Answers) (t : ℕ) → t < ts .count
+    → ((u : ℕ) → u < ts .count → (u ≡ t → ⊥) → answers-of a′ u ≡ answers-of a u)
     → tables fresh ts s a′ ≡ set (tables fresh ts s a) t (with-answers (held-table fresh ts s a t) (answers-of a′ t))
 answers-changed fresh ts s a a′ t h other =
-    span-set (held-table fresh ts s a) (held-table fresh ts s a′) (ts .count) t h (λ u k d. ap (with-answers (held-table fresh ts s a u)) (other u k d))
+    span-set (held-table fresh ts s a) (held-table fresh ts s a′) (ts .count) t h
+    (λ u k d. ap (with-answers (held-table fresh ts s a u)) (other u k d))
 
 -- LOOKUP: what stands at the place that `ring_at` finds
 module _ (fresh : FirstStrands) (ts : Tables) (s : Strands) (a : Answers) (t i r : ℕ)
-    (found : r ≡ place-if (ltb i (getD (a .places .len) t 0)) (getD (ring (a .places) t) i 0)) (sound : SoundPlaces (a .places) (ts .count) []) where
+    (found : r ≡ place-if (ltb i (getD (a .places .len) t 0)) (getD (ring (a .places) t) i 0))
+    (sound : SoundPlaces (a .places) (ts .count) []) where
   abbrev place : ℕ
   place = getD (ring (a .places) t) i 0
 
@@ -54,7 +57,8 @@ module _ (fresh : FirstStrands) (ts : Tables) (s : Strands) (a : Answers) (t i r
       let k : i < length (ring (a .places) t) = omega (arith, length-ring (a .places) t, ltb-true i (getD (a .places .len) t 0) e) in
       let is : r ≡ place = found ∙ ap (λ (b : Bool). place-if b place) e in
       let small : place < a .places .top =
-      below-top (a .places .next) (a .places .tail) (a .places .len) (a .places .top) (sound .rings) t place (times-at (ring (a .places) t) i k) in (
+      below-top (a .places .next) (a .places .tail) (a .places .len) (a .places .top) (sound .rings) t place
+      (times-at (ring (a .places) t) i k) in (
         λ h. map-elem (answer-at a) (ring (a .places) t) i 0 k ∙ ap (λ (p : ℕ). some (answer-at a p)) (sym is),
         λ h. absurd (omega (arith, sound .rings .room)),
       )
@@ -70,11 +74,14 @@ module _ (fresh : FirstStrands) (ts : Tables) (s : Strands) (a : Answers) (t i r
   answer-past = by-index (ltb i (getD (a .places .len) t 0)) refl .1
 
 -- HOW MANY: of a table, and of all
-pub answer-count-is : (fresh : FirstStrands) (ts : Tables) (s : Strands) (a : Answers) (t : ℕ) → next-answer-index (held-table fresh ts s a t) ≡ getD (a .places .len) t 0
+pub answer-count-is : (fresh : FirstStrands) (ts : Tables) (s : Strands) (a : Answers) (t : ℕ)
+    → next-answer-index (held-table fresh ts s a t) ≡ getD (a .places .len) t 0
 answer-count-is fresh ts s a t = length-map (ring (a .places) t) (answer-at a) ∙ length-ring (a .places) t
 
-pub held-is : (fresh : FirstStrands) (ts : Tables) (s : Strands) (a : Answers) → total (λ t. length (t .answers)) (tables fresh ts s a) ≡ waiting (a .places) (ts .count)
-held-is fresh ts s a = total-waiting (held-table fresh ts s a) (λ t. length (t .answers)) (a .places) (λ u. length-map (ring (a .places) u) (answer-at a)) (ts .count)
+pub held-is : (fresh : FirstStrands) (ts : Tables) (s : Strands) (a : Answers)
+    → total (λ t. length (t .answers)) (tables fresh ts s a) ≡ waiting (a .places) (ts .count)
+held-is fresh ts s a = total-waiting (held-table fresh ts s a) (λ t. length (t .answers)) (a .places)
+    (λ u. length-map (ring (a .places) u) (answer-at a)) (ts .count)
 
 -- for one table more, which has no answer
 pub answers-grown : (a : Answers) (n : ℕ) → n < free → SoundAnswers a n → SoundAnswers a (suc n)
@@ -169,7 +176,8 @@ module _ (a : Answers) (n t : ℕ) (x : Answer) (h : t < n) (sound : SoundAnswer
           absent = omega (arith, ap one (ne-eqb z q d))
 
   pub stored-answer-view : (fresh : FirstStrands) (ts : Tables) (s : Strands) → ts .count ≡ n
-      → tables fresh ts s (answer-stored t x a) ≡ set (tables fresh ts s a) t (with-answers (held-table fresh ts s a t) (push (answers-of a t) (view.answer x)))
+      → tables fresh ts s (answer-stored t x a) ≡ set (tables fresh ts s a) t
+      (with-answers (held-table fresh ts s a t) (push (answers-of a t) (view.answer x)))
   stored-answer-view fresh ts s e =
       answers-changed fresh ts s a (answer-stored t x a) t (omega arith) (λ u k d. stored-answer-other u (omega arith) d)
       ∙ ap (λ (l : List said.Answer). set (tables fresh ts s a) t (with-answers (held-table fresh ts s a t) l)) stored-answer-own
@@ -181,16 +189,30 @@ cleared-answers-sound a n t h sound = record {
   long = sound .long;
   stored = λ u q k i. is-or-not t (λ v. v < n → 1 ≤ times q (ring (moved-to t free (a .places)) v) → Stored a q)
       (λ j c. absurd (omega (arith, ap (times q) (moved-own (a .places) n [] t h (sound .places)))))
-      (λ v d j c. sound .stored v q j (subst (λ (l : List ℕ). 1 ≤ times q l) (moved-other (a .places) n [] t h (sound .places) v (λ e. omega (arith, sound .places .few)) d) c)) u k i;
+      (λ v d j c. sound .stored v q j (subst (λ (l : List ℕ). 1 ≤ times q l)
+      (moved-other (a .places) n [] t h (sound .places) v (λ e. omega (arith, sound .places .few)) d) c)) u k i;
 }
 
 -- MARK FLOUNDERED: the flag, and no answers and no strands
-module _ (fresh : FirstStrands) (ts : Tables) (s : Strands) (a : Answers) (held : List ℕ) (t : ℕ) (h : t < ts .count) (sound : SoundTables ts) (ss : SoundPlaces (s .places) (ts .count) held) (rs : SoundPlaces (a .places) (ts .count) []) where
+module _ (fresh : FirstStrands) (ts : Tables) (s : Strands) (a : Answers) (held : List ℕ) (t : ℕ) (h : t < ts .count)
+    (sound : SoundTables ts) (ss : SoundPlaces (s .places) (ts .count) held) (rs : SoundPlaces (a .places) (ts .count) []) where
   abbrev ts′ : Tables
-  ts′ = record { count = ts .count; goal = ts .goal; coinductive = ts .coinductive; floundered = set (ts .floundered) t 1; complete = ts .complete }
+  ts′ = record {
+    count = ts .count;
+    goal = ts .goal;
+    coinductive = ts .coinductive;
+    floundered = set (ts .floundered) t 1;
+    complete = ts .complete;
+  }
 
   marked-is : marked t ts ≡ ts′
-  marked-is = ap (λ (b : Bool). record { count = ts .count; goal = ts .goal; coinductive = ts .coinductive; floundered = set-if b t 1 (ts .floundered); complete = ts .complete }) (lt-ltb t 64 (omega (arith, sound .few)))
+  marked-is = ap (λ (b : Bool). record {
+    count = ts .count;
+    goal = ts .goal;
+    coinductive = ts .coinductive;
+    floundered = set-if b t 1 (ts .floundered);
+    complete = ts .complete;
+  }) (lt-ltb t 64 (omega (arith, sound .few)))
 
   pub marked-sound : SoundTables (marked t ts)
   marked-sound = subst SoundTables (sym marked-is) (record {
@@ -202,23 +224,35 @@ module _ (fresh : FirstStrands) (ts : Tables) (s : Strands) (a : Answers) (held 
   })
 
   abbrev table-with : ℕ → (floundered : ℕ) → List said.Answer → List said-strand.Strand → Table
-  table-with u f l m = record { table-goal = getD (ts .goal) u 0; coinductive-goal = flag (getD (ts .coinductive) u 0); floundered = flag f; answers = l; strands = m; answer-mode = held-table fresh ts s a u .answer-mode }
+  table-with u f l m = record {
+    table-goal = getD (ts .goal) u 0;
+    coinductive-goal = flag (getD (ts .coinductive) u 0);
+    floundered = flag f;
+    answers = l;
+    strands = m;
+    answer-mode = held-table fresh ts s a u .answer-mode;
+  }
 
-  table-is : (u f f′ : ℕ) (l l′ : List said.Answer) (m m′ : List said-strand.Strand) → f ≡ f′ → l ≡ l′ → m ≡ m′ → table-with u f l m ≡ table-with u f′ l′ m′
-  table-is u f f′ l l′ m m′ e c d = ap₂ (λ (x : List said.Answer) (y : List said-strand.Strand). table-with u f x y) c d ∙ ap (λ (x : ℕ). table-with u x l′ m′) e
+  table-is : (u f f′ : ℕ) (l l′ : List said.Answer) (m m′ : List said-strand.Strand) → f ≡ f′ → l ≡ l′ → m ≡ m′
+      → table-with u f l m ≡ table-with u f′ l′ m′
+  table-is u f f′ l l′ m m′ e c d = ap₂ (λ (x : List said.Answer) (y : List said-strand.Strand). table-with u f x y) c d
+      ∙ ap (λ (x : ℕ). table-with u x l′ m′) e
 
-  pub marked-view : tables fresh (marked t ts) (cleared t s) (cleared-answers t a) ≡ set (tables fresh ts s a) t (mark-floundered (held-table fresh ts s a t))
+  pub marked-view : tables fresh (marked t ts) (cleared t s) (cleared-answers t a) ≡ set (tables fresh ts s a) t
+      (mark-floundered (held-table fresh ts s a t))
   marked-view =
       ap (λ (r : Tables). tables fresh r (cleared t s) (cleared-answers t a)) marked-is
       ∙ span-set (held-table fresh ts s a) (held-table fresh ts′ (cleared t s) (cleared-answers t a)) (ts .count) t h
-      (λ u k d. table-is u (getD (set (ts .floundered) t 1) u 0) (getD (ts .floundered) u 0) (answers-of (cleared-answers t a) u) (answers-of a u) (strands-of fresh (cleared t s) u) (strands-of fresh s u)
+      (λ u k d. table-is u (getD (set (ts .floundered) t 1) u 0) (getD (ts .floundered) u 0) (answers-of (cleared-answers t a) u)
+      (answers-of a u) (strands-of fresh (cleared t s) u) (strands-of fresh s u)
       (getD-set-other (ts .floundered) t u 1 0 d)
       (ap (map (answer-at a)) (moved-other (a .places) (ts .count) [] t h rs u (λ e. omega (arith, rs .few)) d))
       (ap (map (strand-at fresh s)) (moved-other (s .places) (ts .count) held t h ss u (λ e. omega (arith, ss .few)) d)))
       ∙ ap (set (tables fresh ts s a) t)
       (table-is t (getD (set (ts .floundered) t 1) t 0) 1 (answers-of (cleared-answers t a) t) [] (strands-of fresh (cleared t s) t) []
       (getD-set-same (ts .floundered) t 1 0 (omega (arith, sound .few, sound .long-floundered)))
-      (ap (map (answer-at a)) (moved-own (a .places) (ts .count) [] t h rs)) (ap (map (strand-at fresh s)) (moved-own (s .places) (ts .count) held t h ss)))
+      (ap (map (answer-at a)) (moved-own (a .places) (ts .count) [] t h rs))
+      (ap (map (strand-at fresh s)) (moved-own (s .places) (ts .count) held t h ss)))
 
 -- BLANK: no table has an answer
 pub blank-answers-sound : SoundAnswers blank-answers 0

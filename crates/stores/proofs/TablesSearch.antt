@@ -14,12 +14,14 @@ use Rattle.stores.proofs.ListsSpans.{first-if}
 use Rattle.stores.proofs.NumbersSearch.{position-from}
 
 -- `index_of` of the definitions, by what `first_of` finds among the tables' goals
-pub index-of-view : (fresh : FirstStrands) (ts : Tables) (s : Strands) (a : Answers) (goal r : ℕ) → ts .count ≤ 64 → r ≡ first-at (λ i. eqb (getD (ts .goal) i 0) goal) 0 (within (ts .count))
+pub index-of-view : (fresh : FirstStrands) (ts : Tables) (s : Strands) (a : Answers) (goal r : ℕ) → ts .count ≤ 64
+    → r ≡ first-at (λ i. eqb (getD (ts .goal) i 0) goal) 0 (within (ts .count))
     → index-of goal (tables fresh ts s a) ≡ first-if (ltb r (ts .count)) r
 index-of-view fresh ts s a goal r few e =
     let w : within (ts .count) ≡ ts .count = omega arith in
     let z : 0 + ts .count ≡ ts .count = omega arith in
-    let i : first-at (λ j. eqb (getD (ts .goal) j 0) goal) 0 (ts .count) ≡ r = sym (e ∙ ap (first-at (λ j. eqb (getD (ts .goal) j 0) goal) 0) w) in
+    let i : first-at (λ j. eqb (getD (ts .goal) j 0) goal) 0 (ts .count) ≡ r = sym
+    (e ∙ ap (first-at (λ j. eqb (getD (ts .goal) j 0) goal) 0) w) in
     let y : r - 0 ≡ r = omega arith in
     position-from (held-table fresh ts s a) (λ t. eqb (t .table-goal) goal) 0 (ts .count)
     ∙ ap₂ (λ (m n : ℕ). first-if (ltb m n) (m - 0)) i z ∙ ap (first-if (ltb r (ts .count))) y

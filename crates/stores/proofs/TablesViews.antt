@@ -28,21 +28,26 @@ use Rattle.stores.proofs.NumbersCases.{flag-of}
 use Rattle.stores.proofs.ListsSpans.{span-at, span-past, span-same, span-set, span-push}
 
 -- the tables that are made, and no other
-pub table-there : (fresh : FirstStrands) (ts : Tables) (s : Strands) (a : Answers) (t : ℕ) → t < ts .count → getElem? (tables fresh ts s a) t ≡ some (held-table fresh ts s a t)
+pub table-there : (fresh : FirstStrands) (ts : Tables) (s : Strands) (a : Answers) (t : ℕ) → t < ts .count
+    → getElem? (tables fresh ts s a) t ≡ some (held-table fresh ts s a t)
 table-there fresh ts s a t h = span-at (held-table fresh ts s a) (ts .count) t h
 
-pub table-past : (fresh : FirstStrands) (ts : Tables) (s : Strands) (a : Answers) (t : ℕ) → ts .count ≤ t → getElem? (tables fresh ts s a) t ≡ none
+pub table-past : (fresh : FirstStrands) (ts : Tables) (s : Strands) (a : Answers) (t : ℕ) → ts .count ≤ t
+    → getElem? (tables fresh ts s a) t ≡ none
 table-past fresh ts s a t h = span-past (held-table fresh ts s a) (ts .count) t h
 
 -- a forest with these tables: `tables[t]`, and the table changed
-module _ (fresh : FirstStrands) (ts : Tables) (s : Strands) (a : Answers) (f : Forest) (is : f .tables ≡ tables fresh ts s a) (t : ℕ) (h : t < ts .count) where
+module _ (fresh : FirstStrands) (ts : Tables) (s : Strands) (a : Answers) (f : Forest) (is : f .tables ≡ tables fresh ts s a) (t : ℕ)
+    (h : t < ts .count) where
   pub table-at-is : table-at f t ≡ go (held-table fresh ts s a t)
   table-at-is = ap (λ (l : List Table). unwrap (getElem? l t)) is ∙ ap unwrap (table-there fresh ts s a t h)
 
-  pub change-is : (change : Table → Table) (after : List Table) → after ≡ set (tables fresh ts s a) t (change (held-table fresh ts s a t)) → change-table f t change ≡ go (with-tables f after)
+  pub change-is : (change : Table → Table) (after : List Table) → after ≡ set (tables fresh ts s a) t (change (held-table fresh ts s a t))
+      → change-table f t change ≡ go (with-tables f after)
   change-is change after e =
       ap (λ (r : Stops Table). r >>= λ x. go (with-tables f (set (f .tables) t (change x)))) table-at-is
-      ∙ ap (λ (l : List Table). go (with-tables f (set l t (change (held-table fresh ts s a t))))) is ∙ ap (λ (l : List Table). go (with-tables f l)) (sym e)
+      ∙ ap (λ (l : List Table). go (with-tables f (set l t (change (held-table fresh ts s a t))))) is
+      ∙ ap (λ (l : List Table). go (with-tables f l)) (sym e)
 
 -- READ: what `flag_at` and `goal_at` say of a table that is made
 module _ (fresh : FirstStrands) (ts : Tables) (s : Strands) (a : Answers) (sound : SoundTables ts) (t : ℕ) (h : t < ts .count) where
@@ -69,9 +74,17 @@ module _ (fresh : FirstStrands) (ts : Tables) (s : Strands) (a : Answers) (sound
   goal-view = ap (λ (b : Bool). number-if b (getD (ts .goal) t 0)) near
 
 abbrev table-of : (goal coinductive floundered complete : ℕ) → List said.Answer → List said-strand.Strand → Table
-table-of g c f m rs ss = record { table-goal = g; coinductive-goal = flag c; floundered = flag f; answers = rs; strands = ss; answer-mode = mode m }
+table-of g c f m rs ss = record {
+  table-goal = g;
+  coinductive-goal = flag c;
+  floundered = flag f;
+  answers = rs;
+  strands = ss;
+  answer-mode = mode m;
+}
 
-table-is : (g g′ c c′ f f′ m m′ : ℕ) (rs rs′ : List said.Answer) (ss ss′ : List said-strand.Strand) → g ≡ g′ → c ≡ c′ → f ≡ f′ → m ≡ m′ → rs ≡ rs′ → ss ≡ ss′
+table-is : (g g′ c c′ f f′ m m′ : ℕ) (rs rs′ : List said.Answer) (ss ss′ : List said-strand.Strand) → g ≡ g′ → c ≡ c′ → f ≡ f′ → m ≡ m′
+    → rs ≡ rs′ → ss ≡ ss′
     → table-of g c f m rs ss ≡ table-of g′ c′ f′ m′ rs′ ss′
 table-is g g′ c c′ f f′ m m′ rs rs′ ss ss′ a b d e r q = cc
 
@@ -87,17 +100,37 @@ new-is g false true = refl
 new-is g false false = refl
 
 -- INSERT, where there is room
-module _ (fresh : FirstStrands) (ts : Tables) (s : Strands) (a : Answers) (g : ℕ) (co fl : Bool) (sound : SoundTables ts) (room : ts .count < 64) where
+module _ (fresh : FirstStrands) (ts : Tables) (s : Strands) (a : Answers) (g : ℕ) (co fl : Bool) (sound : SoundTables ts)
+    (room : ts .count < 64) where
   abbrev n : ℕ
   n = ts .count
 
   abbrev ts′ : Tables
-  ts′ = record { count = suc n; goal = set (ts .goal) n g; coinductive = set (ts .coinductive) n (flag-number co); floundered = set (ts .floundered) n (flag-number fl); complete = set (ts .complete) n 1 }
+  ts′ = record {
+    count = suc n;
+    goal = set (ts .goal) n g;
+    coinductive = set (ts .coinductive) n (flag-number co);
+    floundered = set (ts .floundered) n (flag-number fl);
+    complete = set (ts .complete) n 1;
+  }
 
   inserted-is : inserted g co fl ts ≡ ts′
   inserted-is =
-      ap (λ (b : Bool). record { count = add-if b n; goal = set-if b n g (ts .goal); coinductive = set-if b n (flag-number co) (ts .coinductive); floundered = set-if b n (flag-number fl) (ts .floundered); complete = set-if b n 1 (ts .complete) }) (lt-ltb n 64 room)
-      ∙ ap (λ (m : ℕ). record { count = m; goal = set (ts .goal) n g; coinductive = set (ts .coinductive) n (flag-number co); floundered = set (ts .floundered) n (flag-number fl); complete = set (ts .complete) n 1 }) (add-one n)
+      ap (λ (b : Bool). record {
+        count = add-if b n;
+        goal = set-if b n g (ts .goal);
+        coinductive = set-if b n (flag-number co) (ts .coinductive);
+        floundered = set-if b n (flag-number fl) (ts .floundered);
+        complete = set-if b n 1 (ts .complete);
+      })
+      (lt-ltb n 64 room)
+      ∙ ap (λ (m : ℕ). record {
+        count = m;
+        goal = set (ts .goal) n g;
+        coinductive = set (ts .coinductive) n (flag-number co);
+        floundered = set (ts .floundered) n (flag-number fl);
+        complete = set (ts .complete) n 1;
+      }) (add-one n)
 
   pub inserted-count : inserted g co fl ts .count ≡ suc (ts .count)
   inserted-count = ap (λ (r : Tables). r .count) inserted-is
@@ -114,17 +147,23 @@ module _ (fresh : FirstStrands) (ts : Tables) (s : Strands) (a : Answers) (g : �
   old-table : (u : ℕ) → u < n → held-table fresh ts′ s a u ≡ held-table fresh ts s a u
   old-table u h =
       let d : u ≡ n → ⊥ = λ e. omega arith in
-      table-is (getD (ts′ .goal) u 0) (getD (ts .goal) u 0) (getD (ts′ .coinductive) u 0) (getD (ts .coinductive) u 0) (getD (ts′ .floundered) u 0) (getD (ts .floundered) u 0) (getD (ts′ .complete) u 0) (getD (ts .complete) u 0)
-      (map (answer-at a) (ring (a .places) u)) (map (answer-at a) (ring (a .places) u)) (map (strand-at fresh s) (ring (s .places) u)) (map (strand-at fresh s) (ring (s .places) u))
-      (getD-set-other (ts .goal) n u g 0 d) (getD-set-other (ts .coinductive) n u (flag-number co) 0 d) (getD-set-other (ts .floundered) n u (flag-number fl) 0 d) (getD-set-other (ts .complete) n u 1 0 d) refl refl
+      table-is (getD (ts′ .goal) u 0) (getD (ts .goal) u 0) (getD (ts′ .coinductive) u 0) (getD (ts .coinductive) u 0)
+      (getD (ts′ .floundered) u 0) (getD (ts .floundered) u 0) (getD (ts′ .complete) u 0) (getD (ts .complete) u 0)
+      (map (answer-at a) (ring (a .places) u)) (map (answer-at a) (ring (a .places) u)) (map (strand-at fresh s) (ring (s .places) u))
+      (map (strand-at fresh s) (ring (s .places) u))
+      (getD-set-other (ts .goal) n u g 0 d) (getD-set-other (ts .coinductive) n u (flag-number co) 0 d)
+      (getD-set-other (ts .floundered) n u (flag-number fl) 0 d) (getD-set-other (ts .complete) n u 1 0 d) refl refl
 
   module _ (no-answers : ring (a .places) n ≡ []) (no-strands : ring (s .places) n ≡ []) where
     new-at : held-table fresh ts′ s a n ≡ new-table g co fl
     new-at =
-        table-is (getD (ts′ .goal) n 0) g (getD (ts′ .coinductive) n 0) (flag-number co) (getD (ts′ .floundered) n 0) (flag-number fl) (getD (ts′ .complete) n 0) 1
+        table-is (getD (ts′ .goal) n 0) g (getD (ts′ .coinductive) n 0) (flag-number co) (getD (ts′ .floundered) n 0) (flag-number fl)
+        (getD (ts′ .complete) n 0) 1
         (map (answer-at a) (ring (a .places) n)) [] (map (strand-at fresh s) (ring (s .places) n)) []
-        (getD-set-same (ts .goal) n g 0 (omega (arith, sound .long-goal))) (getD-set-same (ts .coinductive) n (flag-number co) 0 (omega (arith, sound .long-coinductive)))
-        (getD-set-same (ts .floundered) n (flag-number fl) 0 (omega (arith, sound .long-floundered))) (getD-set-same (ts .complete) n 1 0 (omega (arith, sound .long-complete)))
+        (getD-set-same (ts .goal) n g 0 (omega (arith, sound .long-goal)))
+        (getD-set-same (ts .coinductive) n (flag-number co) 0 (omega (arith, sound .long-coinductive)))
+        (getD-set-same (ts .floundered) n (flag-number fl) 0 (omega (arith, sound .long-floundered)))
+        (getD-set-same (ts .complete) n 1 0 (omega (arith, sound .long-complete)))
         (ap (map (answer-at a)) no-answers) (ap (map (strand-at fresh s)) no-strands)
         ∙ new-is g co fl
 
@@ -135,13 +174,27 @@ module _ (fresh : FirstStrands) (ts : Tables) (s : Strands) (a : Answers) (g : �
     pub inserted-view : tables fresh (inserted g co fl ts) s a ≡ insert-table (new-table g co fl) (tables fresh ts s a)
     inserted-view =
         ap (λ (r : Tables). tables fresh r s a) inserted-is ∙ span-push (held-table fresh ts′ s a) n
-        ∙ ap₂ (λ (l : List Table) (t : Table). insert-table t l) (span-same (held-table fresh ts s a) (held-table fresh ts′ s a) n old-table) new-at
+        ∙ ap₂ (λ (l : List Table) (t : Table). insert-table t l)
+        (span-same (held-table fresh ts s a) (held-table fresh ts′ s a) n old-table) new-at
 
 -- THE ANSWER MODE
-module _ (fresh : FirstStrands) (ts : Tables) (s : Strands) (a : Answers) (t : ℕ) (b : Bool) (sound : SoundTables ts) (h : t < ts .count) where
-  moded-is : moded t b ts ≡ record { count = ts .count; goal = ts .goal; coinductive = ts .coinductive; floundered = ts .floundered; complete = set (ts .complete) t (flag-number b) }
+module _ (fresh : FirstStrands) (ts : Tables) (s : Strands) (a : Answers) (t : ℕ) (b : Bool) (sound : SoundTables ts)
+    (h : t < ts .count) where
+  moded-is : moded t b ts ≡ record {
+    count = ts .count;
+    goal = ts .goal;
+    coinductive = ts .coinductive;
+    floundered = ts .floundered;
+    complete = set (ts .complete) t (flag-number b);
+  }
   moded-is =
-      ap (λ (c : Bool). record { count = ts .count; goal = ts .goal; coinductive = ts .coinductive; floundered = ts .floundered; complete = set-if c t (flag-number b) (ts .complete) })
+      ap (λ (c : Bool). record {
+        count = ts .count;
+        goal = ts .goal;
+        coinductive = ts .coinductive;
+        floundered = ts .floundered;
+        complete = set-if c t (flag-number b) (ts .complete);
+      })
       (lt-ltb t 64 (omega (arith, sound .few)))
 
   pub moded-sound : SoundTables (moded t b ts)
@@ -156,13 +209,22 @@ module _ (fresh : FirstStrands) (ts : Tables) (s : Strands) (a : Answers) (t : �
   abbrev mode-of : Bool → said.AnswerMode
   mode-of c = elim c [ true ↦ said.Complete | false ↦ said.Ambiguous ]
 
-  pub moded-view : tables fresh (moded t b ts) s a ≡ set (tables fresh ts s a) t (with-mode (held-table fresh ts s a t) (elim b [ true ↦ said.Complete | false ↦ said.Ambiguous ]))
+  pub moded-view : tables fresh (moded t b ts) s a ≡ set (tables fresh ts s a) t
+      (with-mode (held-table fresh ts s a t) (elim b [ true ↦ said.Complete | false ↦ said.Ambiguous ]))
   moded-view =
       ap (λ (r : Tables). tables fresh r s a) moded-is
-      ∙ span-set (held-table fresh ts s a) (held-table fresh (record { count = ts .count; goal = ts .goal; coinductive = ts .coinductive; floundered = ts .floundered; complete = set (ts .complete) t (flag-number b) }) s a) (ts .count) t h
+      ∙ span-set (held-table fresh ts s a) (held-table fresh
+      (record {
+        count = ts .count;
+        goal = ts .goal;
+        coinductive = ts .coinductive;
+        floundered = ts .floundered;
+        complete = set (ts .complete) t (flag-number b);
+      }) s a) (ts .count) t h
       (λ u k d. ap (λ (m : ℕ). with-mode (held-table fresh ts s a u) (mode m)) (getD-set-other (ts .complete) t u (flag-number b) 0 d))
       ∙ ap (λ (m : said.AnswerMode). set (tables fresh ts s a) t (with-mode (held-table fresh ts s a t) m))
-      (ap mode (getD-set-same (ts .complete) t (flag-number b) 0 (omega (arith, sound .few, sound .long-complete))) ∙ ap mode-of (flag-of b))
+      (ap mode (getD-set-same (ts .complete) t (flag-number b) 0 (omega (arith, sound .few, sound .long-complete)))
+      ∙ ap mode-of (flag-of b))
 
 -- BLANK
 pub blank-tables-sound : SoundTables blank-tables

@@ -29,21 +29,63 @@ coinductive-at table coinductive i = flag-at (getD table i 0) coinductive
 
 -- THE MODELS on the record
 abbrev pub pushed : (t time most : ℕ) → Stack → Stack
-pushed t time most k = record { depth = count-after (k .depth); table = written-at (k .depth) t (k .table); clock = written-at (k .depth) time (k .clock); positive = written-at (k .depth) most (k .positive); negative = written-at (k .depth) most (k .negative); active = written-at (k .depth) most-places (k .active) }
+pushed t time most k = record {
+  depth = count-after (k .depth);
+  table = written-at (k .depth) t (k .table);
+  clock = written-at (k .depth) time (k .clock);
+  positive = written-at (k .depth) most (k .positive);
+  negative = written-at (k .depth) most (k .negative);
+  active = written-at (k .depth) most-places (k .active);
+}
 
 abbrev pub popped : Stack → Stack
-popped k = record { depth = k .depth - 1; table = k .table; clock = k .clock; positive = k .positive; negative = k .negative; active = k .active }
+popped k = record {
+  depth = k .depth - 1;
+  table = k .table;
+  clock = k .clock;
+  positive = k .positive;
+  negative = k .negative;
+  active = k .active;
+}
 
 -- the caller's strand is taken, and the top popped
 abbrev pub caller-taken : Stack → Stack
-caller-taken k = record { depth = k .depth - 1; table = k .table; clock = k .clock; positive = k .positive; negative = k .negative; active = caller-written (k .depth) (k .active) }
+caller-taken k = record {
+  depth = k .depth - 1;
+  table = k .table;
+  clock = k .clock;
+  positive = k .positive;
+  negative = k .negative;
+  active = caller-written (k .depth) (k .active);
+}
 
 abbrev pub activated : (place : ℕ) → Stack → Stack
-activated place k = record { depth = k .depth; table = k .table; clock = k .clock; positive = k .positive; negative = k .negative; active = top-written (k .depth) place (k .active) }
+activated place k = record {
+  depth = k .depth;
+  table = k .table;
+  clock = k .clock;
+  positive = k .positive;
+  negative = k .negative;
+  active = top-written (k .depth) place (k .active);
+}
 
 abbrev pub minimized : (positive negative : ℕ) → Stack → Stack
-minimized positive negative k = record { depth = k .depth; table = k .table; clock = k .clock; positive = top-written (k .depth) positive (k .positive); negative = top-written (k .depth) negative (k .negative); active = k .active }
+minimized positive negative k = record {
+  depth = k .depth;
+  table = k .table;
+  clock = k .clock;
+  positive = top-written (k .depth) positive (k .positive);
+  negative = top-written (k .depth) negative (k .negative);
+  active = k .active;
+}
 
 -- nothing is on the stack
 abbrev pub blank-stack : Stack
-blank-stack = record { depth = 0; table = replicate most-entries 0; clock = replicate most-entries 0; positive = replicate most-entries 0; negative = replicate most-entries 0; active = replicate most-entries most-places }
+blank-stack = record {
+  depth = 0;
+  table = replicate most-entries 0;
+  clock = replicate most-entries 0;
+  positive = replicate most-entries 0;
+  negative = replicate most-entries 0;
+  active = replicate most-entries most-places;
+}

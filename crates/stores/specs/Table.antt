@@ -1,4 +1,5 @@
--- What the operations on the answers do, as functions on the record, the numbers that stand beside an answer, and what `push_answer` comes to.
+-- What the operations on the answers do, as functions on the record, the numbers that stand beside an answer, and what `push_answer` comes
+-- to.
 use Prim.Native.Nat.{ℕ, _+_, _*_, _%_, _<_}
 use mathlib.Core.Path.{_≡_}
 use mathlib.Core.Bool.{Bool, true, false}
@@ -112,7 +113,13 @@ PushLeaves p new p′ (New q) = (q ≡ free-place p) × (q < most-places) × (p�
 
 -- `mark_floundered`, of the table's own numbers
 abbrev pub marked : (t : ℕ) → Tables → Tables
-marked t ts = record { count = ts .count; goal = ts .goal; coinductive = ts .coinductive; floundered = written-at t 1 (ts .floundered); complete = ts .complete }
+marked t ts = record {
+  count = ts .count;
+  goal = ts .goal;
+  coinductive = ts .coinductive;
+  floundered = written-at t 1 (ts .floundered);
+  complete = ts .complete;
+}
 
 -- BLANK
 abbrev pub blank-answer : Answer

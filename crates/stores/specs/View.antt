@@ -25,7 +25,19 @@ use Rattle.stores.specs.Places.{ring}
 
 -- what is read past a store's end
 abbrev pub unread-strand : Strand
-unread-strand = record { variant = 0; outsized = false; ambiguous = false; «answer_time» = 0; «literal_count» = 0; «floundered_count» = 0; «delayed_count» = 0; literals = []; floundered = []; delayed = []; selected = Nothing }
+unread-strand = record {
+  variant = 0;
+  outsized = false;
+  ambiguous = false;
+  «answer_time» = 0;
+  «literal_count» = 0;
+  «floundered_count» = 0;
+  «delayed_count» = 0;
+  literals = [];
+  floundered = [];
+  delayed = [];
+  selected = Nothing;
+}
 
 abbrev pub unread-answer : Answer
 unread-answer = record { variant = 0; ambiguous = false; «delayed_count» = 0; delayed = [] }
@@ -92,4 +104,8 @@ module _ (fresh : FirstStrands) where
 -- the places that the entries hold
 abbrev pub active-places : List ℕ → ℕ → List ℕ
 active-places active zero = []
-active-places active (suc n) = elim (eqb (getD active n 0) most-places) [ true ↦ active-places active n | false ↦ getD active n 0 ∷ active-places active n ]
+active-places active (suc n) = elim (eqb (getD active n 0) most-places) [
+  | true ↦ active-places active n
+  | false ↦ getD active n 0
+      ∷ active-places active n
+]

@@ -1,5 +1,5 @@
-// What belongs to no store: flags as they are kept in arrays of numbers, and the first of some numbers that is the one looked for. A table or
-// an entry that can't be (64 and above) has no flag, and nothing is written for it.
+// What belongs to no store: flags as they are kept in arrays of numbers, and the first of some numbers that is the one looked for. A table
+// or an entry that can't be (64 and above) has no flag, and nothing is written for it.
 ghost use mathlib.Core.Path.{_≡_};
 ghost use lib.ListN.{getD};
 ghost use lib.Dec.{eqb};

@@ -29,8 +29,8 @@ ghost use Rattle.book.specs.View.{meant};
 ghost use Rattle.rings.specs.Rings.{most-places, ring-of};
 ghost use Rattle.stores.specs.Numbers.{most-tables, flag-number};
 ghost use Rattle.stores.specs.Places.{places, numbered, found-in};
-ghost use Rattle.stores.specs.Queue.{is-not, waits-on, waits-of, wants-of, eligible-at, eligible, spot-from, TookStrand, blank-strands};
-ghost use Rattle.stores.specs.Queue.{fresh-stored, clauses-from, fresh-each, store, Does};
+ghost use Rattle.stores.specs.Queue.{is-not, waits-on, waits-of, wants-of, eligible-at, eligible, spot-from, TookStrand};
+ghost use Rattle.stores.specs.Queue.{blank-strands, fresh-stored, clauses-from, fresh-each, store, Does};
 
 // The strands by place, and the numbers beside them: `time` is when a strand was last pursued, which stands nowhere else, `waits` what it
 // waits on and `wants` the answer index that it wants. A fresh place, whose strand is not written yet, has 254 in `waits` and the number of
@@ -187,10 +187,10 @@ fn fresh_place(
     flags: u8,
 )
     ensures { λ _. ⌜ Does (fresh-stored t c v flags)
-        (λ strands. store strands (now (time .entry)) (now (ambiguous .entry)) (now (variant .entry)) (now (waits .entry)) (now (wants .entry))
-        (places (now (next .entry)) (now (tail .entry)) (now (len .entry)) (now (top .entry))))
-        (λ strands. store strands (now (time .exit)) (now (ambiguous .exit)) (now (variant .exit)) (now (waits .exit)) (now (wants .exit))
-        (places (now (next .exit)) (now (tail .exit)) (now (len .exit)) (now (top .exit)))) ⌝ }
+        (λ strands. store strands (now (time .entry)) (now (ambiguous .entry)) (now (variant .entry)) (now (waits .entry))
+        (now (wants .entry)) (places (now (next .entry)) (now (tail .entry)) (now (len .entry)) (now (top .entry))))
+        (λ strands. store strands (now (time .exit)) (now (ambiguous .exit)) (now (variant .exit)) (now (waits .exit))
+        (now (wants .exit)) (places (now (next .exit)) (now (tail .exit)) (now (len .exit)) (now (top .exit)))) ⌝ }
 {
     let q = take_place(next, tail, len, top);
     if q >= PLACES {
@@ -233,10 +233,10 @@ pub fn fresh_places(
     count: usize,
 )
     ensures { λ _. ⌜ Does (fresh-each (now («clause_variant» .entry)) (now («clause_flags» .entry)) t (clauses-from first count) first)
-        (λ strands. store strands (now (time .entry)) (now (ambiguous .entry)) (now (variant .entry)) (now (waits .entry)) (now (wants .entry))
-        (places (now (next .entry)) (now (tail .entry)) (now (len .entry)) (now (top .entry))))
-        (λ strands. store strands (now (time .exit)) (now (ambiguous .exit)) (now (variant .exit)) (now (waits .exit)) (now (wants .exit))
-        (places (now (next .exit)) (now (tail .exit)) (now (len .exit)) (now (top .exit)))) ⌝ }
+        (λ strands. store strands (now (time .entry)) (now (ambiguous .entry)) (now (variant .entry)) (now (waits .entry))
+        (now (wants .entry)) (places (now (next .entry)) (now (tail .entry)) (now (len .entry)) (now (top .entry))))
+        (λ strands. store strands (now (time .exit)) (now (ambiguous .exit)) (now (variant .exit)) (now (waits .exit))
+        (now (wants .exit)) (places (now (next .exit)) (now (tail .exit)) (now (len .exit)) (now (top .exit)))) ⌝ }
 {
     let mut c = first;
     let mut left = clauses_from(first, count);

@@ -1,6 +1,6 @@
-// table.rs, the answers: they stand at the places of a table's ring in the order found. `[Answer; PLACES]` is written by whoever owns it; what
-// is looked for among the answers stands beside them in arrays of numbers, which are lent. And `mark_floundered`, which frees answers and
-// strands.
+// table.rs, the answers: they stand at the places of a table's ring in the order found. `[Answer; PLACES]` is written by whoever owns it;
+// what is looked for among the answers stands beside them in arrays of numbers, which are lent. And `mark_floundered`, which frees answers
+// and strands.
 use crate::numbers::FREE;
 use crate::numbers::MOST_LITERALS;
 use crate::numbers::MOST_TABLES;
@@ -111,7 +111,8 @@ pub fn find_answer(
     key: &[u64; PLACES],
     x: Answer,
 ) -> usize
-    ensures { λ r. ⌜ r ≡ found-in (numbered true (now (variant .entry)) (x .variant) (now (key .entry)) (key-of (answer x .delayed-subgoals)))
+    ensures { λ r. ⌜ r ≡ found-in
+        (numbered true (now (variant .entry)) (x .variant) (now (key .entry)) (key-of (answer x .delayed-subgoals)))
         (ring-of (now (next .entry)) (now (tail .entry)) (now (len .entry)) t) ⌝ }
 {
     find_number(

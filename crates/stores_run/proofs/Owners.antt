@@ -53,6 +53,7 @@ clear-of s t n′ t′ l′ did = record {
 }
 
 pub keep-of : (a : Answers) (t : ℕ) (x : Answer) (n′ t′ l′ : List ℕ) (m′ : ℕ) (o : PushAnswer)
-    → AnswerPushed (a .variant) (a .key) (a .ambiguous) (a .places .next) (a .places .tail) (a .places .len) (a .places .top) t x n′ t′ l′ m′ o
+    → AnswerPushed (a .variant) (a .key) (a .ambiguous) (a .places .next) (a .places .tail) (a .places .len)
+    (a .places .top) t x n′ t′ l′ m′ o
     → (r : Kept) → r ≡ kept-by (with-answer-places a (places n′ t′ l′ m′)) x o → Keeps a t x r
 keep-of a t x n′ t′ l′ m′ o did r e = e ∙ ap₂ (λ (p : Places) (k : PushAnswer). kept-by (with-answer-places a p) x k) (did .left) (did .is)

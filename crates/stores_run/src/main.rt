@@ -7,6 +7,7 @@ mod words; // words.rt: what is written
 fn main() {
     queues::rotation();
     queues::limit();
+    queues::first_strands();
     kept::outcomes();
     kept::limit();
     frames::delays();

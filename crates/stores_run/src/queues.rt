@@ -1,4 +1,4 @@
-// The strand store: a turned queue, 256 and 257 strands, and places used again.
+// The strand store: a turned queue, 256 and 257 strands, places used again, and a new table's fresh places.
 use crate::words::line;
 use crate::words::number;
 use crate::words::one;
@@ -10,12 +10,13 @@ use stores::places::in_use;
 use stores::places::take_place;
 use stores::queue::Strands;
 use stores::queue::blank_strands;
+use stores::queue::fresh_places;
 use stores::queue::number_strand;
 use stores::queue::take_strand;
 use strands::Strand;
 use strands::making::blank;
 ghost use mathlib.Core.Path.{_≡_};
-ghost use Rattle.stores.specs.Queue.{written};
+ghost use Rattle.stores.specs.Queue.{written, enqueued-strand, clauses-from, fresh-each};
 ghost use Rattle.stores_run.specs.Owner.{Puts, Takes, Clears};
 
 struct Placed {
@@ -232,4 +233,135 @@ pub(crate) fn limit() {
     line(b"strands of 300:", g.count);
     line(b"in use", used(g.strands));
     show(g.strands, 1);
+}
+
+// Fresh places at the end of a table's queue, for `count` clauses from `first` on: no strand is written.
+fn begin(
+    s: Strands,
+    variants: [u16; 256],
+    flags: [u8; 256],
+    t: u8,
+    first: usize,
+    count: usize,
+) -> Strands
+    ensures { λ r. ⌜ r ≡ fresh-each variants flags t (clauses-from first count) first s ⌝ }
+{
+    let mut time = s.time;
+    let mut ambiguous = s.ambiguous;
+    let mut variant = s.variant;
+    let mut waits = s.waits;
+    let mut wants = s.wants;
+    let p = s.places;
+    let mut next = p.next;
+    let mut tail = p.tail;
+    let mut len = p.len;
+    let mut top = p.top;
+    fresh_places(
+        &mut next,
+        &mut tail,
+        &mut len,
+        &mut top,
+        &mut time,
+        &mut ambiguous,
+        &mut variant,
+        &mut waits,
+        &mut wants,
+        &variants,
+        &flags,
+        t,
+        first,
+        count,
+    );
+    let strands = s.strands;
+    let places = Places {
+        next,
+        tail,
+        len,
+        top,
+    };
+    Strands {
+        strands,
+        time,
+        ambiguous,
+        variant,
+        waits,
+        wants,
+        places,
+    }
+}
+
+// A strand that was taken goes to the end of a table's queue.
+fn enqueue(s: Strands, t: u8, q: u8) -> Strands
+    ensures { λ r. ⌜ r ≡ enqueued-strand t q s ⌝ }
+{
+    let p = s.places;
+    let mut next = p.next;
+    let mut tail = p.tail;
+    let mut len = p.len;
+    ring_enqueue(&mut next, &mut tail, &mut len, t, q);
+    let places = Places {
+        next,
+        tail,
+        len,
+        top: p.top,
+    };
+    let mut r = s;
+    r.places = places;
+    r
+}
+
+// The first strand that was pursued before the time is taken, written at this time, and enqueued again. A fresh place's is written there
+// for the first time, with its clause's variant, which stands beside it.
+fn pursue(s: Strands, t: u8, clock: u64) -> Strands {
+    let d = take(s, t, clock);
+    let q = d.place;
+    let r = d.strands;
+    if q >= 256 {
+        return r;
+    }
+    let variant = r.variant;
+    let w = write(r, q as u8, clock, strand(variant[q]));
+    enqueue(w, t, q as u8)
+}
+
+// What the places along a queue wait on and want, and their variants: of at most four.
+fn beside(s: Strands, t: u8) {
+    let p = s.places;
+    let next = p.next;
+    let tail = p.tail;
+    let len = p.len;
+    let waits = s.waits;
+    let wants = s.wants;
+    let variant = s.variant;
+    let mut i: u16 = 0;
+    while i < 4 {
+        let q = ring_at(&next, &tail, &len, t, i);
+        if q < 256 {
+            number(waits[q] as u16);
+            number(wants[q]);
+            number(variant[q]);
+        }
+        i = i + 1;
+    }
+}
+
+fn show_beside(s: Strands, t: u8) {
+    io::write_all(1, b"beside ");
+    beside(s, t);
+    io::write_all(1, b"\n");
+}
+
+// A table of clauses 3 and 4: its places are fresh, and the strands are written one after the other as they are pursued.
+pub(crate) fn first_strands() {
+    let mut variants = [0u16; 256];
+    variants[3] = 30;
+    variants[4] = 40;
+    let s = begin(blank_strands(), variants, [0; 256], 2, 3, 2);
+    show_beside(s, 2);
+    let a = pursue(s, 2, 1);
+    show_beside(a, 2);
+    let b = pursue(a, 2, 1);
+    show_beside(b, 2);
+    show(b, 2);
+    line(b"in use", used(b));
 }

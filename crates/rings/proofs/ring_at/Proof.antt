@@ -46,7 +46,8 @@ loop-again : tie.Need-loop-again Inv-loop μ-loop
 loop-again c =
     let w = c .before in
     let l = w .before .before in
-    let a = l .before .before .before .before .args in
+    let lent = l .before .before .before in
+    let a = lent .before .args in
     rw (w .wide .ensures .0) (sym (after-step (l .loop .left) (a .next .now) (l .loop .prev) (search needs)) ∙ l .loop .inv)
 
 wide-requires-2 : tie.Need-wide-requires-2 Inv-loop μ-loop

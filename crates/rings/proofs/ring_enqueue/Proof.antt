@@ -63,20 +63,23 @@ element-write-next-3 c = search needs
 -- src/lib.rt:230:1
 returns : tie.Need-returns
 returns c =
-    let a = c .before .before .before .before .args in (
+    let grown = c .before in
+    let a = grown .before .before .before .args in (
       ap (λ (b : Bool). linked-at b (a .next .now) (getD (a .tail .now) (a .table) 0) (a .place)) (sym (eq-eqb _ _ (c .if1 .taken))),
       refl,
-      ap (λ (n : ℕ). set (a .len .now) (a .table) n) (c .before .more .ensures),
+      ap (λ (n : ℕ). set (a .len .now) (a .table) n) (grown .more .ensures),
     )
 
 -- src/lib.rt:230:1
 returns-2 : tie.Need-returns-2
 returns-2 c =
-    let a = c .before .before .before .before .before .before .args in (
+    let grown = c .before .before .before in
+    let a = grown .before .before .before .args in (
       ap (λ (l : ℕ). linked-at false (a .next .now) l (a .place)) (c .before .wide .ensures .0)
-          ∙ ap (λ (b : Bool). linked-at b (a .next .now) (getD (a .tail .now) (a .table) 0) (a .place)) (sym (ne-eqb _ _ (c .before .before .if1 .left))),
+          ∙ ap (λ (b : Bool). linked-at b (a .next .now) (getD (a .tail .now) (a .table) 0) (a .place))
+          (sym (ne-eqb _ _ (c .before .before .if1 .left))),
       refl,
-      ap (λ (n : ℕ). set (a .len .now) (a .table) n) (c .before .before .before .more .ensures),
+      ap (λ (n : ℕ). set (a .len .now) (a .table) n) (grown .more .ensures),
     )
 
 pub ring-enqueue-spec : {M : Type 1} → statement M

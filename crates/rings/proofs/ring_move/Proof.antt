@@ -63,8 +63,16 @@ element-write-len-2 c = search needs
 -- src/lib.rt:279:9
 returns-2 : tie.Need-returns-2
 returns-2 c =
-    let a = c .before .before .before .before .before .before .before .args in
-    record { stays = λ e. absurd (c .before .before .before .before .before .before .if1 .left e); moves = λ n. ring-moved (a .next .now) (a .tail .now) (a .len .now) (a .from) (a .to) true (eqb (getD (a .len .now) (a .to) 0) 0) (c .before .added .result) (eq-eqb _ _ (c .if2 .taken)) refl (c .before .added .ensures) }
+    let sum = c .before in
+    let read = sum .before .before .before in
+    let apart = read .before .before in
+    let a = apart .before .args in
+    record {
+      stays = λ e. absurd (apart .if1 .left e);
+      moves = λ n. ring-moved (a .next .now)
+          (a .tail .now) (a .len .now) (a .from) (a .to) true (eqb (getD (a .len .now) (a .to) 0) 0) (sum .added .result)
+          (eq-eqb _ _ (c .if2 .taken)) refl (sum .added .ensures);
+    }
 
 -- src/lib.rt:281:5
 element-write-tail : tie.Need-element-write-tail
@@ -73,8 +81,17 @@ element-write-tail c = search needs
 -- src/lib.rt:283:9
 returns-3 : tie.Need-returns-3
 returns-3 c =
-    let a = c .before .before .before .before .before .before .before .before .args in
-    record { stays = λ e. absurd (c .before .before .before .before .before .before .before .if1 .left e); moves = λ n. ring-moved (a .next .now) (a .tail .now) (a .len .now) (a .from) (a .to) false true (c .before .before .added .result) (ne-eqb _ _ (c .before .if2 .left)) (eq-eqb _ _ (c .if3 .taken)) (c .before .before .added .ensures) }
+    let any = c .before in
+    let sum = any .before in
+    let read = sum .before .before .before in
+    let apart = read .before .before in
+    let a = apart .before .args in
+    record {
+      stays = λ e. absurd (apart .if1 .left e);
+      moves = λ n. ring-moved
+          (a .next .now) (a .tail .now) (a .len .now) (a .from) (a .to) false true (sum .added .result)
+          (ne-eqb _ _ (any .if2 .left)) (eq-eqb _ _ (c .if3 .taken)) (sum .added .ensures);
+    }
 
 -- src/lib.rt:285:9
 wide-requires : tie.Need-wide-requires
@@ -103,11 +120,22 @@ element-write-next-2 c = search needs
 -- src/lib.rt:264:1
 returns-4 : tie.Need-returns-4
 returns-4 c =
-    let a = c .before .before .before .before .before .before .before .before .before .before .before .before .args in
+    let w2 = c .before .before in
+    let w = w2 .before in
+    let both = w .before in
+    let any = both .before in
+    let sum = any .before in
+    let read = sum .before .before .before in
+    let apart = read .before .before in
+    let a = apart .before .args in
     record {
-      stays = λ e. absurd (c .before .before .before .before .before .before .before .before .before .before .before .if1 .left e);
-      moves = λ n. rw (c .before .before .before .wide .ensures .0, c .before .before .wide2 .ensures .0) (
-          ring-moved (a .next .now) (a .tail .now) (a .len .now) (a .from) (a .to) false false (c .before .before .before .before .before .before .added .result) (ne-eqb _ _ (c .before .before .before .before .before .if2 .left)) (ne-eqb _ _ (c .before .before .before .before .if3 .left)) (c .before .before .before .before .before .before .added .ensures));
+      stays = λ e. absurd (apart .if1 .left e);
+      moves = λ n. rw (w .wide .ensures .0, w2 .wide2 .ensures .0) (
+          ring-moved (a .next .now) (a .tail .now) (a .len .now) (a .from) (a .to) false false
+          (sum .added .result)
+          (ne-eqb _ _ (any .if2 .left))
+          (ne-eqb _ _ (both .if3 .left))
+          (sum .added .ensures));
     }
 
 pub ring-move-spec : {M : Type 1} → statement M

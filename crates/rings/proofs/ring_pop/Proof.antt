@@ -52,9 +52,11 @@ returns-2 c =
     let test = w .before .before in
     let a = test .before .before .args in
     let last : w .wide .result ≡ getD (a .tail .now) (a .table) 0 = w .wide .ensures .0 in
-    let first : w2 .wide2 .result ≡ getD (a .next .now) (getD (a .tail .now) (a .table) 0) 0 = w2 .wide2 .ensures .0 ∙ ap (λ (x : ℕ). getD (a .next .now) x 0) last in
+    let first : w2 .wide2 .result ≡ getD (a .next .now) (getD (a .tail .now) (a .table) 0) 0 = w2 .wide2 .ensures .0
+    ∙ ap (λ (x : ℕ). getD (a .next .now) x 0) last in
     let some = pop-some (a .next .now) (a .tail .now) (a .len .now) (a .table) (test .if1 .left) in
-    let is = unlink-is (a .next .now) (a .len .now) (a .table) (getD (a .tail .now) (a .table) 0) (w2 .wide2 .result) (c .less .result) first (c .less .ensures) in
+    let is = unlink-is (a .next .now) (a .len .now) (a .table) (getD (a .tail .now) (a .table) 0) (w2 .wide2 .result)
+    (c .less .result) first (c .less .ensures) in
     (first ∙ some .0, rw last (is .0 ∙ some .1), is .1)
 
 pub ring-pop-spec : {M : Type 1} → statement M

@@ -39,7 +39,8 @@ returns : tie.Need-returns
 returns c =
     let w = c .before .before .before in
     let a = w .before .before .args in
-    let is = unlink-is (a .next .now) (a .len .now) (a .table) (a .before) (w .wide .result) (c .less .result) (w .wide .ensures .0) (c .less .ensures) in
+    let is = unlink-is (a .next .now) (a .len .now) (a .table) (a .before) (w .wide .result) (c .less .result) (w .wide .ensures .0)
+    (c .less .ensures) in
     (w .wide .ensures .0, is .0, refl, is .1)
 
 pub ring-unlink-spec : {M : Type 1} → statement M

@@ -5,10 +5,12 @@ use Rattle.stores_bench.proofs.pushes.Statement.{statement}
 use Rattle.stores_bench.proofs.pushes.Tie as tie
 
 abbrev Inv-loop : tie.InvT-loop
-Inv-loop live turns answers₀ variant₀ key₀ ambiguous₀ next₀ tail₀ len₀ top₀ last₀ n₀ i₀ answers variant key ambiguous next tail len top last n i = i ≤ turns
+Inv-loop live turns answers₀ variant₀ key₀ ambiguous₀ next₀ tail₀ len₀ top₀ last₀ n₀ i₀ answers variant key ambiguous next tail len top
+    last n i = i ≤ turns
 
 abbrev μ-loop : tie.MeasureT-loop
-μ-loop live turns answers₀ variant₀ key₀ ambiguous₀ next₀ tail₀ len₀ top₀ last₀ n₀ i₀ answers variant key ambiguous next tail len top last n i = turns - i
+μ-loop live turns answers₀ variant₀ key₀ ambiguous₀ next₀ tail₀ len₀ top₀ last₀ n₀ i₀ answers variant key ambiguous next tail len top last
+    n i = turns - i
 
 blank-answers-requires : tie.Need-blank-answers-requires Inv-loop μ-loop
 blank-answers-requires c κs = search needs

@@ -30,18 +30,26 @@ upto-requires c κs = search needs
 loop-holds : tie.Need-loop-holds Inv-loop μ-loop
 loop-holds c =
     let a = c .before .args in
-    let m : ℕ = c .upto .result in
-    (omega arith, c .upto .ensures, omega (arith, c .upto .ensures), ap (first-at (test (a .xs .now) (a .x)) 0) (sub-zero m ∙ c .upto .ensures))
+    let m : ℕ = c .upto .result in (
+      omega arith,
+      c .upto .ensures,
+      omega (arith, c .upto .ensures),
+      ap (first-at (test (a .xs .now) (a .x)) 0)
+          (sub-zero m ∙ c .upto .ensures),
+    )
 
 element-copy-out-if1 : tie.Need-element-copy-out-if1 Inv-loop μ-loop
 element-copy-out-if1 c = search needs
 
 returns : tie.Need-returns Inv-loop μ-loop
 returns c =
-    let a = c .before .before .before .before .before .args in
-    let l = c .before .before .before .loop in
-    let m : ℕ = c .before .before .before .before .upto .result in
-    sym (first-here (test (a .xs .now) (a .x)) m (l .i) (search needs) (eq-eqb (getD (a .xs .now) (l .i) 0) (a .x) (c .if1 .taken))) ∙ l .inv .3
+    let at = c .before .before .before in
+    let limit = at .before in
+    let a = limit .before .args in
+    let l = at .loop in
+    let m : ℕ = limit .upto .result in
+    sym (first-here (test (a .xs .now) (a .x)) m (l .i) (search needs) (eq-eqb (getD (a .xs .now) (l .i) 0) (a .x) (c .if1 .taken)))
+    ∙ l .inv .3
 
 add-i : tie.Need-add-i Inv-loop μ-loop
 add-i c = search needs
@@ -51,13 +59,16 @@ loop-less c = search needs
 
 loop-again : tie.Need-loop-again Inv-loop μ-loop
 loop-again c =
-    let a = c .before .before .before .before .before .args in
-    let l = c .before .before .before .loop in
-    let m : ℕ = c .before .before .before .before .upto .result in (
+    let at = c .before .before .before in
+    let limit = at .before in
+    let a = limit .before .args in
+    let l = at .loop in
+    let m : ℕ = limit .upto .result in (
       search needs,
       l .inv .1,
       l .inv .2,
-      sym (first-next (test (a .xs .now) (a .x)) m (l .i) (search needs) (ne-eqb (getD (a .xs .now) (l .i) 0) (a .x) (c .if1 .left))) ∙ l .inv .3,
+      sym (first-next (test (a .xs .now) (a .x)) m (l .i) (search needs) (ne-eqb (getD (a .xs .now) (l .i) 0) (a .x) (c .if1 .left)))
+          ∙ l .inv .3,
     )
 
 returns-2 : tie.Need-returns-2 Inv-loop μ-loop

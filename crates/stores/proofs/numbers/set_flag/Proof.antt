@@ -20,7 +20,8 @@ element-write-flags c = search needs
 returns-2 : tie.Need-returns-2
 returns-2 c =
     let a = c .before .before .args in
-    ap (λ (x : ℕ). set (a .flags .now) (a .t) x) (c .flag-of .ensures) ∙ written-more (a .t) (search needs) (flag-number (a .flag)) (a .flags .now)
+    ap (λ (x : ℕ). set (a .flags .now) (a .t) x) (c .flag-of .ensures)
+    ∙ written-more (a .t) (search needs) (flag-number (a .flag)) (a .flags .now)
 
 pub set-flag-spec : {M : Type 1} → statement M
 set-flag-spec = tie.close (tie.spec returns flag-of-requires element-write-flags returns-2)

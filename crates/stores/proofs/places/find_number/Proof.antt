@@ -95,7 +95,8 @@ returns-2 : tie.Need-returns-2 Inv-loop μ-loop
 returns-2 c =
     let l = c .before in
     let a = l .before .before .before .args in
-    sym (found-over (numbered (a .by-key) (a .variant .now) (a .v) (a .key .now) (a .k)) (a .next .now) (l .loop .left) (l .loop .prev) (l .loop .skip) (search needs))
+    sym (found-over (numbered (a .by-key) (a .variant .now) (a .v) (a .key .now) (a .k)) (a .next .now) (l .loop .left) (l .loop .prev)
+    (l .loop .skip) (search needs))
     ∙ l .loop .inv
 
 pub find-number-spec : {M : Type 1} → statement M

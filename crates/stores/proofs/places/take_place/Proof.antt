@@ -34,7 +34,8 @@ returns-2 c =
 
 returns-3 : tie.Need-returns-3
 returns-3 c =
-    let a = c .before .before .before .before .args in
+    let lent = c .before .before .before in
+    let a = lent .before .args in
     took-none (a .next .now) (a .tail .now) (a .len .now) (a .top .now) (search needs) (search needs)
 
 pub take-place-spec : {M : Type 1} → statement M

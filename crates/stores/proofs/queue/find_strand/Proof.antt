@@ -85,7 +85,8 @@ returns-2 : tie.Need-returns-2 Inv-loop μ-loop
 returns-2 c =
     let l = c .before in
     let a = l .before .before .before .args in
-    sym (spot-over (eligible (a .time .now) (a .ambiguous .now) (a .clock) (a .complete)) (a .next .now) (l .loop .left) (l .loop .prev) (search needs)) ∙ l .loop .inv
+    sym (spot-over (eligible (a .time .now) (a .ambiguous .now) (a .clock) (a .complete)) (a .next .now) (l .loop .left) (l .loop .prev)
+    (search needs)) ∙ l .loop .inv
 
 pub find-strand-spec : {M : Type 1} → statement M
 find-strand-spec =

@@ -13,7 +13,8 @@ use Rattle.stores.proofs.queue.fresh_places.Statement.{statement}
 use Rattle.stores.proofs.queue.fresh_places.Tie as tie
 
 abbrev Inv-loop : tie.InvT-loop
-Inv-loop next₀ tail₀ len₀ top₀ time₀ ambiguous₀ variant₀ waits₀ wants₀ clause-variant clause-flags t first count c₀ left₀ next tail len top time ambiguous variant waits wants c left =
+Inv-loop next₀ tail₀ len₀ top₀ time₀ ambiguous₀ variant₀ waits₀ wants₀ clause-variant clause-flags t first count c₀ left₀ next tail len top
+    time ambiguous variant waits wants c left =
     (left ≤ most-clauses - c)
     × ((strands : List Strand)
     → fresh-each clause-variant clause-flags t left c (store strands time ambiguous variant waits wants (places next tail len top))
@@ -21,7 +22,8 @@ Inv-loop next₀ tail₀ len₀ top₀ time₀ ambiguous₀ variant₀ waits₀ 
     (store strands time₀ ambiguous₀ variant₀ waits₀ wants₀ (places next₀ tail₀ len₀ top₀)))
 
 abbrev μ-loop : tie.MeasureT-loop
-μ-loop next₀ tail₀ len₀ top₀ time₀ ambiguous₀ variant₀ waits₀ wants₀ clause-variant clause-flags t first count c₀ left₀ next tail len top time ambiguous variant waits wants c left =
+μ-loop next₀ tail₀ len₀ top₀ time₀ ambiguous₀ variant₀ waits₀ wants₀ clause-variant clause-flags t first count c₀ left₀ next tail len top
+    time ambiguous variant waits wants c left =
     left
 
 clauses-from-requires : tie.Need-clauses-from-requires Inv-loop μ-loop
@@ -78,7 +80,8 @@ returns c =
     let l = c .before .loop in
     let a = c .before .before .before .args in
     λ strands. sym (fresh-over (a .clause-variant .now) (a .clause-flags .now) (a .t) (l .left) (l .c)
-    (store strands (l .time) (l .ambiguous) (l .variant) (l .waits) (l .wants) (places (l .next) (l .tail) (l .len) (l .top))) (search needs))
+    (store strands (l .time) (l .ambiguous) (l .variant) (l .waits) (l .wants) (places (l .next) (l .tail) (l .len) (l .top)))
+    (search needs))
     ∙ l .inv .1 strands
 
 pub fresh-places-spec : {M : Type 1} → statement M

@@ -30,7 +30,8 @@ is-negative-requires c κs = search needs
 
 returns-3 : tie.Need-returns-3
 returns-3 c =
-    let a = c .before .before .before .before .args in
+    let lent = c .before .before .before in
+    let a = lent .before .args in
     let long : length (a .t1) ≡ 8 = search (length-mapped, needs) in
     c .is-negative .ensures ∙ not-there (a .t1) (a .count) (a .index) long (search needs) (search needs) _
 

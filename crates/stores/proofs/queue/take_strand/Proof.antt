@@ -15,9 +15,11 @@ ring-unlink-requires c κs = search needs
 
 returns : tie.Need-returns
 returns c =
-    let test = c .before .before .before .before in
+    let unlinking = c .before .before .before in
+    let test = unlinking .before in
     let f = test .before in
-    let a = f .before .before .before .before .args in
+    let lent = f .before .before .before in
+    let a = lent .before .args in
     let e : ℕ → Bool = eligible (a .time .now) (a .ambiguous .now) (a .clock) (a .complete) in
     let u = c .ring-unlink in
     strand-taken e (a .t) (a .next .now) (a .tail .now) (a .len .now) (f .find-strand .result) (f .find-strand .ensures) (test .if1 .taken)
@@ -26,7 +28,8 @@ returns c =
 returns-2 : tie.Need-returns-2
 returns-2 c =
     let f = c .before in
-    let a = f .before .before .before .before .args in
+    let lent = f .before .before .before in
+    let a = lent .before .args in
     strand-none (eligible (a .time .now) (a .ambiguous .now) (a .clock) (a .complete)) (a .t) (a .next .now) (a .tail .now) (a .len .now)
     (f .find-strand .result) (f .find-strand .ensures) (c .if1 .left)
 

@@ -26,7 +26,8 @@ returns c = search needs
 
 returns-2 : tie.Need-returns-2
 returns-2 c =
-    let known = c .before .before .before .before in
+    let lent = c .before .before .before in
+    let known = lent .before in
     let k = known .k .given in
     let s = known .before .before .args .s in
     let t = k .0 .1 .0 in

@@ -11,7 +11,8 @@ use Rattle.stores.proofs.stack.coinductive_from.Tie as tie
 
 abbrev Inv-loop : tie.InvT-loop
 Inv-loop table coinductive from depth m i₀ i =
-    (m ≡ within depth) × (m ≤ 64) × (all-from (coinductive-at table coinductive) i (m - i) ≡ all-from (coinductive-at table coinductive) from (within depth - from))
+    (m ≡ within depth) × (m ≤ 64) × (all-from (coinductive-at table coinductive) i (m - i) ≡ all-from
+    (coinductive-at table coinductive) from (within depth - from))
 
 abbrev μ-loop : tie.MeasureT-loop
 μ-loop table coinductive from depth m i₀ i = m - i
@@ -21,8 +22,12 @@ upto-requires c κs = search needs
 
 loop-holds : tie.Need-loop-holds Inv-loop μ-loop
 loop-holds c =
-    let a = c .before .args in
-    (c .upto .ensures, omega (arith, c .upto .ensures), ap (λ (m : ℕ). all-from (coinductive-at (a .table .now) (a .coinductive .now)) (a .from) (m - a .from)) (c .upto .ensures))
+    let a = c .before .args in (
+      c .upto .ensures,
+      omega (arith, c .upto .ensures),
+      ap
+          (λ (m : ℕ). all-from (coinductive-at (a .table .now) (a .coinductive .now)) (a .from) (m - a .from)) (c .upto .ensures),
+    )
 
 element-copy-out-flag-at : tie.Need-element-copy-out-flag-at Inv-loop μ-loop
 element-copy-out-flag-at c = search needs
@@ -38,20 +43,28 @@ loop-less c = search needs
 
 loop-again : tie.Need-loop-again Inv-loop μ-loop
 loop-again c =
-    let a = c .before .before .before .before .before .before .args in
-    let l = c .before .before .before .before .loop in
-    let m : ℕ = c .before .before .before .before .before .upto .result in (
+    let asked = c .before in
+    let at = asked .before .before .before in
+    let limit = at .before in
+    let a = limit .before .args in
+    let l = at .loop in
+    let m : ℕ = limit .upto .result in (
       l .inv .0,
       l .inv .1,
-      sym (all-next (coinductive-at (a .table .now) (a .coinductive .now)) m (l .i) (search needs) (sym (c .before .flag-at .ensures) ∙ c .if1 .taken)) ∙ l .inv .2,
+      sym (all-next (coinductive-at (a .table .now) (a .coinductive .now)) m (l .i) (search needs)
+          (sym (asked .flag-at .ensures) ∙ c .if1 .taken)) ∙ l .inv .2,
     )
 
 returns : tie.Need-returns Inv-loop μ-loop
 returns c =
-    let a = c .before .before .before .before .before .before .args in
-    let l = c .before .before .before .before .loop in
-    let m : ℕ = c .before .before .before .before .before .upto .result in
-    sym (all-here (coinductive-at (a .table .now) (a .coinductive .now)) m (l .i) (search needs) (sym (c .before .flag-at .ensures) ∙ c .if1 .left)) ∙ l .inv .2
+    let asked = c .before in
+    let at = asked .before .before .before in
+    let limit = at .before in
+    let a = limit .before .args in
+    let l = at .loop in
+    let m : ℕ = limit .upto .result in
+    sym (all-here (coinductive-at (a .table .now) (a .coinductive .now)) m (l .i) (search needs)
+    (sym (asked .flag-at .ensures) ∙ c .if1 .left)) ∙ l .inv .2
 
 returns-2 : tie.Need-returns-2 Inv-loop μ-loop
 returns-2 c =

@@ -6,8 +6,16 @@ use Rattle.stores.proofs.stack.push_entry.Tie as tie
 
 returns : tie.Need-returns
 returns c =
-    let a = c .before .args in
-    (depth-full (a .depth) (search needs), written-full (a .depth) (search needs) (a .t) (a .table .now), written-full (a .depth) (search needs) (a .time) (a .clock .now), written-full (a .depth) (search needs) (a .most) (a .positive .now), written-full (a .depth) (search needs) (a .most) (a .negative .now), written-full (a .depth) (search needs) 256 (a .active .now))
+    let a = c .before .args in (
+      depth-full (a .depth) (search needs),
+      written-full (a .depth) (search needs) (a .t) (a .table .now),
+      written-full (a .depth)
+          (search needs) (a .time) (a .clock .now),
+      written-full (a .depth) (search needs) (a .most) (a .positive .now),
+      written-full
+          (a .depth) (search needs) (a .most) (a .negative .now),
+      written-full (a .depth) (search needs) 256 (a .active .now),
+    )
 
 element-write-table : tie.Need-element-write-table
 element-write-table c = search needs
@@ -41,8 +49,16 @@ add-result c = search needs
 
 returns-2 : tie.Need-returns-2
 returns-2 c =
-    let a = c .before .args in
-    (depth-more (a .depth) (search needs), written-more (a .depth) (search needs) (a .t) (a .table .now), written-more (a .depth) (search needs) (a .time) (a .clock .now), written-more (a .depth) (search needs) (a .most) (a .positive .now), written-more (a .depth) (search needs) (a .most) (a .negative .now), written-more (a .depth) (search needs) 256 (a .active .now))
+    let a = c .before .args in (
+      depth-more (a .depth) (search needs),
+      written-more (a .depth) (search needs) (a .t) (a .table .now),
+      written-more (a .depth)
+          (search needs) (a .time) (a .clock .now),
+      written-more (a .depth) (search needs) (a .most) (a .positive .now),
+      written-more
+          (a .depth) (search needs) (a .most) (a .negative .now),
+      written-more (a .depth) (search needs) 256 (a .active .now),
+    )
 
 pub push-entry-spec : {M : Type 1} → statement M
 push-entry-spec =

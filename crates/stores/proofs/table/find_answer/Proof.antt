@@ -18,7 +18,8 @@ returns : tie.Need-returns
 returns c =
     let a = c .before .before .args in
     c .find-number .ensures
-    ∙ ap (λ (k : ℕ). found-in (numbered true (a .variant .now) (a .x .variant) (a .key .now) k) (ring-of (a .next .now) (a .tail .now) (a .len .now) (a .t)))
+    ∙ ap (λ (k : ℕ). found-in (numbered true (a .variant .now) (a .x .variant) (a .key .now) k)
+    (ring-of (a .next .now) (a .tail .now) (a .len .now) (a .t)))
     (c .before .key-of .ensures)
 
 pub find-answer-spec : {M : Type 1} → statement M

@@ -36,7 +36,11 @@ mul-k c =
     let n = w .within .result in
     let long : length goals ≡ 8 = search needs in
     let fits : n ≤ length goals = search needs in
-    omega (arith, key-fits goals n fits (c .before .loop .i) (c .before .loop .k) (search needs) (search needs) (c .before .loop .inv .1) (search needs))
+    omega (
+      arith,
+      key-fits goals n fits (c .before .loop .i) (c .before .loop .k) (search needs) (search needs) (c .before .loop .inv .1)
+          (search needs),
+    )
 
 array-read-digit : tie.Need-array-read-digit Inv-loop μ-loop
 array-read-digit c = search needs
@@ -66,7 +70,8 @@ loop-again c =
     let long : length goals ≡ 8 = search needs in
     let fits : n ≤ length goals = search needs in (
       search needs,
-      key-step goals n fits (l .loop .i) (l .loop .k) (search needs) (search needs) (l .loop .inv .1) (c .digit .result) (c .digit .ensures .0),
+      key-step goals n fits (l .loop .i) (l .loop .k) (search needs) (search needs) (l .loop .inv .1) (c .digit .result)
+          (c .digit .ensures .0),
     )
 
 returns : tie.Need-returns Inv-loop μ-loop

@@ -17,7 +17,8 @@ repeated-requires c κs = search needs
 returns : tie.Need-returns
 returns c =
     let f = c .before .before .before in
-    let a = f .before .before .before .before .args in
+    let looking = f .before .before .before in
+    let a = looking .before .args in
     push-found (a .variant .now) (a .key .now) (a .ambiguous .now) (a .next .now) (a .tail .now) (a .len .now) (a .top .now) (a .t) (a .x)
     (f .find-answer .result) (f .find-answer .ensures) (search needs) (c .repeated .result) (c .repeated .ensures)
 
@@ -27,8 +28,10 @@ take-place-requires c κs = search needs
 returns-2 : tie.Need-returns-2
 returns-2 c =
     let p = c .before in
-    let f = p .before .before .before .before .before .before in
-    let a = f .before .before .before .before .args in
+    let taking = p .before .before .before in
+    let f = taking .before .before .before in
+    let looking = f .before .before .before in
+    let a = looking .before .args in
     push-full (a .variant .now) (a .key .now) (a .ambiguous .now) (a .next .now) (a .tail .now) (a .len .now) (a .top .now) (a .t) (a .x)
     (f .find-answer .result) (f .find-answer .ensures) (search needs)
     (p .take-place .last .0) (p .take-place .last .1 .1 .0) (p .take-place .last .1 .1 .1 .0)
@@ -43,9 +46,12 @@ ring-enqueue-requires c κs = search needs
 returns-3 : tie.Need-returns-3
 returns-3 c =
     let e = c .ring-enqueue in
-    let p = c .before .before .before .before .before in
-    let f = p .before .before .before .before .before .before in
-    let a = f .before .before .before .before .args in
+    let enqueueing = c .before .before .before in
+    let p = enqueueing .before .before in
+    let taking = p .before .before .before in
+    let f = taking .before .before .before in
+    let looking = f .before .before .before in
+    let a = looking .before .args in
     push-new (a .variant .now) (a .key .now) (a .ambiguous .now) (a .next .now) (a .tail .now) (a .len .now) (a .top .now) (a .t) (a .x)
     (f .find-answer .result) (f .find-answer .ensures) (search needs)
     (p .take-place .last .0) (p .take-place .last .1 .1 .0) (p .take-place .last .1 .1 .1 .0)

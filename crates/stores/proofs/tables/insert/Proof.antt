@@ -10,8 +10,15 @@ use Rattle.stores.proofs.tables.insert.Tie as tie
 
 returns : tie.Need-returns
 returns c =
-    let a = c .before .args in
-    (depth-full (a .count) (search needs), written-full (a .count) (search needs) (a .g) (a .goal .now), written-full (a .count) (search needs) (flag-number (a .is-coinductive)) (a .coinductive .now), written-full (a .count) (search needs) (flag-number (a .is-floundered)) (a .floundered .now), written-full (a .count) (search needs) 1 (a .complete .now))
+    let a = c .before .args in (
+      depth-full (a .count) (search needs),
+      written-full (a .count) (search needs) (a .g) (a .goal .now),
+      written-full (a .count)
+          (search needs) (flag-number (a .is-coinductive)) (a .coinductive .now),
+      written-full (a .count) (search needs)
+          (flag-number (a .is-floundered)) (a .floundered .now),
+      written-full (a .count) (search needs) 1 (a .complete .now),
+    )
 
 element-write-goal : tie.Need-element-write-goal
 element-write-goal c = search needs
@@ -39,8 +46,10 @@ returns-2 c =
     let a = c .before .before .before .args in (
       depth-more (a .count) (search needs),
       written-more (a .count) (search needs) (a .g) (a .goal .now),
-      ap (λ (x : ℕ). set (a .coinductive .now) (a .count) x) (c .before .flag-of .ensures) ∙ written-more (a .count) (search needs) (flag-number (a .is-coinductive)) (a .coinductive .now),
-      ap (λ (x : ℕ). set (a .floundered .now) (a .count) x) (c .flag-of2 .ensures) ∙ written-more (a .count) (search needs) (flag-number (a .is-floundered)) (a .floundered .now),
+      ap (λ (x : ℕ). set (a .coinductive .now) (a .count) x) (c .before .flag-of .ensures)
+          ∙ written-more (a .count) (search needs) (flag-number (a .is-coinductive)) (a .coinductive .now),
+      ap (λ (x : ℕ). set (a .floundered .now) (a .count) x) (c .flag-of2 .ensures)
+          ∙ written-more (a .count) (search needs) (flag-number (a .is-floundered)) (a .floundered .now),
       written-more (a .count) (search needs) 1 (a .complete .now),
     )
 

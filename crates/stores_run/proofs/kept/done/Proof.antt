@@ -30,8 +30,10 @@ returns-2 c =
 
 returns-3 : tie.Need-returns-3
 returns-3 c =
-    let a = c .before .before .before .before .args in
-    ap (λ (r : Answers). record { what = 100; answers = r }) (c .write .ensures) ∙ sym (ap (kept-by (a .a) (a .x)) (c .before .before .o2 .given .1))
+    let lent = c .before .before .before in
+    let a = lent .before .args in
+    ap (λ (r : Answers). record { what = 100; answers = r }) (c .write .ensures)
+    ∙ sym (ap (kept-by (a .a) (a .x)) (c .before .before .o2 .given .1))
 
 pub done-spec : {M : Type 1} → statement M
 done-spec =

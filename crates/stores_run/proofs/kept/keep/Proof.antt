@@ -13,10 +13,12 @@ done-requires c κs = search needs
 returns : tie.Need-returns
 returns c =
     let p = c .before in
-    let lent = p .before .before .before .before in
-    let places = lent .before .before .before in
-    let copied = places .before .before .before .before in
-    let a = copied .before .before .before .before .args in
+    let numbers-lent = p .before .before .before in
+    let top-lent = numbers-lent .before in
+    let places-lent = top-lent .before .before .before in
+    let numbers-copied = places-lent .before .before .before in
+    let links-copied = numbers-copied .before .before .before in
+    let a = links-copied .before .before .args in
     let l = p .push-answer .last in
     keep-of (a .a) (a .t) (a .x) (l .0) (l .1 .0) (l .1 .1 .0) (l .1 .1 .1 .0) (p .push-answer .result) (p .push-answer .ensures)
     (c .done .result) (c .done .ensures)

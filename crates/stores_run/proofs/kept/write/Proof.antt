@@ -16,8 +16,10 @@ number-answer-requires c κs = search needs
 returns : tie.Need-returns
 returns c =
     let n = c .before in
-    let lent = n .before .before .before .before in
-    let a = lent .before .before .before .before .args in
+    let called = n .before .before .before in
+    let lent = called .before in
+    let between = lent .before .before .before in
+    let a = between .before .args in
     let l = n .number-answer .last in
     let e = n .number-answer .ensures in
     written-answer-is (a .a) (a .q) (a .x) (l .0) (l .1 .0) (l .1 .1 .0) (e .0) (e .1) (e .2)

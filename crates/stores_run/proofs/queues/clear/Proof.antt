@@ -9,8 +9,10 @@ ring-move-requires c κs = search needs
 
 returns : tie.Need-returns
 returns c =
-    let lent = c .before .before .before .before in
-    let a = lent .before .before .before .before .args in
+    let called = c .before .before .before in
+    let lent = called .before in
+    let between = lent .before .before .before in
+    let a = between .before .args in
     let r = c .ring-move in
     clear-of (a .s) (a .t) (r .last .0) (r .last .1 .0) (r .last .1 .1 .0) (r .ensures)
 

@@ -10,11 +10,13 @@ take-place-requires c κs = search needs
 returns : tie.Need-returns
 returns c =
     let p = c .before in
-    let lent = p .before .before .before .before in
+    let called = p .before .before .before in
+    let lent = called .before in
     let copied = lent .before .before .before in
     let a = copied .before .before .args in
     let l = p .take-place .last in
-    put-none (a .s) (a .t) (a .at) (a .x) (l .0) (l .1 .1 .0) (l .1 .1 .1 .0) (p .take-place .result) (p .take-place .ensures) (search needs)
+    put-none (a .s) (a .t) (a .at) (a .x) (l .0) (l .1 .1 .0) (l .1 .1 .1 .0) (p .take-place .result) (p .take-place .ensures)
+    (search needs)
 
 cast-ring-enqueue : tie.Need-cast-ring-enqueue
 cast-ring-enqueue c = search needs
@@ -31,13 +33,16 @@ write-requires c κs = search needs
 returns-2 : tie.Need-returns-2
 returns-2 c =
     let e = c .before .ring-enqueue in
-    let test = c .before .before .before .before .before in
+    let between = c .before .before .before in
+    let test = between .before .before in
     let p = test .before in
-    let lent = p .before .before .before .before in
+    let called = p .before .before .before in
+    let lent = called .before in
     let copied = lent .before .before .before in
     let a = copied .before .before .args in
     let l = p .take-place .last in
-    put-some (a .s) (a .t) (a .at) (a .x) (l .0) (l .1 .1 .0) (l .1 .1 .1 .0) (p .take-place .result) (p .take-place .ensures) (search needs)
+    put-some (a .s) (a .t) (a .at) (a .x) (l .0) (l .1 .1 .0) (l .1 .1 .1 .0) (p .take-place .result) (p .take-place .ensures)
+    (search needs)
     (c .write .result) (c .write .ensures) (e .last .0) (e .last .1 .0) (e .last .1 .1 .0) (e .ensures .0) (e .ensures .1) (e .ensures .2)
 
 pub put-spec : {M : Type 1} → statement M

@@ -22,7 +22,8 @@ returns c =
     let a = half .before .before .before .args in
     let l = n .number-strand .last in
     let e = n .number-strand .ensures in
-    written-is (a .s) (a .q) (a .at) (a .x) (l .0) (l .1 .0) (l .1 .1 .0) (l .1 .1 .1 .0) (l .1 .1 .1 .1 .0) (e .0) (e .1) (e .2) (e .3) (e .4)
+    written-is (a .s) (a .q) (a .at) (a .x) (l .0) (l .1 .0) (l .1 .1 .0) (l .1 .1 .1 .0) (l .1 .1 .1 .1 .0) (e .0) (e .1) (e .2) (e .3)
+    (e .4)
 
 pub write-spec : {M : Type 1} → statement M
 write-spec = tie.close (tie.spec mul-strands array-set-from-strands number-strand-requires returns)
