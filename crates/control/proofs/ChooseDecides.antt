@@ -5,16 +5,15 @@ use native.Mathlib.Omega.{arith}
 use mathlib.Core.Bool.{Bool, true, false, true≢false}
 use mathlib.Core.List.{List, [], _∷_}
 use mathlib.Core.Logic.{_⊎_, inl, inr}
-use mathlib.Core.Option.{Option, none, some}
 use mathlib.Core.Path.{_≡_, refl, sym, ap, ap₂, subst, _∙_}
 use lib.Dec.{eqb, leb, ltb}
-use lib.ListN.{length, getD, getElem?}
-use borrow.Author.Tests.{ltb-true, ltb-false}
+use lib.ListN.{length, getD}
+use borrow.Author.Tests.{ltb-true}
 use Rattle.definitions.specs.{TimeStamp, is-complete}
 use Rattle.definitions.specs as said
 use Rattle.definitions.specs.Stack.{Stack}
 use Rattle.definitions.specs.Stack as said-stack
-use Rattle.definitions.specs.Stop.{Stops, stop, go, _>>=_}
+use Rattle.definitions.specs.Stop.{Stops, go, _>>=_}
 use Rattle.definitions.specs.Strand as held
 use Rattle.definitions.specs.Table.{Table, equal-answer}
 use Rattle.definitions.specs.Tables.{Forest}
@@ -26,7 +25,7 @@ use Rattle.laws.proofs.All as laws
 use Rattle.laws.proofs.All.{all-first, all-rest}
 use Rattle.laws.proofs.Totals.{total-one}
 use Rattle.split.specs.Acts as split
-use Rattle.split.specs.Acts.{Act, Origin, takes, with-made}
+use Rattle.split.specs.Acts.{Act, Origin, takes}
 use Rattle.split.specs.Decide.{or, no-table, table-of, Picked, decide-subgoal, decide-selected, decide-no-remaining, decide-deed}
 use Rattle.split.proofs.Reading.{there-still, same-clock}
 use Rattle.rings.specs.Lists.{All}
@@ -35,7 +34,7 @@ use Rattle.strands.specs.declared.Answer.{Answer}
 use Rattle.strands.specs.declared.Selected.the-variants.{Subgoal}
 use Rattle.strands.specs.declared.Selected.{Selected}
 use Rattle.strands.specs.declared.Strand.{Strand}
-use Rattle.strands.specs.Answers.{answer-of, answer-from, blank-answer}
+use Rattle.strands.specs.Answers.{answer-of, blank-answer}
 use Rattle.strands.specs.View.{Sound, SoundAnswer, clause, selected, seen, answer, is-negative}
 use Rattle.strands.proofs.AnswerViews.{answer-of-view, answer-of-sound, blank-answer-sound}
 use Rattle.book.specs.View.{meant}
@@ -62,7 +61,8 @@ use Rattle.control.specs.Decision.{meaning}
 use Rattle.control.specs.OnNoRemainingSubgoals.{no-remaining, Stored}
 use Rattle.control.specs.OnSubgoalSelected as selecting
 use Rattle.control.specs.OnSubgoalSelected.{coinductive-by, goal-delayed, push-table, selected-deed, LookMeans}
-use Rattle.control.specs.SelectSubgoal.{chosen, select-subgoal, noted-goals, choice-means-by, choice-means, with-noted, Ready, Outcome, Ended}
+use Rattle.control.specs.SelectSubgoal.{chosen, select-subgoal, noted-goals, choice-means-by, choice-means, with-noted, Ready}
+use Rattle.control.specs.SelectSubgoal.{Outcome, Ended}
 use Rattle.control.specs.Stores.{Stores, first-strands, in-use, forest, entries-of, SoundStores}
 use Rattle.control.specs.Turn.{clock-at}
 use Rattle.control.proofs.ChooseLook.{place, look-by-means, stored-there}
@@ -71,7 +71,8 @@ use Rattle.control.proofs.OnNoRemainingSubgoals.{no-remaining-means}
 use Rattle.control.proofs.OnSubgoalSelected.{selected-means}
 use Rattle.control.proofs.SelectRoom.{room-for-noted}
 use Rattle.control.proofs.SelectSubgoal.{select-subgoal-means, select-subgoal-ends}
-use Rattle.control.proofs.Stores.{top-entry, entries-below, table-held, table-still, mode-flag, numbers-mean, book-goals, answers-held, table-made, searching, stack-is, strands-live}
+use Rattle.control.proofs.Stores.{top-entry, entries-below, table-held, table-still, mode-flag, numbers-mean, book-goals}
+use Rattle.control.proofs.Stores.{answers-held, table-made, searching, stack-is, strands-live}
 
 -- A look that names no answer is decided without one.
 module _ (time : TimeStamp) (clocks : ℕ → TimeStamp) (s : Strand) (a b : Answer) where
@@ -177,7 +178,8 @@ module _ (root index first : ℕ) (z : Stores) (o : SoundStores root index first
     delayed-few =
         subst (λ (y : said.Answer). All (λ h. h < 64) (y .delayed-subgoals))
         (sym (answer-of-view s (table-goal-at t (z .tables .goal)) (known .sound .delayed-long)))
-        (others-few (length (f .book)) (table-goal-at t (z .tables .goal)) (clause s .delayed-subgoals) (sound-forest .few-goals) (known .named .delayed-named))
+        (others-few (length (f .book)) (table-goal-at t (z .tables .goal)) (clause s .delayed-subgoals)
+        (sound-forest .few-goals) (known .named .delayed-named))
 
     good : GoodAnswer x
     good = record { sound = answer-of-sound s (table-goal-at t (z .tables .goal)) (known .sound .delayed-long); goals = delayed-few }
@@ -287,9 +289,10 @@ module _ (root index first : ℕ) (z : Stores) (o : SoundStores root index first
       looked-by false e =
           look-alike clock (clock-at z) s (getD (z .answers .answers) (look-place else-look) unread-answer) blank-answer
           (leb (within (z .stack .depth)) (height-of (z .stack .table) (z .stack .depth) u))
-          (coinductive-from (z .stack .table) (z .tables .coinductive) (z .stack .depth) (height-of (z .stack .table) (z .stack .depth) u)) u
-          (height-of (z .stack .table) (z .stack .depth) u) complete (c .live) late
-          ∙ look-decides blank-answer blank-answer-sound else-look (look-means blank-answer false e (λ never. absurd (true≢false (sym never))))
+          (coinductive-from (z .stack .table) (z .tables .coinductive) (z .stack .depth)
+          (height-of (z .stack .table) (z .stack .depth) u)) u (height-of (z .stack .table) (z .stack .depth) u) complete (c .live) late
+          ∙ look-decides blank-answer blank-answer-sound else-look
+          (look-means blank-answer false e (λ never. absurd (true≢false (sym never))))
 
       looked : deed-of selection.Selected (sight-by selection.Selected (s .selected))
           ≡ decide-selected (c .live) g (top-entry z n) (entries-below z n) (seen clock s)

@@ -14,23 +14,22 @@ use Rattle.definitions.specs.{TimeStamp, MAX, is-complete}
 use Rattle.definitions.specs.Book as books
 use Rattle.definitions.specs.Lists.{is-empty}
 use Rattle.definitions.specs.Stack as said
-use Rattle.definitions.specs.Stop.{Stops, go, _>>=_}
+use Rattle.definitions.specs.Stop.{Stops, go}
 use Rattle.definitions.specs.Strand as held
 use Rattle.definitions.specs.Table.{Table}
-use Rattle.definitions.specs.Tables.{Forest, queued}
+use Rattle.definitions.specs.Tables.{Forest}
 use Rattle.asserts.proofs.Sound.{SoundStrand, Awaits, Selects, Calls, Below}
 use Rattle.laws.proofs.Lists.{at-place, place-under}
 use Rattle.laws.proofs.Options.{no-such, same-some}
 use Rattle.split.specs.Acts as acts
 use Rattle.split.specs.Acts.{Act}
-use Rattle.split.specs.Decide.{or, no-literal, no-strand, no-selected, table-of, decide-clear, caller-strand, selected-of, selected-literal}
+use Rattle.split.specs.Decide.{or, no-literal, no-strand, no-selected, table-of, caller-strand, selected-literal}
 use Rattle.split.specs.Decide.{decide-failed, decide-no-strands, decide-part-of-cycle, decide-idle}
 use Rattle.strands.specs.declared.Strand.{Strand}
-use Rattle.strands.specs.View.{clause, selected, seen, is-negative}
+use Rattle.strands.specs.View.{selected, is-negative}
 use Rattle.stores.specs.Numbers.{flag}
 use Rattle.stores.specs.Places.{ring}
-use Rattle.stores.specs.Queue.{is-not, waits-on, waits-for, waits-of}
-use Rattle.stores.specs.Stack.{caller-place}
+use Rattle.stores.specs.Queue.{is-not, waits-on, waits-for}
 use Rattle.stores.specs.View.{FirstStrands, strand-by, strand-at, active-strand-at, is-fresh, unread-strand}
 use Rattle.stores.proofs.PlacesViews.{length-ring}
 use Rattle.stores.proofs.StackCallers.{caller-place-is, active-held}
@@ -43,7 +42,8 @@ use Rattle.control.specs.Stores.{Stores, first-strands, forest, entries-
 use Rattle.control.specs.Turn.{top, not-proved, with-caller, clearing, act-means}
 use Rattle.control.proofs.EnsureRootAnswer.{top-read, top-is}
 use Rattle.control.proofs.OnNoStrandsLeftCases.{minimum-some}
-use Rattle.control.proofs.Stores.{below-next, top-entry, entries-below, table-held, few-made, counted, table-still, mode-flag, table-made, stack-is, searching}
+use Rattle.control.proofs.Stores.{below-next, top-entry, entries-below, table-held, few-made, counted, table-still, mode-flag}
+use Rattle.control.proofs.Stores.{table-made, stack-is, searching}
 
 -- a mapped list is empty where the list is
 empty-is : {A : Type 0} (f : ℕ → A) (l : List ℕ) → eqb (length l) 0 ≡ is-empty (map f l)
@@ -135,7 +135,8 @@ module _ (root index first : ℕ) (z : Stores) (o : SoundStores root index first
 
     abbrev shown-by : (unwritten : Bool) → held.Strand
     shown-by unwritten =
-        strand-by unwritten (getD (z .strands .time) q 0) (fresh (getD (z .strands .wants) q 0)) (getD (z .strands .strands) q unread-strand)
+        strand-by unwritten (getD (z .strands .time) q 0) (fresh (getD (z .strands .wants) q 0))
+        (getD (z .strands .strands) q unread-strand)
 
     -- the sign of what it waits on is that of the literal that it has selected
     sign-beside : (unwritten : Bool) → is-fresh (z .strands) q ≡ unwritten → waits-on-not w ≡ is-negative (selected-literal shown)
@@ -146,9 +147,12 @@ module _ (root index first : ℕ) (z : Stores) (o : SoundStores root index first
         let own = o .strands .in-hand q (active-held (z .stack .active) (z .stack .depth) m (omega arith) is-there) in
         let there = at-place literals (k .subgoal-index) (awaits .at-literal) in
         let known : k .subgoal-table < 64 =
-        omega
-        (arith, place-under (f .tables) (k .subgoal-table) (awaits .table) (awaits .is-made), counted root index first z o,
-        few-made root index first z o) in
+        omega (
+          arith,
+          place-under (f .tables) (k .subgoal-table) (awaits .table) (awaits .is-made),
+          counted root index first z o,
+          few-made root index first z o,
+        ) in
         ap waits-on-not
         (own .is-written e .is-waits
         ∙ sym (ap (λ (b : Bool). waits-for (shown-by b .ex-clause .subgoals) (shown-by b .selected-subgoal)) e)
@@ -272,8 +276,8 @@ module _ (root index first : ℕ) (z : Stores) (o : SoundStores root index first
 
   abbrev left : (empty wants-complete : Bool) → Idle
   left empty wants-complete =
-      left-by (z .strands .places .len) (z .strands .waits) (z .stack .positive) (z .stack .negative) (z .stack .active) empty wants-complete
-      (top-read root index first z o n d)
+      left-by (z .strands .places .len) (z .strands .waits) (z .stack .positive) (z .stack .negative) (z .stack .active) empty
+      wants-complete (top-read root index first z o n d)
 
   left-decides : (empty wants-complete : Bool) → means-at t (left empty wants-complete) ≡ queue-decided empty wants-complete
   left-decides true wants-complete = no-strand-decides n refl

@@ -11,9 +11,8 @@ use Rattle.definitions.specs.Strand as held
 use Rattle.definitions.specs.Tables.{queued}
 use Rattle.definitions.specs.Tables as forests
 use Rattle.asserts.proofs.Sound as asserts
-use Rattle.split.specs.Acts.{Act, Origin, takes, finishes}
+use Rattle.split.specs.Acts.{Act, Origin, takes}
 use Rattle.split.specs.Decide.{table-of, decide-subgoal, decide-idle, decide-deed, decide}
-use Rattle.strands.specs.View.{seen}
 use Rattle.stores.specs.View.{strand-at, entries}
 use Rattle.control.specs.declared.on_no_strands_left.Idle.{Idle}
 use Rattle.control.specs.OnNoStrandsLeft.{without-by}

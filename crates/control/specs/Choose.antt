@@ -4,7 +4,7 @@ use mathlib.Core.Bool.{Bool, true, false}
 use mathlib.Core.List.{List}
 use lib.Dec.{eqb, leb, ltb}
 use lib.ListN.{getD}
-use Rattle.rings.specs.Rings.{ring-of, place-if}
+use Rattle.rings.specs.Rings.{most-places, ring-of, place-if}
 use Rattle.strands.specs.declared.Answer.{Answer}
 use Rattle.strands.specs.declared.Selected.the-variants as selected
 use Rattle.strands.specs.declared.Selected.{Selected}
@@ -65,7 +65,7 @@ module _ (entry-table coinductive : List ℕ) (depth : ℕ) where
   module _ (answer-next answer-tail answer-len : List ℕ) where
     abbrev pub look-at : (t index : ℕ) → Look
     look-at t index =
-        look-by (ltb (answer-place answer-next answer-tail answer-len t index) 256)
+        look-by (ltb (answer-place answer-next answer-tail answer-len t index) most-places)
         (answer-place answer-next answer-tail answer-len t index) (on-stack t)
 
     abbrev pub selected-sight : Selected → Sight
@@ -84,7 +84,7 @@ module _ (answer-next answer-tail answer-len answer-variant answer-key : List �
       (ring-of answer-next answer-tail answer-len t)
 
   abbrev pub answer-sight : (t : ℕ) → Answer → Sight
-  answer-sight t x = same-by (ltb (same-at t x) 256) (same-at t x)
+  answer-sight t x = same-by (ltb (same-at t x) most-places) (same-at t x)
 
 -- What the turn sees, by the choice.
 module _ (entry-table coinductive : List ℕ) (depth : ℕ) (answer-next answer-tail answer-len answer-variant answer-key : List ℕ) where

@@ -7,12 +7,12 @@ use lib.Dec.{eqb, ltb}
 use lib.ListN.{getD, set, replicate}
 use Rattle.book.specs.Access.{literal-read}
 use Rattle.book.specs.declared.Literal.{Literal}
-use Rattle.rings.specs.Rings.{ring-of}
+use Rattle.rings.specs.Rings.{most-places, ring-of}
 use Rattle.strands.specs.declared.Strand.{Strand}
 use Rattle.strands.specs.Fields.{no-literal}
 use Rattle.strands.specs.Making.{blank-strand, strand-of}
 use Rattle.stores.specs.declared.queue.Spot.{Spot}
-use Rattle.stores.specs.Numbers.{flag-at}
+use Rattle.stores.specs.Numbers.{most-entries, most-clauses, waits-fresh, flag-at}
 use Rattle.stores.specs.Queue.{eligible, spot-from}
 use Rattle.control.specs.declared.ensure_root_answer.Top.{Top}
 use Rattle.control.specs.declared.ensure_root_answer.Next.{Next}
@@ -20,7 +20,7 @@ use Rattle.control.specs.declared.ensure_root_answer.Next.{Next}
 -- The top.
 
 abbrev pub no-top : Top
-no-top = record { depth = 0; table = 0; clock = 0; complete = false; active = 256 }
+no-top = record { depth = 0; table = 0; clock = 0; complete = false; active = most-places }
 
 module _ (entry-table entry-clock active complete : List ℕ) (depth : ℕ) where
   abbrev pub topmost : Top
@@ -38,7 +38,7 @@ module _ (entry-table entry-clock active complete : List ℕ) (depth : ℕ) wher
   top-by false false = topmost
 
   abbrev pub top-of : Top
-  top-of = top-by (eqb depth 0) (ltb 64 depth)
+  top-of = top-by (eqb depth 0) (ltb most-entries depth)
 
 -- The strand that it goes on with: the active one, or what the queue was looked along for.
 
@@ -48,7 +48,7 @@ next-by false place s = record { found = s .found; queued = true; place = s .pla
 
 abbrev pub next-strand : (next tail len time ambiguous : List ℕ) → Top → Next
 next-strand next tail len time ambiguous top =
-    next-by (ltb (top .active) 256) (top .active)
+    next-by (ltb (top .active) most-places) (top .active)
     (spot-from (eligible time ambiguous (top .clock) (top .complete)) (getD tail (top .table) 0) (ring-of next tail len (top .table)))
 
 -- The first strand of a clause.
@@ -67,11 +67,11 @@ module _ (clause-variant clause-flags clause-len literal-kind literal-goal liter
   first-by false c = blank-strand
 
   abbrev pub first-strand : (c : ℕ) → Strand
-  first-strand c = first-by (ltb c 256) c
+  first-strand c = first-by (ltb c most-clauses) c
 
   abbrev pub in-hand-by : (fresh : Bool) → Strand → (c : ℕ) → Strand
   in-hand-by true s c = first-strand c
   in-hand-by false s c = s
 
   abbrev pub strand-in-hand : Strand → (w c : ℕ) → Strand
-  strand-in-hand s w c = in-hand-by (eqb w 254) s c
+  strand-in-hand s w c = in-hand-by (eqb w waits-fresh) s c

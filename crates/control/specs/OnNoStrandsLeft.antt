@@ -1,10 +1,12 @@
 -- What a turn does where the top has no strand to go on with, by numbers alone.
-use Prim.Native.Nat.{ℕ, _-_}
+use Prim.Native.Nat.{ℕ, _*_, _-_}
 use mathlib.Core.Bool.{Bool, true, false}
 use mathlib.Core.List.{List}
 use lib.Dec.{eqb, ltb}
 use lib.ListN.{getD}
 use Rattle.definitions.specs.{TimeStamp, MAX}
+use Rattle.rings.specs.Rings.{most-places}
+use Rattle.stores.specs.Numbers.{most-entries, waits-not}
 use Rattle.stores.specs.Stack.{caller-place}
 use Rattle.control.specs.declared.ensure_root_answer.Next.{Next}
 use Rattle.control.specs.declared.ensure_root_answer.Top.{Top}
@@ -12,21 +14,21 @@ use Rattle.control.specs.declared.on_no_strands_left.Idle.{Idle}
 use Rattle.control.specs.declared.on_no_strands_left.Idle.the-variants.{Nothing, Finishes, CallerFailed, CallerProved, ChangesMode}
 use Rattle.control.specs.declared.on_no_strands_left.Idle.the-variants.{NegativeCycle, Clears, PartOfCycle}
 
--- The number beside a strand is that of a table, with 64 added for a "not".
+-- The number beside a strand is that of a table, raised for a "not".
 
 abbrev pub waits-on-not-by : (positive : Bool) → (w : ℕ) → Bool
 waits-on-not-by true w = false
-waits-on-not-by false w = ltb w 128
+waits-on-not-by false w = ltb w (2 * waits-not)
 
 abbrev pub waits-on-not : (w : ℕ) → Bool
-waits-on-not w = waits-on-not-by (ltb w 64) w
+waits-on-not w = waits-on-not-by (ltb w waits-not) w
 
 abbrev pub caller-by : (has-strand : Bool) → (w : ℕ) → Bool
 caller-by true w = waits-on-not w
 caller-by false w = false
 
 abbrev pub caller-waits-on-not : (waits active : List ℕ) → (depth : ℕ) → Bool
-caller-waits-on-not waits active depth = caller-by (ltb (caller-place depth active) 256) (getD waits (caller-place depth active) 0)
+caller-waits-on-not waits active depth = caller-by (ltb (caller-place depth active) most-places) (getD waits (caller-place depth active) 0)
 
 -- The queue is empty.
 
@@ -46,7 +48,7 @@ minimum-by false true time = 0
 minimum-by false false time = time
 
 abbrev pub minimum-at : List ℕ → (depth : ℕ) → TimeStamp
-minimum-at minimum depth = minimum-by (eqb depth 0) (ltb 64 depth) (getD minimum (depth - 1) 0)
+minimum-at minimum depth = minimum-by (eqb depth 0) (ltb most-entries depth) (getD minimum (depth - 1) 0)
 
 abbrev pub part-by : (root : Bool) → Idle
 part-by true = Finishes

@@ -11,6 +11,7 @@ use crate::on_subgoal_selected::on_subgoal_selected;
 use crate::select_subgoal::Made;
 use crate::select_subgoal::Selection;
 use crate::select_subgoal::select_subgoal;
+use rings::PLACES;
 use rings::ring_at;
 use stores::numbers::first_of;
 use stores::numbers::upto;
@@ -76,7 +77,7 @@ fn look_at(
         (now («answer_tail» .entry)) (now («answer_len» .entry)) t index ⌝ }
 {
     let p = ring_at(answer_next, answer_tail, answer_len, t, index);
-    if p < 256 {
+    if p < PLACES {
         return Look::Answer(p as u8);
     }
     on_stack(t, entry_table, coinductive, depth)
@@ -138,7 +139,7 @@ fn answer_sight(
         answer_key,
         x,
     );
-    if p < 256 {
+    if p < PLACES {
         return Sight::Same(p as u8);
     }
     Sight::Fresh

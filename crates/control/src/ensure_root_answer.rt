@@ -2,6 +2,10 @@
 // strand by value.
 use book::Literal;
 use book::access::literal_at;
+use stores::numbers::MOST_CLAUSES;
+use stores::numbers::MOST_ENTRIES;
+use stores::numbers::NO_PLACE;
+use stores::numbers::WAITS_FRESH;
 use stores::numbers::flag_at;
 use stores::queue::find_strand;
 use strands::Strand;
@@ -10,7 +14,7 @@ use strands::making::initial_strand;
 ghost use mathlib.Core.Path.{_≡_};
 ghost use Rattle.control.specs.EnsureRootAnswer.{no-top, top-of, next-strand, clause-literals, first-strand, strand-in-hand};
 
-// The topmost entry, with the answer mode of its table. `active` is a place, and 256 where the entry has no active strand.
+// The topmost entry, with the answer mode of its table. `active` is a place, or none where the entry has no active strand.
 pub struct Top {
     pub depth: usize,
     pub table: u8,
@@ -35,7 +39,7 @@ fn no_top() -> Top
         table: 0,
         clock: 0,
         complete: false,
-        active: 256,
+        active: NO_PLACE,
     }
 }
 
@@ -53,7 +57,7 @@ pub fn top_of(
     if depth == 0 {
         return no_top();
     }
-    if depth > 64 {
+    if depth > MOST_ENTRIES {
         return no_top();
     }
     let table = entry_table[depth - 1];
@@ -79,7 +83,7 @@ pub fn next_strand(
     ensures { λ r. ⌜ r ≡ next-strand (now (next .entry)) (now (tail .entry)) (now (len .entry)) (now (time .entry))
         (now (ambiguous .entry)) top ⌝ }
 {
-    if top.active < 256 {
+    if top.active < NO_PLACE {
         return Next {
             found: true,
             queued: false,
@@ -141,14 +145,14 @@ fn first_strand(
         (now («literal_kind» .entry)) (now («literal_goal» .entry)) (now («literal_want» .entry)) c ⌝ }
 {
     let k = c as usize;
-    if k >= 256 {
+    if k >= MOST_CLAUSES {
         return blank();
     }
     let literals = clause_literals(literal_kind, literal_goal, literal_want, k);
     initial_strand(clause_variant[k], clause_flags[k], literals, clause_len[k])
 }
 
-// s is what stands at the place. Where the number w beside it says that the place is fresh (254), the strand is the first one of clause c.
+// s is what stands at the place. Where the number w beside it says that the place is fresh, the strand is the first one of clause c.
 pub fn strand_in_hand(
     s: Strand,
     w: u8,
@@ -163,7 +167,7 @@ pub fn strand_in_hand(
     ensures { λ r. ⌜ r ≡ strand-in-hand (now («clause_variant» .entry)) (now («clause_flags» .entry)) (now («clause_len» .entry))
         (now («literal_kind» .entry)) (now («literal_goal» .entry)) (now («literal_want» .entry)) s w c ⌝ }
 {
-    if w == 254 {
+    if w == WAITS_FRESH {
         return first_strand(
             c,
             clause_variant,

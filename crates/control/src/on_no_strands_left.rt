@@ -2,7 +2,11 @@
 // read: the number beside it tells the sign of the literal that it waits on.
 use crate::ensure_root_answer::Next;
 use crate::ensure_root_answer::Top;
+use stores::numbers::MOST_ENTRIES;
+use stores::numbers::NO_PLACE;
+use stores::numbers::WAITS_NOT;
 use stores::stack::caller_place;
+use strands::times::TimeStamp;
 ghost use mathlib.Core.Path.{_≡_};
 ghost use Rattle.control.specs.OnNoStrandsLeft.{waits-on-not, caller-waits-on-not, no-strands, minimum-at};
 ghost use Rattle.control.specs.OnNoStrandsLeft.{part-of-cycle, head-of-cycle, cycle, no-strands-left, without-strand};
@@ -23,10 +27,10 @@ pub enum Idle {
 fn waits_on_not(w: u8) -> bool
     ensures { λ r. ⌜ r ≡ waits-on-not w ⌝ }
 {
-    if w < 64 {
+    if w < WAITS_NOT {
         return false;
     }
-    w < 128
+    w < 2 * WAITS_NOT
 }
 
 // Whether the literal that the caller's strand waits on is a "not".
@@ -34,7 +38,7 @@ fn caller_waits_on_not(waits: &[u8; 256], active: &[u16; 64], depth: usize) -> b
     ensures { λ r. ⌜ r ≡ caller-waits-on-not (now (waits .entry)) (now (active .entry)) depth ⌝ }
 {
     let p = caller_place(active, depth);
-    if p >= 256 {
+    if p >= NO_PLACE {
         return false;
     }
     waits_on_not(waits[p as usize])
@@ -60,7 +64,7 @@ fn minimum_at(minimum: &[u64; 64], depth: usize) -> u64
     if depth == 0 {
         return 0;
     }
-    if depth > 64 {
+    if depth > MOST_ENTRIES {
         return 0;
     }
     minimum[depth - 1]
@@ -80,7 +84,7 @@ fn part_of_cycle(depth: usize) -> Idle
 fn head_of_cycle(negative: u64) -> Idle
     ensures { λ r. ⌜ r ≡ head-of-cycle negative ⌝ }
 {
-    if negative < 18446744073709551615 {
+    if negative < TimeStamp::MAX.clock {
         return Idle::NegativeCycle;
     }
     Idle::Clears

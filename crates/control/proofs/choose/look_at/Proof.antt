@@ -15,8 +15,8 @@ returns : tie.Need-returns
 returns c =
     let p = c .before in
     let a = p .before .args in
-    says-stored (a .entry-table .now) (a .coinductive .now) (a .depth) (a .answer-next .now) (a .answer-tail .now) (a .answer-len .now)
-    (a .t) (a .index) _ (p .ring-at .ensures) (c .if1 .taken)
+    says-stored (a .entry-table .now) (a .coinductive .now) (a .depth) (a .answer-next .now) (a .answer-tail .now)
+    (a .answer-len .now) (a .t) (a .index) _ (p .ring-at .ensures) (c .if1 .taken)
 
 on-stack-requires : tie.Need-on-stack-requires
 on-stack-requires c κs = search needs
@@ -26,8 +26,8 @@ returns-2 c =
     let p = c .before .before in
     let a = p .before .args in
     c .on-stack .ensures
-    ∙ says-not-stored (a .entry-table .now) (a .coinductive .now) (a .depth) (a .answer-next .now) (a .answer-tail .now) (a .answer-len .now)
-    (a .t) (a .index) _ (p .ring-at .ensures) (c .before .if1 .left)
+    ∙ says-not-stored (a .entry-table .now) (a .coinductive .now) (a .depth) (a .answer-next .now) (a .answer-tail .now)
+    (a .answer-len .now) (a .t) (a .index) _ (p .ring-at .ensures) (c .before .if1 .left)
 
 pub look-at-spec : {M : Type 1} → statement M
 look-at-spec = tie.close (tie.spec ring-at-requires cast-t11 returns on-stack-requires returns-2)

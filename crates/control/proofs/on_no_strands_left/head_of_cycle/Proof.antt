@@ -7,10 +7,10 @@ use Rattle.control.proofs.on_no_strands_left.head_of_cycle.Statement.{s
 use Rattle.control.proofs.on_no_strands_left.head_of_cycle.Tie as tie
 
 returns : tie.Need-returns
-returns c = sym (ap head-by (lt-ltb (c .before .args .negative) MAX (c .if1 .taken)))
+returns c = sym (ap head-by (lt-ltb (c .before .before .args .negative) MAX (c .if1 .taken)))
 
 returns-2 : tie.Need-returns-2
-returns-2 c = sym (ap head-by (le-ltb (c .before .args .negative) MAX (c .if1 .left)))
+returns-2 c = sym (ap head-by (le-ltb (c .before .before .args .negative) MAX (c .if1 .left)))
 
 pub head-of-cycle-spec : {M : Type 1} → statement M
 head-of-cycle-spec = tie.close (tie.spec returns returns-2)
