@@ -137,7 +137,7 @@ module _ (root index first : ℕ) (z : Stores) (o : SoundStores root index first
             (omega (arith, leb-false (within (z .stack .depth)) height e, few-entries))
 
       -- THE ANSWERS of a table, made or to be made
-      abbrev place : ℕ
+      abbrev pub place : ℕ
       place = answer-place (z .answers .places .next) (z .answers .places .tail) (z .answers .places .len) t i
 
       -- a table that is to be made has no answer
@@ -190,7 +190,7 @@ module _ (root index first : ℕ) (z : Stores) (o : SoundStores root index first
           look-at (z .stack .table) (z .tables .coinductive) (z .stack .depth) (z .answers .places .next) (z .answers .places .tail)
           (z .answers .places .len) t i
 
-      look-by-means : t < 64 → (literal : ℕ) (a : Answer) (b : Bool) → ltb place 256 ≡ b
+      pub look-by-means : t < 64 → (literal : ℕ) (a : Answer) (b : Bool) → ltb place 256 ≡ b
           → (b ≡ true → a ≡ getD (z .answers .answers) place unread-answer)
           → LookMeans (clock-at z) g (entries-of z) (k literal) a
           (look-by b place (on-stack (z .stack .table) (z .tables .coinductive) (z .stack .depth) t))

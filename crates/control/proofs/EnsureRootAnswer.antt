@@ -33,7 +33,7 @@ use Rattle.stores.proofs.StackCallers.{active-held}
 use Rattle.stores.proofs.TablesViews.{flag-at-is}
 use Rattle.control.specs.declared.ensure_root_answer.Next.{Next}
 use Rattle.control.specs.declared.ensure_root_answer.Top.{Top}
-use Rattle.control.specs.EnsureRootAnswer.{topmost, next-by, next-strand}
+use Rattle.control.specs.EnsureRootAnswer.{next-by, next-strand}
 use Rattle.control.specs.Stores.{Stores, first-strands, forest, held-places, SoundStores}
 use Rattle.control.specs.Turn.{top, next, hand-at, origin-by, taken-by, taken}
 use Rattle.control.proofs.EnsureRootAnswerCases.{says-topmost}
@@ -55,11 +55,17 @@ module _ (root index first : ℕ) (z : Stores) (o : SoundStores root index first
 
   -- THE TOP
   abbrev pub top-read : Top
-  top-read = record { depth = suc n; table = t; clock = top-entry z n .clock; complete = complete; active = getD (z .stack .active) n 0 }
+  top-read = record {
+    depth = z .stack .depth;
+    table = t;
+    clock = top-entry z n .clock;
+    complete = complete;
+    active = getD (z .stack .active) n 0;
+  }
 
   abbrev top-at : (i : ℕ) → Top
   top-at i = record {
-    depth = suc n;
+    depth = z .stack .depth;
     table = getD (z .stack .table) i 0;
     clock = getD (z .stack .clock) i 0;
     complete = flag-at (getD (z .stack .table) i 0) (z .tables .complete);
@@ -69,13 +75,12 @@ module _ (root index first : ℕ) (z : Stores) (o : SoundStores root index first
   pub top-is : top z ≡ top-read
   top-is =
       let few = o .stack .few in
-      let last : suc n - 1 ≡ n = omega arith in
+      let last : z .stack .depth - 1 ≡ n = omega arith in
       sym (says-topmost (z .stack .table) (z .stack .clock) (z .stack .active) (z .tables .complete) (z .stack .depth) (λ e. omega arith)
       (omega arith))
-      ∙ ap (topmost (z .stack .table) (z .stack .clock) (z .stack .active) (z .tables .complete)) d
       ∙ ap top-at last
       ∙ ap (λ (b : Bool). record {
-        depth = suc n;
+        depth = z .stack .depth;
         table = t;
         clock = top-entry z n .clock;
         complete = b;
@@ -121,7 +126,8 @@ module _ (root index first : ℕ) (z : Stores) (o : SoundStores root index first
   abbrev taken-at : Next → Option (held.Strand × Origin)
   taken-at p = taken-by (p .found) (shown (p .place)) (origin-by (p .queued) first-one)
 
-  from-queue-is : (b : Bool) → any ≡ b → from-queue (first-if b first-one) ≡ taken-by b (shown (getD queue first-one 0)) (was-queued first-one)
+  from-queue-is : (b : Bool) → any ≡ b
+      → from-queue (first-if b first-one) ≡ taken-by b (shown (getD queue first-one 0)) (was-queued first-one)
   from-queue-is true e =
       ap (λ (x : Option held.Strand). some (or no-strand x, was-queued first-one))
       (map-elem shown queue first-one 0 (ltb-true first-one (length queue) e))
@@ -130,7 +136,8 @@ module _ (root index first : ℕ) (z : Stores) (o : SoundStores root index first
   abbrev active-by : (none-active : Bool) → Option held.Strand
   active-by none-active = elim none-active [ true ↦ none | false ↦ some (shown place) ]
 
-  from-active-is : (b : Bool) → ltb place 256 ≡ b → from-active (active-strand-at fresh (z .strands) place) ≡ taken-at (next-by b place spot)
+  from-active-is : (b : Bool) → ltb place 256 ≡ b
+      → from-active (active-strand-at fresh (z .strands) place) ≡ taken-at (next-by b place spot)
   from-active-is true e =
       ap (λ (b : Bool). from-active (active-by b)) (ne-eqb place 256 (λ q. omega (arith, ltb-true place 256 e)))
   from-active-is false e =

@@ -21,6 +21,7 @@ pub mod OnNoRemainingSubgoalsCases
 pub mod OnNoRemainingSubgoals
 pub mod ChooseCases
 pub mod ChooseLook
+pub mod ChooseDecides
 pub mod OnNoStrandsLeftCases
 pub mod ClearStrandsAfterCycleCases
 pub mod ClearStrandsAfterCycleSound

@@ -1,5 +1,5 @@
--- What sound stores say, with n entries below the top: the top's table is made, the numbers that are lent are the tables' and the book's, and
--- how many strands are live and answers held is what the definitions count.
+-- What sound stores say, with n entries below the top: the top's table is made, the numbers that are lent are the tables' and the book's,
+-- and how many strands are live and answers held is what the definitions count.
 use Prim.Native.Nat.{ℕ, zero, suc, _+_, _-_, _≤_, _<_}
 use native.Mathlib.Omega.{arith}
 use mathlib.Core.Bool.{Bool, true, false}
