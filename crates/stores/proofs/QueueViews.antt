@@ -206,8 +206,8 @@ module _ (fresh : FirstStrands) (ts : Tables) (a : Answers) (s : Strands) (held 
       (all-times (λ q. test-at clock complete s q ≡ test (strand-at fresh s q)) places
       (λ q k. test-is fresh s clock (getD (ts .complete) t 0) q (sound .queued t q h k))))
 
-  found : (b : Bool) → any-strand clock complete t s ≡ b → position test (strands-of fresh s t) ≡ first-if b j
-  found b e = position-is test (strands-of fresh s t) ∙ ap₂ (λ (i m : ℕ). first-if (ltb i m) i) first-is
+  pub first-eligible : (b : Bool) → any-strand clock complete t s ≡ b → position test (strands-of fresh s t) ≡ first-if b j
+  first-eligible b e = position-is test (strands-of fresh s t) ∙ ap₂ (λ (i m : ℕ). first-if (ltb i m) i) first-is
       (length-map places (strand-at fresh s)) ∙ ap (λ (c : Bool). first-if c j) e
 
   -- none where none is found
@@ -217,7 +217,7 @@ module _ (fresh : FirstStrands) (ts : Tables) (a : Answers) (s : Strands) (held 
         | none ↦ none
         | some first ↦ pop-front
             (with-strands (held-table fresh ts s a t) (rotate-left (strands-of fresh s t) first))
-      ]) (found false e)
+      ]) (first-eligible false e)
 
   module _ (e : any-strand clock complete t s ≡ true) where
     there : j < length places
@@ -252,7 +252,7 @@ module _ (fresh : FirstStrands) (ts : Tables) (a : Answers) (s : Strands) (held 
           | none ↦ none
           | some first ↦ pop-front
               (with-strands (held-table fresh ts s a t) (rotate-left l first))
-        ]) (found true e)
+        ]) (first-eligible true e)
         ∙ ap (λ (m : List said-strand.Strand). pop-front (with-strands (held-table fresh ts s a t) m)) f
         ∙ ap₂ (λ (x : said-strand.Strand) (m : List said-strand.Strand). some (x, with-strands (held-table fresh ts s a t) m))
         (ap (strand-at fresh s) (sym place-is))

@@ -165,7 +165,7 @@ held-more : (l : List ℕ) (n q : ℕ) (b : Bool) → 1 ≤ times q (active-plac
 held-more l n q true h = h
 held-more l n q false h = omega arith
 
-active-held : (l : List ℕ) (n i : ℕ) → i < n → (getD l i 0 ≡ most-places → ⊥) → 1 ≤ times (getD l i 0) (active-places l n)
+pub active-held : (l : List ℕ) (n i : ℕ) → i < n → (getD l i 0 ≡ most-places → ⊥) → 1 ≤ times (getD l i 0) (active-places l n)
 active-held l zero i h d = absurd (omega arith)
 active-held l (suc n) i h d = at (eqb i n) refl (λ k. active-held l n i k d)
   where
