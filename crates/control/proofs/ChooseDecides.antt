@@ -47,7 +47,7 @@ use Rattle.stores.specs.Tables.{table-goal-at}
 use Rattle.stores.specs.View.{FirstStrands, answer-at, unread-answer}
 use Rattle.stores.proofs.ListsSpans.{all-times}
 use Rattle.stores.proofs.TablePushViews.{found-if, equal-is}
-use Rattle.stores.proofs.TablesViews.{flag-at-is, goal-view}
+use Rattle.stores.proofs.TablesViews.{goal-view}
 use Rattle.control.specs.declared.choose.Chosen.{Chosen}
 use Rattle.control.specs.declared.choose.Sight.{Sight}
 use Rattle.control.specs.declared.choose.Sight.the-variants as sights
@@ -71,7 +71,7 @@ use Rattle.control.proofs.OnNoRemainingSubgoals.{no-remaining-means}
 use Rattle.control.proofs.OnSubgoalSelected.{selected-means}
 use Rattle.control.proofs.SelectRoom.{room-for-noted}
 use Rattle.control.proofs.SelectSubgoal.{select-subgoal-means, select-subgoal-ends}
-use Rattle.control.proofs.Stores.{top-entry, entries-below, table-held, table-still, mode-is, numbers-mean, book-goals, answers-held, table-made, searching, stack-is, strands-live}
+use Rattle.control.proofs.Stores.{top-entry, entries-below, table-held, table-still, mode-flag, numbers-mean, book-goals, answers-held, table-made, searching, stack-is, strands-live}
 
 -- A look that names no answer is decided without one.
 module _ (time : TimeStamp) (clocks : ℕ → TimeStamp) (s : Strand) (a b : Answer) where
@@ -128,9 +128,7 @@ module _ (root index first : ℕ) (z : Stores) (o : SoundStores root index first
   made = table-made root index first z o n d
 
   complete-is : is-complete (table-held z t .answer-mode) ≡ complete
-  complete-is =
-      sym (mode-is root index first z o t made)
-      ∙ flag-at-is fresh (z .tables) (z .strands) (z .answers) (o .tables) t made (z .tables .complete)
+  complete-is = mode-flag root index first z o t made
 
   sound-forest : SoundForest (length (f .book)) f
   sound-forest =

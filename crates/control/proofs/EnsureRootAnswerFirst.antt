@@ -29,6 +29,7 @@ use Rattle.strands.proofs.MakeViews.{blank-sound, initial-view, initial-sound}
 use Rattle.stores.specs.View.{strand-by}
 use Rattle.control.specs.EnsureRootAnswer.{clause-literals, first-by, in-hand-by}
 use Rattle.control.specs.Stores.{first-strands}
+use Rattle.control.proofs.SelectTables.{map-span}
 
 -- Laws of spans.
 
@@ -58,10 +59,6 @@ module _ {A : Type 0} where
   all-span {P} f s (suc n) (suc j) a h =
       let p : suc s + j ≡ s + suc j = omega arith in
       subst (λ (i : ℕ). P (f i)) p (all-span f (suc s) n j (all-rest a) (omega arith))
-
-map-span : {A B : Type 0} (h : A → B) (f : ℕ → A) (s n : ℕ) → map h (span f s n) ≡ span (λ i. h (f i)) s n
-map-span h f s zero = refl
-map-span {B = B} h f s (suc n) = ap (λ (l : List B). h (f s) ∷ l) (map-span h f (suc s) n)
 
 module _ (b : Book) (sound : books.Sound b) (goals : ℕ) (few : goals ≤ 64) where
   abbrev read : (c j : ℕ) → Literal

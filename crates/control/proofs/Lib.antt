@@ -2,10 +2,7 @@
 -- models mean, and what they keep and leave (Leaves).
 pub mod Decisions
 pub mod Seen
-pub mod Stores
 pub mod EnsureRootAnswerCases
-pub mod EnsureRootAnswerFirst
-pub mod EnsureRootAnswer
 pub mod SelectCases
 pub mod SelectTables
 pub mod SelectRoom
@@ -14,6 +11,9 @@ pub mod SelectKnown
 pub mod SelectPasses
 pub mod SelectLiteral
 pub mod SelectSubgoal
+pub mod Stores
+pub mod EnsureRootAnswerFirst
+pub mod EnsureRootAnswer
 pub mod OnSubgoalSelectedCases
 pub mod OnSubgoalSelected
 pub mod OnSubgoalSelectedLeaves
@@ -23,6 +23,8 @@ pub mod ChooseCases
 pub mod ChooseLook
 pub mod ChooseDecides
 pub mod OnNoStrandsLeftCases
+pub mod OnNoStrandsLeft
+pub mod Turn
 pub mod ClearStrandsAfterCycleCases
 pub mod ClearStrandsAfterCycleSound
 pub mod ClearStrandsAfterCycleDecides

@@ -62,7 +62,7 @@ module _ {A : Type 0} (test : A → Bool) where
       ap (λ (o : Option ℕ). elim (test (h x)) [ true ↦ some 0 | false ↦ elim o [ none ↦ none | some i ↦ some (suc i) ] ]) (position-map h l)
 
 module _ {A B : Type 0} (h : A → B) where
-  map-span : (g : ℕ → A) (s n : ℕ) → map h (span g s n) ≡ span (λ i. h (g i)) s n
+  pub map-span : (g : ℕ → A) (s n : ℕ) → map h (span g s n) ≡ span (λ i. h (g i)) s n
   map-span g s zero = refl
   map-span g s (suc n) = ap (λ (l : List B). h (g s) ∷ l) (map-span g (suc s) n)
 

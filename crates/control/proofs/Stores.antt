@@ -23,14 +23,14 @@ use Rattle.split.specs.Acts.{with-made}
 use Rattle.split.specs.Decide.{or, no-table, table-of}
 use Rattle.split.proofs.Reading.{there-still}
 use Rattle.book.specs.View.{clause-viewed, goal-viewed}
-use Rattle.stores.specs.Numbers.{flag-at}
+use Rattle.stores.specs.Numbers.{flag}
 use Rattle.stores.specs.View.{FirstStrands, held-table, tables, entry-at, entries}
 use Rattle.stores.proofs.ListsSpans.{span-at}
 use Rattle.stores.proofs.PlacesViews.{in-use-is}
 use Rattle.stores.proofs.QueueStores.{queued-is}
 use Rattle.stores.proofs.StackCallers.{active-is}
 use Rattle.stores.proofs.TableViews.{held-is}
-use Rattle.stores.proofs.TablesViews.{table-there, mode-view}
+use Rattle.stores.proofs.TablesViews.{table-there, flag-at-is, mode-view}
 use Rattle.control.specs.SelectSubgoal.{TablesMean}
 use Rattle.control.specs.Stores.{Stores, first-strands, in-use, forest, entries-of, held-places, SoundStores}
 
@@ -71,8 +71,10 @@ module _ (root index first : ℕ) (z : Stores) (o : SoundStores root index first
     pub table-still : (made : List ℕ) → table-of (with-made (forest z) made) t ≡ table-held z t
     table-still made = ap (or no-table) (there-still (forest z) made t (table-held z t) table-found)
 
-    pub mode-is : flag-at t (z .tables .complete) ≡ is-complete (table-held z t .answer-mode)
-    mode-is = mode-view fresh (z .tables) (z .strands) (z .answers) (o .tables) t h
+    pub mode-flag : is-complete (table-held z t .answer-mode) ≡ flag (getD (z .tables .complete) t 0)
+    mode-flag =
+        sym (mode-view fresh (z .tables) (z .strands) (z .answers) (o .tables) t h)
+        ∙ flag-at-is fresh (z .tables) (z .strands) (z .answers) (o .tables) t h (z .tables .complete)
 
   there-is : (t : ℕ) (x : Table) → getElem? (forest z .tables) t ≡ some x → (t < z .tables .count) × (table-held z t ≡ x)
   there-is t x e =

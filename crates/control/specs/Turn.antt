@@ -27,7 +27,7 @@ use Rattle.control.specs.declared.on_no_strands_left.Idle.the-variants a
 use Rattle.control.specs.Choose.{choose, decide}
 use Rattle.control.specs.Decision.{meaning}
 use Rattle.control.specs.EnsureRootAnswer.{top-of, next-strand, strand-in-hand}
-use Rattle.control.specs.OnNoStrandsLeft.{no-strands-left}
+use Rattle.control.specs.OnNoStrandsLeft.{without-strand}
 use Rattle.control.specs.SelectSubgoal.{noted-goals}
 use Rattle.control.specs.Stores.{Stores, first-strands, in-use, forest, entries-of}
 
@@ -61,10 +61,10 @@ module _ (z : Stores) where
       decide c (getD (z .answers .answers) (c .place) unread-answer) (top .complete) (leb (z .clock-limit) (z .clock))
       (in-use (z .answers .places))
 
-  -- or what is done with no strand
+  -- or what is done with no strand; nothing where there is one
   abbrev pub idle : Idle
   idle =
-      no-strands-left (z .strands .places .len) (z .strands .waits) (z .stack .positive) (z .stack .negative) (z .stack .active) top
+      without-strand (z .strands .places .len) (z .strands .waits) (z .stack .positive) (z .stack .negative) (z .stack .active) next top
 
 -- WHAT IT MEANS
 
@@ -99,23 +99,6 @@ module _ (z : Stores) where
   abbrev pub taken : Next → Option (held.Strand × Origin)
   taken p = taken-by (p .found) (strand-at (first-strands (z .book)) (z .strands) (p .place)) (origin p)
 
-  -- clearing stops with 29 where the split does
-  abbrev pub clearing : (table : ℕ) → Stops Act
-  clearing t =
-      decide-clear (forest z) (suc (queued (forest z) - length (table-of (forest z) t .strands))) (table-of (forest z) t .strands) (t ∷ [])
-      >>= λ gone. go (clears gone)
-
-  -- Nothing is what there is to do with a strand
-  abbrev pub idle-means : Idle → Stops Act
-  idle-means idles.Nothing = go finishes
-  idle-means idles.Finishes = go finishes
-  idle-means idles.CallerFailed = go caller-failed
-  idle-means idles.CallerProved = go (with-caller (λ s. caller-proved (not-proved s)) (entries-of z))
-  idle-means idles.ChangesMode = go changes-mode
-  idle-means idles.NegativeCycle = go negative-cycle
-  idle-means idles.Clears = clearing (top z .table)
-  idle-means idles.PartOfCycle = go (with-caller (λ s. part-of-cycle s (selected-literal s)) (entries-of z))
-
   abbrev pub clock-at : (height : ℕ) → TimeStamp
   clock-at height = getD (z .stack .clock) height 0
 
@@ -123,10 +106,23 @@ module _ (z : Stores) where
   strand-means p c =
       meaning (top z .clock) clock-at (decided-for z c) >>= λ deed. go (takes (origin p) (noted-goals (c .made)) deed)
 
-  abbrev pub turn-by : (found : Bool) → Next → Stops Act
-  turn-by true p = strand-means p (chosen-for z (hand-at z (p .place)))
-  turn-by false p = idle-means (idle z)
+  -- clearing stops with 29 where the split does
+  abbrev pub clearing : (table : ℕ) → Stops Act
+  clearing t =
+      decide-clear (forest z) (suc (queued (forest z) - length (table-of (forest z) t .strands))) (table-of (forest z) t .strands) (t ∷ [])
+      >>= λ gone. go (clears gone)
+
+  -- with a strand there is no idle act, and what is decided for it counts
+  abbrev pub act-means : Idle → Stops Act
+  act-means idles.Nothing = strand-means (next z) (chosen-for z (hand-at z (next z .place)))
+  act-means idles.Finishes = go finishes
+  act-means idles.CallerFailed = go caller-failed
+  act-means idles.CallerProved = go (with-caller (λ s. caller-proved (not-proved s)) (entries-of z))
+  act-means idles.ChangesMode = go changes-mode
+  act-means idles.NegativeCycle = go negative-cycle
+  act-means idles.Clears = clearing (top z .table)
+  act-means idles.PartOfCycle = go (with-caller (λ s. part-of-cycle s (selected-literal s)) (entries-of z))
 
   -- what the turn is decided to do
   abbrev pub turn-means : Stops Act
-  turn-means = turn-by (next z .found) (next z)
+  turn-means = act-means (idle z)
