@@ -13,15 +13,16 @@ use Rattle.strands.specs.Times.{incremented}
 use Rattle.strands.specs.View.{answer}
 use Rattle.stores.specs.declared.places.Places.{Places}
 use Rattle.stores.specs.declared.table.Answers.{Answers}
+use Rattle.stores.specs.declared.stack.Stack.{Stack}
 use Rattle.stores.specs.Numbers.{flag-number, count-after, written-at}
-use Rattle.stores.specs.Places.{places, enqueued, free-place, TookPlace}
+use Rattle.stores.specs.Places.{places, enqueued, TookPlace}
 use Rattle.stores.specs.Stack.{top-written, pushed, activated}
 use Rattle.stores.specs.Table.{key-of}
 use Rattle.stores.proofs.PlacesMoves.{places-is, moved-is, enqueued-is}
 use Rattle.control.specs.declared.perform.Flow.{Flow}
 use Rattle.control.specs.UnwindStack.{Rings}
 use Rattle.control.specs.PerformDeed.{stack-of, answers-of, left-rings, left-active, emptied-unless, emptied, emptied-if}
-use Rattle.control.specs.PerformDeed.{answer-place, answer-kept, answer-flow}
+use Rattle.control.specs.PerformDeed.{new-place, answer-kept, answer-flow, Moving, moving, did}
 
 -- one change of the rings after another
 pub rings-then : (f g : Places → Places) (n t l n′ t′ l′ n″ t″ l″ : List ℕ) → Rings f n t l n′ t′ l′ → Rings g n′ t′ l′ n″ t″ l″
@@ -92,29 +93,39 @@ pushed-is d tb ck p n a tb′ ck′ p′ n′ a′ a″ t q clock time d′ et e
 
 -- `keep_answer`
 module _ (n tl l : List ℕ) (u : ℕ) (v k am : List ℕ) (t : ℕ) (x : Answer) where
-  abbrev was : Answers
-  was = answers-of n tl l u v k am
+  abbrev was : List Answer → Answers
+  was answers = answers-of answers v k am (places n tl l u)
 
-  -- the answer's place
-  kept-at : (q : ℕ) → q ≡ free-place (was .places) → q % 256 ≡ answer-place was
-  kept-at q e = ap (λ (i : ℕ). i % 256) e
+  answers-is : (answers : List Answer) (p p′ : Places) (v′ k′ am′ v″ k″ am″ : List ℕ) → p ≡ p′ → v′ ≡ v″ → k′ ≡ k″ → am′ ≡ am″
+      → answers-of answers v′ k′ am′ p ≡ answers-of answers v″ k″ am″ p′
+  answers-is answers p p′ v′ k′ am′ v″ k″ am″ ep ev ek ea = cc
 
-  answers-is : (p p′ : Places) (v′ k′ am′ v″ k″ am″ : List ℕ) → p ≡ p′ → v′ ≡ v″ → k′ ≡ k″ → am′ ≡ am″
-      → answers-of (p .next) (p .tail) (p .len) (p .top) v′ k′ am′ ≡ answers-of (p′ .next) (p′ .tail) (p′ .len) (p′ .top) v″ k″ am″
-  answers-is p p′ v′ k′ am′ v″ k″ am″ ep ev ek ea = cc
-
-  pub kept-is : (n′ l′ : List ℕ) (u′ q : ℕ) → TookPlace n tl l u n′ l′ u′ q → (place : ℕ) → place ≡ q % 256
-      → (v′ k′ am′ : List ℕ) → v′ ≡ set v place (answer x .variant) → k′ ≡ set k place (key-of (answer x .delayed-subgoals))
-      → am′ ≡ set am place (flag-number (answer x .ambiguous))
-      → (n″ tl″ l″ : List ℕ) → n″ ≡ linked n′ tl l′ t place → tl″ ≡ set tl t place → l″ ≡ lengthened l′ t
-      → (answers-of n″ tl″ l″ u′ v′ k′ am′ ≡ answer-kept t x was) × (place ≡ answer-place was)
-  kept-is n′ l′ u′ q took place e v′ k′ am′ ev ek ea n″ tl″ l″ en et el =
-      let at : place ≡ answer-place was = e ∙ kept-at q (took .is) in (
-        answers-is (places n″ tl″ l″ u′) (answer-kept t x was .places) v′ k′ am′ (answer-kept t x was .variant) (answer-kept t x was .key)
-            (answer-kept t x was .ambiguous)
-            (enqueued-is (places n′ tl l′ u′) t place n″ tl″ l″ en et el ∙ ap₂ (λ (i : ℕ) (r : Places). enqueued t i r) at (took .left))
+  pub kept-is : (n′ l′ : List ℕ) (u′ q : ℕ) → TookPlace n tl l u n′ l′ u′ q
+      → (v′ k′ am′ : List ℕ) → v′ ≡ set v (q % 256) (answer x .variant) → k′ ≡ set k (q % 256) (key-of (answer x .delayed-subgoals))
+      → am′ ≡ set am (q % 256) (flag-number (answer x .ambiguous))
+      → (n″ tl″ l″ : List ℕ) → n″ ≡ linked n′ tl l′ t (q % 256) → tl″ ≡ set tl t (q % 256) → l″ ≡ lengthened l′ t
+      → (q % 256 ≡ new-place (places n tl l u))
+      × ((answers : List Answer) → answers-of answers v′ k′ am′ (places n″ tl″ l″ u′) ≡ answer-kept t x (was answers))
+  kept-is n′ l′ u′ q took v′ k′ am′ ev ek ea n″ tl″ l″ en et el =
+      let at : q % 256 ≡ new-place (places n tl l u) = ap (λ (i : ℕ). i % 256) (took .is) in (
+        at,
+        λ answers. answers-is answers (places n″ tl″ l″ u′) (answer-kept t x (was answers) .places) v′ k′ am′
+            (answer-kept t x (was answers) .variant) (answer-kept t x (was answers) .key) (answer-kept t x (was answers) .ambiguous)
+            (enqueued-is (places n′ tl l′ u′) t (q % 256) n″ tl″ l″ en et el
+            ∙ ap₂ (λ (i : ℕ) (r : Places). enqueued t i r) at (took .left))
             (ev ∙ ap (λ (i : ℕ). set v i (answer x .variant)) at)
             (ek ∙ ap (λ (i : ℕ). set k i (key-of (answer x .delayed-subgoals))) at)
             (ea ∙ ap (λ (i : ℕ). set am i (flag-number (answer x .ambiguous))) at),
-        at,
       )
+
+-- `perform_deed`: what is moved, by its parts
+pub stack-is : {d d′ : ℕ} {tb tb′ ck ck′ p p′ n n′ a a′ : List ℕ} → d ≡ d′ → tb ≡ tb′ → ck ≡ ck′ → p ≡ p′ → n ≡ n′ → a ≡ a′
+    → stack-of d tb ck p n a ≡ stack-of d′ tb′ ck′ p′ n′ a′
+stack-is ed et ec ep en ea = cc
+
+pub moving-is : {p p′ : Places} {f f′ : List ℕ} {a a′ : Answers} {k k′ : Stack} {c c′ : ℕ} → p ≡ p′ → f ≡ f′ → a ≡ a′ → k ≡ k′ → c ≡ c′
+    → moving p f a k c ≡ moving p′ f′ a′ k′ c′
+moving-is ep ef ea ek ec = cc
+
+pub did-is : {f f′ : Flow} {q q′ : ℕ} {m m′ : Moving} → f ≡ f′ → q ≡ q′ → m ≡ m′ → did f q m ≡ did f′ q′ m′
+did-is ef eq em = cc

@@ -2,34 +2,37 @@
 -- ring. A deed that stops does nothing.
 use Prim.Native.Nat.{ℕ, _-_, _%_}
 use mathlib.Core.Bool.{Bool, true, false}
-use mathlib.Core.List.{List, []}
-use lib.ListN.{getD}
+use mathlib.Core.List.{List}
+use lib.ListN.{set}
 use lib.Dec.{eqb, ltb}
 use Rattle.definitions.specs.{TimeStamp, MAX}
 use Rattle.strands.specs.declared.Answer.{Answer}
 use Rattle.strands.specs.Times.{incremented}
+use Rattle.strands.specs.View.{answer}
 use Rattle.stores.specs.declared.places.Places.{Places}
 use Rattle.stores.specs.declared.table.Answers.{Answers}
 use Rattle.stores.specs.declared.stack.Stack.{Stack}
-use Rattle.stores.specs.Numbers.{free, within, written-at}
-use Rattle.stores.specs.Places.{places, enqueued, unlinked-at, moved-to, freed, free-place}
+use Rattle.stores.specs.Numbers.{free, within, written-at, flag-number}
+use Rattle.stores.specs.Places.{enqueued, unlinked-at, moved-to, freed, free-place}
 use Rattle.stores.specs.Stack.{top-written, pushed, popped, activated}
-use Rattle.stores.specs.Table.{with-answer-places, written-answer}
+use Rattle.stores.specs.Table.{key-of, with-answer-places}
 use Rattle.control.specs.declared.decision.Deed.{Deed}
-use Rattle.control.specs.declared.decision.Deed.the-variants.{Stop, GoesOn, GivesUp, Cycles, Pushes, Requeues, Flounders, Answers as Answering}
+use Rattle.control.specs.declared.decision.Deed.the-variants.{Stop, GoesOn, GivesUp, Cycles, Pushes, Requeues, Flounders}
+use Rattle.control.specs.declared.decision.Deed.the-variants.{Answers as Answering}
 use Rattle.control.specs.declared.perform.Flow.{Flow}
+use Rattle.control.specs.declared.perform_deed.Done.{Done}
 use Rattle.control.specs.declared.perform.Flow.the-variants as flow
 use Rattle.control.specs.UnwindStack.{all-back}
 use Rattle.control.specs.OnPositiveCycle.{met-at, cycled}
 
--- THE RECORDS by their parts. Where the answers are lent, the array of answers is the owner's.
+-- THE RECORDS by their parts
 abbrev pub stack-of : (depth : ℕ) → (table clock positive negative active : List ℕ) → Stack
 stack-of depth table clock positive negative active =
     record { depth = depth; table = table; clock = clock; positive = positive; negative = negative; active = active }
 
-abbrev pub answers-of : (next tail len : List ℕ) → (used : ℕ) → (variant key ambiguous : List ℕ) → Answers
-answers-of next tail len used variant key ambiguous =
-    record { answers = []; variant = variant; key = key; ambiguous = ambiguous; places = places next tail len used }
+abbrev pub answers-of : List Answer → (variant key ambiguous : List ℕ) → Places → Answers
+answers-of answers variant key ambiguous p =
+    record { answers = answers; variant = variant; key = key; ambiguous = ambiguous; places = p }
 
 -- `leave`: by whether the strand was queued
 abbrev pub left-rings : (queued : Bool) → (t before : ℕ) → Places → Places
@@ -56,12 +59,18 @@ abbrev pub emptied-if : (empties : Bool) → (t : ℕ) → Places → Places
 emptied-if true t p = emptied t p
 emptied-if false t p = p
 
--- `keep_answer`: a place is taken, written and enqueued
-abbrev pub answer-place : Answers → ℕ
-answer-place a = free-place (a .places) % 256
+-- `keep_answer`: a place is taken, the numbers of the answer are written there, and it is enqueued. The answer itself is written by its
+-- owner, whatever answers that has.
+abbrev pub new-place : Places → ℕ
+new-place p = free-place p % 256
+
+abbrev pub answer-noted : (q : ℕ) → Answer → Answers → Answers
+answer-noted q x a = answers-of (a .answers) (set (a .variant) q (answer x .variant)) (set (a .key) q (key-of (answer x .delayed-subgoals)))
+    (set (a .ambiguous) q (flag-number (answer x .ambiguous))) (a .places)
 
 abbrev pub answer-kept : (t : ℕ) → Answer → Answers → Answers
-answer-kept t x a = with-answer-places (written-answer (answer-place a) x a) (enqueued t (answer-place a) (freed (a .places)))
+answer-kept t x a =
+    with-answer-places (answer-noted (new-place (a .places)) x a) (enqueued t (new-place (a .places)) (freed (a .places)))
 
 -- the ring for the place of a strand that has given its answer
 abbrev pub seated : (refines : Bool) → (t : ℕ) → ℕ
@@ -141,4 +150,8 @@ module _ (not refines : Bool) (x : Answer) (t place seen : ℕ) where
   deed-done Requeues m = did flow.QuantumExceeded seen (requeued t place m)
   deed-done Flounders m = did flow.QuantumExceeded seen (given-away place (table-floundered t m))
   deed-done (Answering empties) m =
-      did (answer-flow (ltb (m .stack .depth) 2)) (answer-place (m .answers)) (answer-given t place x empties refines m)
+      did (answer-flow (ltb (m .stack .depth) 2)) (new-place (m .answers .places)) (answer-given t place x empties refines m)
+
+-- what the code tells of it
+abbrev pub did-by : Done → Places → (floundered : List ℕ) → Answers → Stack → Did
+did-by r rings floundered answers stack = did (r .flow) (r .«answer_place») (moving rings floundered answers stack (r .clock))

@@ -55,7 +55,8 @@ pub fn take_cycle(
     m: Minimums,
     not: bool,
 )
-    ensures { λ _. ⌜ Minimized (top-cycled not (minimums m) (now («entry_clock» .entry)) (now (positive .entry)) (now (negative .entry)) depth)
+    ensures { λ _. ⌜ Minimized (top-cycled not (minimums m)
+        (now («entry_clock» .entry)) (now (positive .entry)) (now (negative .entry)) depth)
         depth (now (positive .entry)) (now (negative .entry)) (now (positive .exit)) (now (negative .exit)) ⌝ }
 {
     if depth == 0 {

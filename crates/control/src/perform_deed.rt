@@ -16,15 +16,18 @@ use stores::table::number_answer;
 use strands::Answer;
 use strands::times::TimeStamp;
 ghost use mathlib.Core.Path.{_≡_};
+ghost use mathlib.Core.List.{List};
+ghost use Prim.Native.Nat.{ℕ};
 ghost use lib.Dec.{ltb};
 ghost use Rattle.strands.specs.Times.{incremented};
 ghost use Rattle.stores.specs.Numbers.{written-at};
-ghost use Rattle.stores.specs.Places.{enqueued};
+ghost use Rattle.stores.specs.Places.{places, enqueued};
+ghost use Rattle.strands.specs.declared.Answer.{Answer};
 ghost use Rattle.stores.specs.Stack.{pushed, activated};
 ghost use Rattle.definitions.specs.{MAX};
 ghost use Rattle.control.specs.UnwindStack.{Rings};
 ghost use Rattle.control.specs.PerformDeed.{stack-of, answers-of, left-rings, left-active, given-up, emptied, emptied-if, seated};
-ghost use Rattle.control.specs.PerformDeed.{answer-place, answer-kept, answer-flow, moving, did, deed-done};
+ghost use Rattle.control.specs.PerformDeed.{new-place, answer-kept, answer-flow, moving, did-by, deed-done};
 
 // The strand leaves its origin: the queue of the top's table, behind the place `before`, or the top's entry.
 pub fn leave(
@@ -178,12 +181,13 @@ fn keep_answer(
     t: u8,
     x: Answer,
 ) -> Kept
-    ensures { λ r. ⌜ (answers-of (now («answer_next» .exit)) (now («answer_tail» .exit)) (now («answer_len» .exit)) (r .used)
-        (now («answer_variant» .exit)) (now («answer_key» .exit)) (now («answer_ambiguous» .exit))
-        ≡ answer-kept t x (answers-of (now («answer_next» .entry)) (now («answer_tail» .entry)) (now («answer_len» .entry)) «answer_used»
-        (now («answer_variant» .entry)) (now («answer_key» .entry)) (now («answer_ambiguous» .entry))))
-        × (r .place ≡ answer-place (answers-of (now («answer_next» .entry)) (now («answer_tail» .entry)) (now («answer_len» .entry))
-        «answer_used» (now («answer_variant» .entry)) (now («answer_key» .entry)) (now («answer_ambiguous» .entry)))) ⌝ }
+    ensures { λ r. ⌜ (r .place
+        ≡ new-place (places (now («answer_next» .entry)) (now («answer_tail» .entry)) (now («answer_len» .entry)) «answer_used»))
+        × ((answers : List Answer)
+        → answers-of answers (now («answer_variant» .exit)) (now («answer_key» .exit)) (now («answer_ambiguous» .exit))
+        (places (now («answer_next» .exit)) (now («answer_tail» .exit)) (now («answer_len» .exit)) (r .used))
+        ≡ answer-kept t x (answers-of answers (now («answer_variant» .entry)) (now («answer_key» .entry)) (now («answer_ambiguous» .entry))
+        (places (now («answer_next» .entry)) (now («answer_tail» .entry)) (now («answer_len» .entry)) «answer_used»))) ⌝ }
 {
     let mut used = answer_used;
     let q = take_place(answer_next, answer_tail, answer_len, &mut used);
@@ -224,5 +228,161 @@ fn flow_of_answer(depth: usize) -> Flow
         Flow::ReturnOk
     } else {
         Flow::Continue
+    }
+}
+
+// How a deed ends: the flow, the stack's depth and the clock, where the answer that is written stands, and the answers' places in use.
+pub struct Done {
+    pub flow: Flow,
+    pub depth: usize,
+    pub clock: u64,
+    pub answer_place: u8,
+    pub answer_used: u16,
+}
+
+// The deed is done: `not` is the sign of the strand's last literal, x the answer that it gives, `refines` whether its place holds a
+// refinement strand from now on, and `seen` the place of the answer that was read.
+pub fn perform_deed(
+    deed: Deed,
+    not: bool,
+    refines: bool,
+    x: Answer,
+    t: u8,
+    place: u8,
+    was: Done,
+    next: &mut [u8; 256],
+    tail: &mut [u8; 256],
+    len: &mut [u16; 256],
+    floundered: &mut [u8; 64],
+    answer_next: &mut [u8; 256],
+    answer_tail: &mut [u8; 256],
+    answer_len: &mut [u16; 256],
+    answer_variant: &mut [u16; 256],
+    answer_key: &mut [u64; 256],
+    answer_ambiguous: &mut [u8; 256],
+    entry_table: &mut [u8; 64],
+    entry_clock: &mut [u64; 64],
+    positive: &mut [u64; 64],
+    negative: &mut [u64; 64],
+    active: &mut [u16; 64],
+) -> Done
+    ensures { λ r. ⌜ ((used : ℕ) (answers : List Answer)
+        → did-by r (places (now (next .exit)) (now (tail .exit)) (now (len .exit)) used) (now (floundered .exit))
+        (answers-of answers (now («answer_variant» .exit)) (now («answer_key» .exit)) (now («answer_ambiguous» .exit))
+        (places (now («answer_next» .exit)) (now («answer_tail» .exit)) (now («answer_len» .exit)) (r .«answer_used»)))
+        (stack-of (r .depth) (now («entry_table» .exit)) (now («entry_clock» .exit)) (now (positive .exit)) (now (negative .exit))
+        (now (active .exit)))
+        ≡ deed-done not refines x t place (was .«answer_place») deed
+        (moving (places (now (next .entry)) (now (tail .entry)) (now (len .entry)) used) (now (floundered .entry))
+        (answers-of answers (now («answer_variant» .entry)) (now («answer_key» .entry)) (now («answer_ambiguous» .entry))
+        (places (now («answer_next» .entry)) (now («answer_tail» .entry)) (now («answer_len» .entry)) (was .«answer_used»)))
+        (stack-of (was .depth) (now («entry_table» .entry)) (now («entry_clock» .entry)) (now (positive .entry)) (now (negative .entry))
+        (now (active .entry))) (was .clock))) ⌝ }
+{
+    match deed {
+        Deed::Stop(n) => {
+            let flow = Flow::Stop(n);
+            Done { flow, ..was }
+        }
+        Deed::GoesOn => {
+            set_active(active, was.depth, place as u16);
+            let flow = Flow::Continue;
+            Done { flow, ..was }
+        }
+        Deed::GivesUp => {
+            give_up(next, tail, len, entry_table, active, place, was.depth);
+            let flow = Flow::QuantumExceeded;
+            Done {
+                flow,
+                depth: 0,
+                ..was
+            }
+        }
+        Deed::Cycles(height) => {
+            on_positive_cycle(
+                next,
+                tail,
+                len,
+                entry_clock,
+                positive,
+                negative,
+                was.depth,
+                height,
+                not,
+                t,
+                place,
+            );
+            let flow = Flow::Continue;
+            Done { flow, ..was }
+        }
+        Deed::Pushes(table) => {
+            let p = push_table(
+                entry_table,
+                entry_clock,
+                positive,
+                negative,
+                active,
+                was.depth,
+                place,
+                table,
+                was.clock,
+            );
+            let flow = Flow::Continue;
+            Done {
+                flow,
+                depth: p.depth,
+                clock: p.clock,
+                ..was
+            }
+        }
+        Deed::Requeues => {
+            ring_enqueue(next, tail, len, t, place);
+            let flow = Flow::QuantumExceeded;
+            Done { flow, ..was }
+        }
+        Deed::Flounders => {
+            flounder_table(
+                floundered,
+                next,
+                tail,
+                len,
+                answer_next,
+                answer_tail,
+                answer_len,
+                entry_table,
+                active,
+                t,
+                place,
+                was.depth,
+            );
+            let flow = Flow::QuantumExceeded;
+            Done {
+                flow,
+                depth: 0,
+                ..was
+            }
+        }
+        Deed::Answers(empties) => {
+            let k = keep_answer(
+                answer_next,
+                answer_tail,
+                answer_len,
+                was.answer_used,
+                answer_variant,
+                answer_key,
+                answer_ambiguous,
+                t,
+                x,
+            );
+            leave_answer(next, tail, len, t, place, empties, refines);
+            let flow = flow_of_answer(was.depth);
+            Done {
+                flow,
+                depth: pop(was.depth),
+                clock: was.clock,
+                answer_place: k.place,
+                answer_used: k.used,
+            }
+        }
     }
 }

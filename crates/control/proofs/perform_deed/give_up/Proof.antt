@@ -21,7 +21,8 @@ returns c =
     let a = placed .before .before .before .before .args in
     let e = placed .ring-enqueue in
     rings-then (enqueued free (a .place)) (all-back (a .entry-table .now) (a .active .now) (within (a .depth - 1)))
-    (a .next .now) (a .tail .now) (a .len .now) (e .last .0) (e .last .1 .0) (e .last .1 .1 .0) (u .last .0) (u .last .1 .0) (u .last .1 .1 .0)
+    (a .next .now) (a .tail .now) (a .len .now) (e .last .0) (e .last .1 .0) (e .last .1 .1 .0)
+    (u .last .0) (u .last .1 .0) (u .last .1 .1 .0)
     (enqueued-rings free (a .place) (a .next .now) (a .tail .now) (a .len .now)
     (e .last .0) (e .last .1 .0) (e .last .1 .1 .0) (e .ensures .0) (e .ensures .1) (e .ensures .2))
     (u .ensures)

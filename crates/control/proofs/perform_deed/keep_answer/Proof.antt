@@ -1,6 +1,4 @@
 -- `keep_answer` meets its contract: a place is taken, the numbers are written there, and it is enqueued.
-use mathlib.Core.Path.{refl}
-use Prim.Native.Nat.{_%_}
 use Rattle.control.proofs.PerformDeedCases.{kept-is}
 use borrow.Author.Needs.{needs}
 use Rattle.control.proofs.perform_deed.keep_answer.Statement.{statement}
@@ -28,7 +26,7 @@ returns c =
     let a = found .before .before .before .before .before .args in
     kept-is (a .answer-next .now) (a .answer-tail .now) (a .answer-len .now) (a .answer-used) (a .answer-variant .now) (a .answer-key .now)
     (a .answer-ambiguous .now) (a .t) (a .x) (p .last .0) (p .last .1 .1 .0) (p .last .1 .1 .1 .0) (p .result) (p .ensures)
-    (p .result % 256) refl (w .last .0) (w .last .1 .0) (w .last .1 .1 .0) (w .ensures .0) (w .ensures .1) (w .ensures .2)
+    (w .last .0) (w .last .1 .0) (w .last .1 .1 .0) (w .ensures .0) (w .ensures .1) (w .ensures .2)
     (e .last .0) (e .last .1 .0) (e .last .1 .1 .0) (e .ensures .0) (e .ensures .1) (e .ensures .2)
 
 pub keep-answer-spec : {M : Type 1} → statement M

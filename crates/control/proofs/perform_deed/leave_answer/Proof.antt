@@ -25,8 +25,8 @@ returns c =
     let a = cleared .before .before .before .before .args in
     let m = cleared .empty-queue in
     λ top. rings-then (emptied-if (a .empties) (a .t)) (enqueued (chosen .ring-for .result) (a .place))
-    (a .next .now) (a .tail .now) (a .len .now) (m .last .0) (m .last .1 .0) (m .last .1 .1 .0) (e .last .0) (e .last .1 .0) (e .last .1 .1 .0)
-    (m .ensures)
+    (a .next .now) (a .tail .now) (a .len .now) (m .last .0) (m .last .1 .0) (m .last .1 .1 .0)
+    (e .last .0) (e .last .1 .0) (e .last .1 .1 .0) (m .ensures)
     (enqueued-rings (chosen .ring-for .result) (a .place) (m .last .0) (m .last .1 .0) (m .last .1 .1 .0)
     (e .last .0) (e .last .1 .0) (e .last .1 .1 .0) (e .ensures .0) (e .ensures .1) (e .ensures .2)) top
     ∙ ap (λ (r : ℕ). enqueued r (a .place) (emptied-if (a .empties) (a .t) (places (a .next .now) (a .tail .now) (a .len .now) top)))
