@@ -65,7 +65,7 @@ use Rattle.control.specs.SelectSubgoal.{chosen, select-subgoal, noted-go
 use Rattle.control.specs.SelectSubgoal.{Outcome, Ended}
 use Rattle.control.specs.Stores.{Stores, first-strands, in-use, forest, entries-of, SoundStores}
 use Rattle.control.specs.Turn.{clock-at}
-use Rattle.control.proofs.ChooseLook.{place, look-by-means, stored-there}
+use Rattle.control.proofs.ChooseLook.{wanted-place, look-by-means, stored-there}
 use Rattle.control.proofs.EnsureRootAnswer.{top-read}
 use Rattle.control.proofs.OnNoRemainingSubgoals.{no-remaining-means}
 use Rattle.control.proofs.OnSubgoalSelected.{selected-means}
@@ -145,21 +145,21 @@ module _ (root index first : ℕ) (z : Stores) (o : SoundStores root index first
     s = c .strand
 
     -- the answer that the strand gives
-    abbrev x : Answer
-    x = answer-of s (table-goal-at t (z .tables .goal))
+    abbrev pub gives : Answer
+    gives = answer-of s (table-goal-at t (z .tables .goal))
 
-    abbrev sight-by : Selection → Selected → Sight
+    abbrev pub sight-by : Selection → Selected → Sight
     sight-by k selects =
         sight-for (z .stack .table) (z .tables .coinductive) (z .stack .depth) (z .answers .places .next) (z .answers .places .tail)
-        (z .answers .places .len) (z .answers .variant) (z .answers .key) k selects t x
+        (z .answers .places .len) (z .answers .variant) (z .answers .key) k selects t gives
 
-    abbrev seeing : Selection → Sight → Chosen
+    abbrev pub seeing : Selection → Sight → Chosen
     seeing k sight = record {
       selection = k;
       live = c .live;
       made = c .made;
       strand = s;
-      gives = x;
+      gives = gives;
       sight = sight;
       place = sight-place sight;
     }
@@ -174,26 +174,27 @@ module _ (root index first : ℕ) (z : Stores) (o : SoundStores root index first
 
     -- NO LITERAL IS LEFT
 
-    delayed-few : All (λ h. h < 64) (answer x .delayed-subgoals)
+    delayed-few : All (λ h. h < 64) (answer gives .delayed-subgoals)
     delayed-few =
         subst (λ (y : said.Answer). All (λ h. h < 64) (y .delayed-subgoals))
         (sym (answer-of-view s (table-goal-at t (z .tables .goal)) (known .sound .delayed-long)))
         (others-few (length (f .book)) (table-goal-at t (z .tables .goal)) (clause s .delayed-subgoals)
         (sound-forest .few-goals) (known .named .delayed-named))
 
-    good : GoodAnswer x
-    good = record { sound = answer-of-sound s (table-goal-at t (z .tables .goal)) (known .sound .delayed-long); goals = delayed-few }
+    pub gives-good : GoodAnswer gives
+    gives-good = record { sound = answer-of-sound s (table-goal-at t (z .tables .goal)) (known .sound .delayed-long); goals = delayed-few }
 
     abbrev same : ℕ
     same =
-        same-at (z .answers .places .next) (z .answers .places .tail) (z .answers .places .len) (z .answers .variant) (z .answers .key) t x
+        same-at (z .answers .places .next) (z .answers .places .tail) (z .answers .places .len) (z .answers .variant) (z .answers .key) t
+        gives
 
     abbrev answers : List ℕ
     answers = ring (z .answers .places) t
 
-    same-is : equal-answer (answer x) (table-held z t .answers) ≡ found-if (ltb same 256) (answer-at (z .answers) same)
+    same-is : equal-answer (answer gives) (table-held z t .answers) ≡ found-if (ltb same 256) (answer-at (z .answers) same)
     same-is =
-        equal-is x good (z .answers) answers
+        equal-is gives gives-good (z .answers) answers
         (all-times (λ q. q < 256) answers
         (λ q h.
         let rings = o .answers .places .rings in
@@ -202,15 +203,15 @@ module _ (root index first : ℕ) (z : Stores) (o : SoundStores root index first
         omega (arith, rings .room)))
         (all-times (sound-stores.Stored (z .answers)) answers (λ q h. o .answers .stored t q made h))
 
-    gives-is : x ≡ answer-of s (table-held z t .table-goal)
+    gives-is : gives ≡ answer-of s (table-held z t .table-goal)
     gives-is = ap (answer-of s) (goal-view fresh (z .tables) (z .strands) (z .answers) (o .tables) t made)
 
-    remaining-at : (was : Answer) (is-new : Bool) → Stored is-new was x (table-held z t)
-        → meaning clock (clock-at z) (no-remaining s was x is-new complete (in-use (z .answers .places)))
+    remaining-at : (was : Answer) (is-new : Bool) → Stored is-new was gives (table-held z t)
+        → meaning clock (clock-at z) (no-remaining s was gives is-new complete (in-use (z .answers .places)))
         ≡ decide-no-remaining (forests.held f) (seen clock s) (table-of g t)
     remaining-at was is-new stored =
-        no-remaining-means clock (clock-at z) s was x (in-use (z .answers .places)) (table-held z t) (known .sound) gives-is is-new stored
-        complete complete-is
+        no-remaining-means clock (clock-at z) s was gives (in-use (z .answers .places)) (table-held z t) (known .sound) gives-is is-new
+        stored complete complete-is
         ∙ ap₂ (λ (m : ℕ) (u : Table). decide-no-remaining m (seen clock s) u) (answers-held root index first z o) (sym own-table)
 
     remaining-by : (k : Selection) (b : Bool) → ltb same 256 ≡ b
@@ -227,7 +228,7 @@ module _ (root index first : ℕ) (z : Stores) (o : SoundStores root index first
       abbrev u : ℕ
       u = r .table
 
-      few-tables : u < 64
+      pub few-tables : u < 64
       few-tables =
           let there = r .awaits .there in
           let room = room-for-noted f (c .made) sound-forest (known .noted) in
@@ -270,7 +271,7 @@ module _ (root index first : ℕ) (z : Stores) (o : SoundStores root index first
           (subst (λ (es : Stack). LookMeans (clock-at z) g es k a look) (stack-is root index first z o n d) h)
 
       abbrev there : ℕ
-      there = place root index first z o n d (noted-goals (c .made)) u (r .answer)
+      there = wanted-place root index first z o n d (noted-goals (c .made)) u (r .answer)
 
       abbrev else-look : Look
       else-look = on-stack (z .stack .table) (z .tables .coinductive) (z .stack .depth) u
@@ -323,14 +324,14 @@ module _ (root index first : ℕ) (z : Stores) (o : SoundStores root index first
 
   -- THE WHOLE, of a strand in hand
   module _ (s : Strand) (sound : Sound s) (kept : SoundStrand (z .book .goals) (f .tables) (seen clock s)) (origin : Origin) where
-    abbrev live : ℕ
+    abbrev pub live : ℕ
     live = in-use (z .strands .places)
 
-    kept-in-book : SoundStrand (length (f .book)) (f .tables) (seen clock s)
+    pub kept-in-book : SoundStrand (length (f .book)) (f .tables) (seen clock s)
     kept-in-book =
         subst (λ (m : ℕ). SoundStrand m (f .tables) (seen clock s)) (sym (book-goals root index first z o)) kept
 
-    abbrev choice : Choice
+    abbrev pub choice : Choice
     choice =
         select-subgoal (z .tables .goal) (z .tables .floundered) (z .tables .count) (z .book .«goal_flags») (z .book .«goal_len») live s
 
@@ -339,7 +340,8 @@ module _ (root index first : ℕ) (z : Stores) (o : SoundStores root index first
         select-subgoal-means (z .tables .goal) (z .tables .floundered) (z .tables .count) (z .book .«goal_flags») (z .book .«goal_len») f
         (numbers-mean root index first z o) clock live s sound kept-in-book
 
-    choice-known : Ended f (s .selected) choice
+    -- what is known of the choice
+    pub choice-known : Ended f (s .selected) choice
     choice-known =
         select-subgoal-ends (z .tables .goal) (z .tables .floundered) (z .tables .count) (z .book .«goal_flags») (z .book .«goal_len») f
         (numbers-mean root index first z o) clock live s sound kept-in-book

@@ -137,65 +137,65 @@ module _ (root index first : ℕ) (z : Stores) (o : SoundStores root index first
             (omega (arith, leb-false (within (z .stack .depth)) height e, few-entries))
 
       -- THE ANSWERS of a table, made or to be made
-      abbrev pub place : ℕ
-      place = answer-place (z .answers .places .next) (z .answers .places .tail) (z .answers .places .len) t i
+      abbrev pub wanted-place : ℕ
+      wanted-place = answer-place (z .answers .places .next) (z .answers .places .tail) (z .answers .places .len) t i
 
       -- a table that is to be made has no answer
-      no-place : z .tables .count ≤ t → t < 64 → place ≡ 256
+      no-place : z .tables .count ≤ t → t < 64 → wanted-place ≡ 256
       no-place h few =
           let none-there = ap length (o .answers .places .empty t h (λ e. omega arith)) in
           ap (λ (b : Bool). place-if b (getD (ring (z .answers .places) t) i 0))
           (le-ltb i (getD (z .answers .places .len) t 0) (omega (arith, length-ring (z .answers .places) t)))
 
-      pub stored-there : t < 64 → place < 256 → Stored (z .answers) place
+      pub stored-there : t < 64 → wanted-place < 256 → Stored (z .answers) wanted-place
       stored-there few h = at (ltb t (z .tables .count)) refl
         where
-          by-index : (b : Bool) → ltb i (getD (z .answers .places .len) t 0) ≡ b → t < z .tables .count → Stored (z .answers) place
+          by-index : (b : Bool) → ltb i (getD (z .answers .places .len) t 0) ≡ b → t < z .tables .count → Stored (z .answers) wanted-place
           by-index true e made =
               let within-ring : i < length (ring (z .answers .places) t) =
               omega (arith, length-ring (z .answers .places) t, ltb-true i (getD (z .answers .places .len) t 0) e) in
               subst (Stored (z .answers)) (sym (ap (λ (b : Bool). place-if b (getD (ring (z .answers .places) t) i 0)) e))
               (o .answers .stored t (getD (ring (z .answers .places) t) i 0) made (times-at (ring (z .answers .places) t) i within-ring))
           by-index false e made =
-              let far : place ≡ 256 = ap (λ (b : Bool). place-if b (getD (ring (z .answers .places) t) i 0)) e in
+              let far : wanted-place ≡ 256 = ap (λ (b : Bool). place-if b (getD (ring (z .answers .places) t) i 0)) e in
               absurd (omega arith)
 
-          at : (b : Bool) → ltb t (z .tables .count) ≡ b → Stored (z .answers) place
+          at : (b : Bool) → ltb t (z .tables .count) ≡ b → Stored (z .answers) wanted-place
           at true e = by-index (ltb i (getD (z .answers .places .len) t 0)) refl (ltb-true t (z .tables .count) e)
           at false e = absurd (omega (arith, no-place (ltb-false t (z .tables .count) e) few))
 
-      answer-found : t < 64 → place < 256 → answer (table-of g t) i ≡ some (answer-at (z .answers) place)
+      answer-found : t < 64 → wanted-place < 256 → answer (table-of g t) i ≡ some (answer-at (z .answers) wanted-place)
       answer-found few h = at (ltb t (z .tables .count)) refl
         where
-          at : (b : Bool) → ltb t (z .tables .count) ≡ b → answer (table-of g t) i ≡ some (answer-at (z .answers) place)
+          at : (b : Bool) → ltb t (z .tables .count) ≡ b → answer (table-of g t) i ≡ some (answer-at (z .answers) wanted-place)
           at true e =
               ap (λ (x : Table). answer x i) (table-still root index first z o t (ltb-true t (z .tables .count) e) made)
-              ∙ answer-there fresh (z .tables) (z .strands) (z .answers) t i place refl (o .answers .places) h
+              ∙ answer-there fresh (z .tables) (z .strands) (z .answers) t i wanted-place refl (o .answers .places) h
           at false e = absurd (omega (arith, no-place (ltb-false t (z .tables .count) e) few))
 
-      answer-none : 256 ≤ place → answer (table-of g t) i ≡ none
+      answer-none : 256 ≤ wanted-place → answer (table-of g t) i ≡ none
       answer-none h = at (ltb t (z .tables .count)) refl
         where
           at : (b : Bool) → ltb t (z .tables .count) ≡ b → answer (table-of g t) i ≡ none
           at true e =
               ap (λ (x : Table). answer x i) (table-still root index first z o t (ltb-true t (z .tables .count) e) made)
-              ∙ answer-past fresh (z .tables) (z .strands) (z .answers) t i place refl (o .answers .places) h
+              ∙ answer-past fresh (z .tables) (z .strands) (z .answers) t i wanted-place refl (o .answers .places) h
           at false e =
               ap (λ (l : List said-answers.Answer). getElem? l i)
               (new-unanswered (forest z) made t (omega (arith, ltb-false t (z .tables .count) e, counted root index first z o)))
 
-      -- THE LOOK, by the answer at the place that it names
+      -- THE LOOK, by the answer at the wanted-place that it names
       abbrev look : Look
       look =
           look-at (z .stack .table) (z .tables .coinductive) (z .stack .depth) (z .answers .places .next) (z .answers .places .tail)
           (z .answers .places .len) t i
 
-      pub look-by-means : t < 64 → (literal : ℕ) (a : Answer) (b : Bool) → ltb place 256 ≡ b
-          → (b ≡ true → a ≡ getD (z .answers .answers) place unread-answer)
+      pub look-by-means : t < 64 → (literal : ℕ) (a : Answer) (b : Bool) → ltb wanted-place 256 ≡ b
+          → (b ≡ true → a ≡ getD (z .answers .answers) wanted-place unread-answer)
           → LookMeans (clock-at z) g (entries-of z) (k literal) a
-          (look-by b place (on-stack (z .stack .table) (z .tables .coinductive) (z .stack .depth) t))
+          (look-by b wanted-place (on-stack (z .stack .table) (z .tables .coinductive) (z .stack .depth) t))
       look-by-means few literal a true e is =
-          let h : place < 256 = ltb-true place 256 e in
+          let h : wanted-place < 256 = ltb-true wanted-place 256 e in
           holds-answer (answer-found few h ∙ ap (λ (x : Answer). some (view.answer x)) (sym (is refl)))
       look-by-means few literal a false e is =
-          on-stack-means a literal (answer-none (ltb-false place 256 e)) (leb (within (z .stack .depth)) height) refl
+          on-stack-means a literal (answer-none (ltb-false wanted-place 256 e)) (leb (within (z .stack .depth)) height) refl

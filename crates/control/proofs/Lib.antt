@@ -1,5 +1,5 @@
 -- Decisions with no copy; the last literal; for each file of src/ the ways out of its functions over variables (Cases), what its
--- models mean, and what they keep and leave (Leaves).
+-- models mean, and what they keep and leave (Leaves, Kept). `Stores` is what sound stores say, and `Turn` the reading half of a turn.
 pub mod Decisions
 pub mod Seen
 pub mod EnsureRootAnswerCases
@@ -22,6 +22,7 @@ pub mod OnNoRemainingSubgoals
 pub mod ChooseCases
 pub mod ChooseLook
 pub mod ChooseDecides
+pub mod ChooseKept
 pub mod OnNoStrandsLeftCases
 pub mod OnNoStrandsLeft
 pub mod Turn

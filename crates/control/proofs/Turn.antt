@@ -17,8 +17,9 @@ use Rattle.stores.specs.View.{strand-at, entries}
 use Rattle.control.specs.declared.on_no_strands_left.Idle.{Idle}
 use Rattle.control.specs.OnNoStrandsLeft.{without-by}
 use Rattle.control.specs.Stores.{Stores, first-strands, forest, state, SoundStores}
-use Rattle.control.specs.Turn.{top, next, hand-at, taken-by, origin, act-means, turn-means}
+use Rattle.control.specs.Turn.{top, next, hand-at, chosen-for, decided-for, KeptDecision, taken-by, origin, act-means, turn-means}
 use Rattle.control.proofs.ChooseDecides.{acting, strand-decides}
+use Rattle.control.proofs.ChooseKept.{strand-kept}
 use Rattle.control.proofs.EnsureRootAnswer.{top-is, strand-decided, known, in-hand-is, in-hand-sound, in-hand-kept}
 use Rattle.control.proofs.OnNoStrandsLeft.{idle-decides}
 use Rattle.control.proofs.Stores.{top-entry, entries-below, stack-is}
@@ -67,12 +68,25 @@ module _ (root index first : ℕ) (z : Stores) (o : SoundStores root index first
         ∙ ap decided-by (sym (strand-decided root index first z o n d))
         ∙ ap (λ (stack : said.Stack). decide (record { forest = forest z; stack = stack })) (sym (stack-is root index first z o n d))
 
+  never-empty : z .stack .depth ≡ 0 → ⊥
+  never-empty d =
+      subst (λ (m : ℕ). asserts.SoundStack (z .book .goals) root index first (forest z) (entries (first-strands (z .book)) (z .stack)
+      (z .strands) m)) d (o .state)
+
   by-depth : (m : ℕ) → z .stack .depth ≡ m → turn-means z ≡ decide (state z)
-  by-depth zero d =
-      absurd
-      (subst (λ (m : ℕ). asserts.SoundStack (z .book .goals) root index first (forest z) (entries (first-strands (z .book)) (z .stack)
-      (z .strands) m)) d (o .state))
+  by-depth zero d = absurd (never-empty d)
   by-depth (suc n) d = at-top n d
 
   pub turn-decides : turn-means z ≡ decide (state z)
   turn-decides = by-depth (z .stack .depth) refl
+
+  -- and what it decides for a strand keeps the strands and the answers sound
+  pub turn-kept : next z .found ≡ true → KeptDecision (decided-for z (chosen-for z (hand-at z (next z .place))))
+  turn-kept is = at (z .stack .depth) refl
+    where
+      at : (m : ℕ) → z .stack .depth ≡ m → KeptDecision (decided-for z (chosen-for z (hand-at z (next z .place))))
+      at zero d = absurd (never-empty d)
+      at (suc n) d =
+          let k = known root index first z o n d is in
+          strand-kept root index first z o n d (hand-at z (next z .place)) (in-hand-sound root index first z o n d (next z .place) k)
+          (in-hand-kept root index first z o n d (next z .place) k (top-entry z n .clock)) (origin z (next z))

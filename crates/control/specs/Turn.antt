@@ -14,12 +14,17 @@ use Rattle.definitions.specs.Tables.{queued}
 use Rattle.split.specs.Acts.{Origin, was-active, was-queued, Act, takes, finishes, caller-failed, caller-proved, changes-mode}
 use Rattle.split.specs.Acts.{negative-cycle, clears, part-of-cycle}
 use Rattle.split.specs.Decide.{table-of, decide-clear, caller-strand, selected-of, selected-literal}
+use Rattle.strands.specs.declared.Answer.{Answer}
 use Rattle.strands.specs.declared.Strand.{Strand}
+use Rattle.strands.specs.View.{Sound}
 use Rattle.stores.specs.Places.{first-of}
 use Rattle.stores.specs.Queue.{eligible}
+use Rattle.stores.specs.Sound.{GoodAnswer}
 use Rattle.stores.specs.View.{unread-strand, unread-answer, strand-at}
 use Rattle.control.specs.declared.choose.Chosen.{Chosen}
 use Rattle.control.specs.declared.decision.Decision.{Decision}
+use Rattle.control.specs.declared.decision.Deed.{Deed}
+use Rattle.control.specs.declared.decision.Deed.the-variants.{Stop, GoesOn, GivesUp, Cycles, Pushes, Requeues, Flounders, Answers}
 use Rattle.control.specs.declared.ensure_root_answer.Next.{Next}
 use Rattle.control.specs.declared.ensure_root_answer.Top.{Top}
 use Rattle.control.specs.declared.on_no_strands_left.Idle.{Idle}
@@ -65,6 +70,22 @@ module _ (z : Stores) where
   abbrev pub idle : Idle
   idle =
       without-strand (z .strands .places .len) (z .strands .waits) (z .stack .positive) (z .stack .negative) (z .stack .active) next top
+
+-- WHAT A DECISION KEEPS: the strands that it carries are sound, and so is an answer that is to be stored.
+abbrev pub GoodIf : Deed → Answer → Type 0
+GoodIf (Answers empties) a = GoodAnswer a
+GoodIf (Stop n) a = Unit {0}
+GoodIf GoesOn a = Unit {0}
+GoodIf GivesUp a = Unit {0}
+GoodIf (Cycles height) a = Unit {0}
+GoodIf (Pushes table) a = Unit {0}
+GoodIf Requeues a = Unit {0}
+GoodIf Flounders a = Unit {0}
+
+pub record KeptDecision (d : Decision) : Type 0 where
+  pub strand : Sound (d .strand)
+  pub copy : Sound (d .copy)
+  pub answer : GoodIf (d .deed) (d .answer)
 
 -- WHAT IT MEANS
 
