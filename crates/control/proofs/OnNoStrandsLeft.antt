@@ -146,9 +146,12 @@ module _ (root index first : ℕ) (z : Stores) (o : SoundStores root index first
         let own = o .strands .in-hand q (active-held (z .stack .active) (z .stack .depth) m (omega arith) is-there) in
         let there = at-place literals (k .subgoal-index) (awaits .at-literal) in
         let known : k .subgoal-table < 64 =
-        omega
-        (arith, place-under (f .tables) (k .subgoal-table) (awaits .table) (awaits .is-made), counted root index first z o,
-        few-made root index first z o) in
+        omega (
+          arith,
+          place-under (f .tables) (k .subgoal-table) (awaits .table) (awaits .is-made),
+          counted root index first z o,
+          few-made root index first z o,
+        ) in
         ap waits-on-not
         (own .is-written e .is-waits
         ∙ sym (ap (λ (b : Bool). waits-for (shown-by b .ex-clause .subgoals) (shown-by b .selected-subgoal)) e)
