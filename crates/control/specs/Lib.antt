@@ -9,3 +9,5 @@ pub mod ClearStrandsAfterCycle
 pub mod UnwindStack
 pub mod OnPositiveCycle
 pub mod PerformDeed
+pub mod PerformIdle
+pub mod MakeTables
