@@ -33,3 +33,5 @@ pub mod ClearStrandsAfterCycleEmptied
 pub mod UnwindStackCases
 pub mod OnPositiveCycleCases
 pub mod PerformDeedCases
+pub mod MakeTablesCases
+pub mod PerformIdleCases

@@ -11,3 +11,5 @@ pub mod Turn
 pub mod UnwindStack
 pub mod OnPositiveCycle
 pub mod PerformDeed
+pub mod PerformIdle
+pub mod MakeTables

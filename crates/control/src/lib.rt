@@ -10,5 +10,7 @@ pub mod on_no_strands_left; // on_no_strands_left.rt: what is done where the top
 pub mod clear_strands_after_cycle; // clear_strands_after_cycle.rt: the queues of a cycle, taken
 pub mod unwind_stack; // unwind_stack.rt: active strands go back to their tables
 pub mod on_positive_cycle; // on_positive_cycle.rt: what a cycle means to the entry on top
+pub mod make_tables; // make_tables.rt: the goals noted get their tables
 pub mod perform; // perform.rt: a turn done
 pub mod perform_deed; // perform_deed.rt: what is done about the strand in hand
+pub mod perform_idle; // perform_idle.rt: what is done where the top has no strand to go on with

@@ -34,7 +34,7 @@ fn waits_on_not(w: u8) -> bool
 }
 
 // Whether the literal that the caller's strand waits on is a "not".
-fn caller_waits_on_not(waits: &[u8; 256], active: &[u16; 64], depth: usize) -> bool
+pub fn caller_waits_on_not(waits: &[u8; 256], active: &[u16; 64], depth: usize) -> bool
     ensures { λ r. ⌜ r ≡ caller-waits-on-not (now (waits .entry)) (now (active .entry)) depth ⌝ }
 {
     let p = caller_place(active, depth);
@@ -58,7 +58,7 @@ fn no_strands(depth: usize, waits: &[u8; 256], active: &[u16; 64]) -> Idle
 }
 
 // One of the top's minimums; 0 where the stack has no top.
-fn minimum_at(minimum: &[u64; 64], depth: usize) -> u64
+pub fn minimum_at(minimum: &[u64; 64], depth: usize) -> u64
     ensures { λ r. ⌜ r ≡ minimum-at (now (minimum .entry)) depth ⌝ }
 {
     if depth == 0 {

@@ -8,8 +8,8 @@ ghost use Prim.Native.Nat.{_<_, _-_};
 ghost use Rattle.stores.specs.Numbers.{within};
 ghost use Rattle.control.specs.UnwindStack.{Rings, enqueued-back, all-back};
 
-// The active strand of the entry at this height, where it has one, goes to the end of its table's queue.
-fn enqueue_active(
+// An active strand, by its place, goes to the end of its table's queue.
+pub fn enqueue_active(
     next: &mut [u8; 256],
     tail: &mut [u8; 256],
     len: &mut [u16; 256],
