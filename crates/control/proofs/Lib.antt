@@ -27,3 +27,4 @@ pub mod OnPositiveCycleCases
 pub mod PerformDeedCases
 pub mod MakeTablesCases
 pub mod PerformIdleCases
+pub mod PerformStrandCases

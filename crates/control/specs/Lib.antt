@@ -8,6 +8,7 @@ pub mod OnNoStrandsLeft
 pub mod ClearStrandsAfterCycle
 pub mod UnwindStack
 pub mod OnPositiveCycle
+pub mod MakeTables
 pub mod PerformDeed
 pub mod PerformIdle
-pub mod MakeTables
+pub mod PerformStrand
