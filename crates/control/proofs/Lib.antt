@@ -35,3 +35,4 @@ pub mod OnPositiveCycleCases
 pub mod PerformDeedCases
 pub mod MakeTablesCases
 pub mod PerformIdleCases
+pub mod PerformStrandCases

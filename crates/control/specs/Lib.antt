@@ -10,6 +10,7 @@ pub mod Stores
 pub mod Turn
 pub mod UnwindStack
 pub mod OnPositiveCycle
+pub mod MakeTables
 pub mod PerformDeed
 pub mod PerformIdle
-pub mod MakeTables
+pub mod PerformStrand

@@ -14,3 +14,4 @@ pub mod make_tables; // make_tables.rt: the goals noted get their tables
 pub mod perform; // perform.rt: a turn done
 pub mod perform_deed; // perform_deed.rt: what is done about the strand in hand
 pub mod perform_idle; // perform_idle.rt: what is done where the top has no strand to go on with
+pub mod perform_strand; // perform_strand.rt: a turn with a strand, done

@@ -1,0 +1,152 @@
+-- A turn with a strand, done: models over all the stores, composed of those of its stages.
+use Prim.Native.Nat.{ℕ}
+use mathlib.Core.Bool.{Bool, true, false}
+use mathlib.Core.List.{List}
+use lib.Dec.{ltb}
+use Rattle.book.specs.View.{meant}
+use Rattle.definitions.specs.{TimeStamp}
+use Rattle.strands.specs.declared.Answer.{Answer}
+use Rattle.strands.specs.declared.Strand.{Strand}
+use Rattle.strands.specs.Making.{refine}
+use Rattle.strands.specs.View.{is-negative}
+use Rattle.stores.specs.declared.places.Places.{Places}
+use Rattle.stores.specs.declared.queue.Strands.{Strands}
+use Rattle.stores.specs.declared.table.Answers.{Answers}
+use Rattle.stores.specs.declared.tables.Tables.{Tables}
+use Rattle.stores.specs.declared.stack.Stack.{Stack}
+use Rattle.stores.specs.Queue.{with-places, enqueued-strand, freed-strands}
+use Rattle.control.specs.declared.decision.Decision.{Decision}
+use Rattle.control.specs.declared.decision.Deed.{Deed}
+use Rattle.control.specs.declared.decision.Deed.the-variants.{Stop, GoesOn, GivesUp, Cycles, Pushes, Requeues, Flounders}
+use Rattle.control.specs.declared.decision.Deed.the-variants.{Answers as Answering}
+use Rattle.control.specs.declared.ensure_root_answer.Next.{Next}
+use Rattle.control.specs.declared.ensure_root_answer.Top.{Top}
+use Rattle.control.specs.declared.perform.Flow.{Flow}
+use Rattle.control.specs.declared.perform.Performed.{Performed}
+use Rattle.control.specs.declared.perform_strand.Left.{Left}
+use Rattle.control.specs.declared.perform_strand.Settled.{Settled}
+use Rattle.control.specs.declared.select_subgoal.Made.{Made}
+use Rattle.control.specs.SelectSubgoal.{chosen, noted-count}
+use Rattle.control.specs.MakeTables.{tables-of, Tabling, tabling, tables-from}
+use Rattle.control.specs.PerformDeed.{stack-of, new-place, left-rings, left-active, Moving, moving, Did, deed-done}
+use Rattle.control.specs.PerformIdle.{noted}
+
+-- ALL THE STORES, and the clock
+pub record Stores : Type 0 where
+  pub tables : Tables
+  pub strands : Strands
+  pub answers : Answers
+  pub stack : Stack
+  pub clock : TimeStamp
+
+abbrev pub stores-of : Tables → Strands → Answers → Stack → TimeStamp → Stores
+stores-of ts s a k clock = record { tables = ts; strands = s; answers = a; stack = k; clock = clock }
+
+-- `store_copy`: a place is taken, the copy's numbers are written there, and it is enqueued
+abbrev pub copy-place : (copies : Bool) → (place : ℕ) → Places → ℕ
+copy-place true place p = new-place p
+copy-place false place p = place
+
+abbrev pub copy-noted : (copies : Bool) → (t time : ℕ) → Strand → Strands → Strands
+copy-noted true t time x s = enqueued-strand t (new-place (s .places)) (noted (new-place (s .places)) time x (freed-strands s))
+copy-noted false t time x s = s
+
+-- `strand_left`: what stands at the strand's place from now on
+abbrev pub left : Strand → TimeStamp → (refines : Bool) → Left
+left s time refines = record { strand = s; time = time; refines = refines }
+
+abbrev pub answer-left-by : (root made : Bool) → (s refinement : Strand) → TimeStamp → Left
+answer-left-by false made s f time = left s time false
+answer-left-by true true s f time = left f 0 true
+answer-left-by true false s f time = left s time false
+
+abbrev pub answer-left : (depth : ℕ) → Answer → Strand → TimeStamp → Left
+answer-left depth x s time = answer-left-by (ltb depth 2) (refine x .made) s (refine x .strand) time
+
+abbrev pub gives-answer : Deed → Bool
+gives-answer (Stop n) = false
+gives-answer GoesOn = false
+gives-answer GivesUp = false
+gives-answer (Cycles height) = false
+gives-answer (Pushes table) = false
+gives-answer Requeues = false
+gives-answer Flounders = false
+gives-answer (Answering empties) = true
+
+abbrev pub strand-left-by : (gives : Bool) → (depth : ℕ) → Answer → Strand → TimeStamp → Left
+strand-left-by true depth x s time = answer-left depth x s time
+strand-left-by false depth x s time = left s time false
+
+abbrev pub strand-left : Deed → (depth : ℕ) → Answer → Strand → TimeStamp → Left
+strand-left deed depth x s time = strand-left-by (gives-answer deed) depth x s time
+
+-- the copy and the strand, settled: their numbers are written
+abbrev pub settled : Decision → Left → (t place : ℕ) → TimeStamp → Strands → Strands
+settled d l t q time s = noted q (l .time) (l .strand) (copy-noted (d .copies) t time (d .copy) s)
+
+abbrev pub settled-as : Decision → Left → (place : ℕ) → Places → Settled
+settled-as d l q p = record { «copy_place» = copy-place (d .copies) q p; strand = l .strand; refines = l .refines }
+
+-- WHAT A TURN LEAVES: how it ends, what the owner writes where, the copy first, and the stores' numbers
+pub record TurnDone : Type 0 where
+  pub flow : Flow
+  pub copy-at : ℕ
+  pub copy : Strand
+  pub strand-at : ℕ
+  pub strand : Strand
+  pub answer-at : ℕ
+  pub answer : Answer
+  pub stores : Stores
+
+abbrev pub turn-by : Performed → Tables → Strands → Answers → Stack → TurnDone
+turn-by r ts s a k = record {
+  flow = r .flow;
+  copy-at = r .«copy_place»;
+  copy = r .copy;
+  strand-at = r .place;
+  strand = r .strand;
+  answer-at = r .«answer_place»;
+  answer = r .answer;
+  stores = stores-of ts s a k (r .clock);
+}
+
+-- THE MODEL of a turn with a strand, over the book's numbers
+module _ (goal-flags goal-first goal-len clause-variant clause-flags : List ℕ) (p : Next) (top : Top) (made : Made) (d : Decision)
+    (seen : ℕ) where
+  -- the strand left its origin, and the tables are made
+  abbrev pub begun : Stores → Tabling
+  begun w = tables-from goal-flags goal-first goal-len clause-variant clause-flags (made .goals) (noted-count made) 0
+      (tabling (w .tables) (with-places (w .strands) (left-rings (p .queued) (top .table) (p .before) (w .strands .places))))
+
+  abbrev pub stands : Stores → Left
+  stands w = strand-left (d .deed) (w .stack .depth) (d .answer) (d .strand) (top .clock)
+
+  abbrev pub settled-in : Stores → Strands
+  settled-in w = settled d (stands w) (top .table) (p .place) (top .clock) (begun w .strands)
+
+  abbrev pub left-stack : Stack → Stack
+  left-stack k = stack-of (k .depth) (k .table) (k .clock) (k .positive) (k .negative) (left-active (p .queued) (k .depth) (k .active))
+
+  abbrev pub deed-in : Stores → Did
+  deed-in w =
+      deed-done (is-negative (meant (chosen (d .strand)))) (stands w .refines) (d .answer) (top .table) (p .place) seen (d .deed)
+      (moving (settled-in w .places) (begun w .tables .floundered) (w .answers) (left-stack (w .stack)) (w .clock))
+
+  abbrev pub tables-after : Tables → Moving → Tables
+  tables-after ts m = tables-of (ts .count) (ts .goal) (ts .coinductive) (m .floundered) (ts .complete)
+
+  abbrev pub stores-after : Stores → Stores
+  stores-after w = stores-of (tables-after (begun w .tables) (deed-in w .moved)) (with-places (settled-in w) (deed-in w .moved .rings))
+      (deed-in w .moved .answers) (deed-in w .moved .stack) (deed-in w .moved .clock)
+
+  abbrev pub strand-performed : Stores → TurnDone
+  strand-performed w = record {
+    flow = deed-in w .flow;
+    copy-at = copy-place (d .copies) (p .place) (begun w .strands .places);
+    copy = d .copy;
+    strand-at = p .place;
+    strand = stands w .strand;
+    answer-at = deed-in w .answer-at;
+    answer = d .answer;
+    stores = stores-after w;
+  }
