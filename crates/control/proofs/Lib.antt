@@ -35,4 +35,6 @@ pub mod OnPositiveCycleCases
 pub mod PerformDeedCases
 pub mod MakeTablesCases
 pub mod PerformIdleCases
+pub mod CreateRefinementStrandCases
 pub mod PerformStrandCases
+pub mod PerformCases

@@ -1,17 +1,13 @@
 -- The functions of perform_strand.rt at their tests' answers, over variables, and the turn put together. From what the stages leave.
-use Prim.Native.Nat.{ℕ, _%_, _≤_, _<_}
+use Prim.Native.Nat.{ℕ, _%_}
 use mathlib.Core.Bool.{Bool, true, false}
 use mathlib.Core.List.{List}
-use mathlib.Core.Path.{_≡_, refl, sym, ap, ap₂, _∙_}
+use mathlib.Core.Path.{_≡_, sym, ap, ap₂, _∙_}
 use lib.ListN.{set}
-use borrow.Author.Tests.{lt-ltb, le-ltb}
 use Rattle.book.specs.View.{meant}
 use Rattle.definitions.specs.{TimeStamp}
 use Rattle.rings.specs.Rings.{linked, lengthened}
-use Rattle.strands.specs.declared.Answer.{Answer}
 use Rattle.strands.specs.declared.Strand.{Strand}
-use Rattle.strands.specs.declared.making.Refinement.{Refinement}
-use Rattle.strands.specs.Making.{refine}
 use Rattle.strands.specs.View.{is-negative}
 use Rattle.stores.specs.declared.places.Places.{Places}
 use Rattle.stores.specs.declared.queue.Strands.{Strands}
@@ -21,18 +17,16 @@ use Rattle.stores.specs.Places.{places, enqueued, freed, TookPlace}
 use Rattle.stores.specs.Queue.{waits-of, wants-of, with-places, store}
 use Rattle.stores.proofs.PlacesMoves.{enqueued-is}
 use Rattle.control.specs.declared.decision.Decision.{Decision}
-use Rattle.control.specs.declared.decision.Deed.{Deed}
 use Rattle.control.specs.declared.ensure_root_answer.Next.{Next}
 use Rattle.control.specs.declared.ensure_root_answer.Top.{Top}
-use Rattle.control.specs.declared.perform_strand.Left.{Left}
+use Rattle.control.specs.declared.create_refinement_strand.Left.{Left}
 use Rattle.control.specs.declared.perform_strand.Settled.{Settled}
 use Rattle.control.specs.declared.select_subgoal.Made.{Made}
 use Rattle.control.specs.SelectSubgoal.{chosen}
 use Rattle.control.specs.MakeTables.{Tabling}
-use Rattle.control.specs.PerformDeed.{new-place, Moving, moving, Did, deed-done}
+use Rattle.control.specs.PerformDeed.{new-place, moving, Did, deed-done}
 use Rattle.control.specs.PerformIdle.{noted}
-use Rattle.control.specs.PerformStrand.{Stores, stores-of, copy-place, copy-noted, left, answer-left-by, answer-left, gives-answer}
-use Rattle.control.specs.PerformStrand.{strand-left-by, strand-left, settled, settled-as, TurnDone}
+use Rattle.control.specs.PerformStrand.{Stores, stores-of, copy-place, copy-noted, settled, settled-as, TurnDone}
 use Rattle.control.specs.PerformStrand.{begun, stands, settled-in, left-stack, deed-in, tables-after, strand-performed}
 use Rattle.control.proofs.PerformIdleCases.{noted-is}
 
@@ -70,32 +64,6 @@ module _ (copies : Bool) (x : Strand) (at t place : ℕ) (n tl l : List ℕ) (u 
             ∙ ap₂ (λ (i : ℕ) (r : Places). enqueued t i r) free (took .left))
             ∙ sym (ap (λ (b : Bool). copy-noted b t at x (was strands)) e),
       )
-
--- `answer_left`
-module _ (x : Answer) (s : Strand) (depth : ℕ) (at : TimeStamp) where
-  pub at-caller : 2 ≤ depth → left s at false ≡ answer-left depth x s at
-  at-caller h = sym (ap (λ (b : Bool). answer-left-by b (refine x .made) s (refine x .strand) at) (le-ltb depth 2 h))
-
-  at-root : depth < 2 → (r : Refinement) → r ≡ refine x → (b : Bool) → r .made ≡ b → answer-left-by true b s
-  (r .strand) at ≡ answer-left depth x s at
-  at-root h r e b eb =
-      ap (λ (c : Bool). answer-left-by true c s (r .strand) at) (sym eb)
-      ∙ ap (λ (f : Refinement). answer-left-by true (f .made) s (f .strand) at) e
-      ∙ sym (ap (λ (c : Bool). answer-left-by c (refine x .made) s (refine x .strand) at) (lt-ltb depth 2 h))
-
-  pub refined : depth < 2 → (r : Refinement) → r ≡ refine x → r .made ≡ true → left (r .strand) 0 true ≡ answer-left depth x s at
-  refined h r e eb = at-root h r e true eb
-
-  pub unrefined : depth < 2 → (r : Refinement) → r ≡ refine x → r .made ≡ false → left s at false ≡ answer-left depth x s at
-  unrefined h r e eb = at-root h r e false eb
-
-  -- `strand_left`
-  module _ (deed : Deed) (gives : Bool) (is : gives ≡ gives-answer deed) where
-    pub left-answer : gives ≡ true → (r : Left) → r ≡ answer-left depth x s at → r ≡ strand-left deed depth x s at
-    left-answer e r er = er ∙ ap (λ (b : Bool). strand-left-by b depth x s at) (sym e ∙ is)
-
-    pub left-as-it-is : gives ≡ false → left s at false ≡ strand-left deed depth x s at
-    left-as-it-is e = ap (λ (b : Bool). strand-left-by b depth x s at) (sym e ∙ is)
 
 -- `settle`
 module _ (d : Decision) (place t : ℕ) (at : TimeStamp) (l l′ : Left) (is : l ≡ l′) where

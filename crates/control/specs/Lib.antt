@@ -11,6 +11,8 @@ pub mod Turn
 pub mod UnwindStack
 pub mod OnPositiveCycle
 pub mod MakeTables
+pub mod CreateRefinementStrand
 pub mod PerformDeed
 pub mod PerformIdle
 pub mod PerformStrand
+pub mod Perform

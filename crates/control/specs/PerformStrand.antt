@@ -2,12 +2,10 @@
 use Prim.Native.Nat.{ℕ}
 use mathlib.Core.Bool.{Bool, true, false}
 use mathlib.Core.List.{List}
-use lib.Dec.{ltb}
 use Rattle.book.specs.View.{meant}
 use Rattle.definitions.specs.{TimeStamp}
 use Rattle.strands.specs.declared.Answer.{Answer}
 use Rattle.strands.specs.declared.Strand.{Strand}
-use Rattle.strands.specs.Making.{refine}
 use Rattle.strands.specs.View.{is-negative}
 use Rattle.stores.specs.declared.places.Places.{Places}
 use Rattle.stores.specs.declared.queue.Strands.{Strands}
@@ -16,17 +14,15 @@ use Rattle.stores.specs.declared.tables.Tables.{Tables}
 use Rattle.stores.specs.declared.stack.Stack.{Stack}
 use Rattle.stores.specs.Queue.{with-places, enqueued-strand, freed-strands}
 use Rattle.control.specs.declared.decision.Decision.{Decision}
-use Rattle.control.specs.declared.decision.Deed.{Deed}
-use Rattle.control.specs.declared.decision.Deed.the-variants.{Stop, GoesOn, GivesUp, Cycles, Pushes, Requeues, Flounders}
-use Rattle.control.specs.declared.decision.Deed.the-variants.{Answers as Answering}
 use Rattle.control.specs.declared.ensure_root_answer.Next.{Next}
 use Rattle.control.specs.declared.ensure_root_answer.Top.{Top}
 use Rattle.control.specs.declared.perform.Flow.{Flow}
 use Rattle.control.specs.declared.perform.Performed.{Performed}
-use Rattle.control.specs.declared.perform_strand.Left.{Left}
+use Rattle.control.specs.declared.create_refinement_strand.Left.{Left}
 use Rattle.control.specs.declared.perform_strand.Settled.{Settled}
 use Rattle.control.specs.declared.select_subgoal.Made.{Made}
 use Rattle.control.specs.SelectSubgoal.{chosen, noted-count}
+use Rattle.control.specs.CreateRefinementStrand.{strand-left}
 use Rattle.control.specs.MakeTables.{tables-of, Tabling, tabling, tables-from}
 use Rattle.control.specs.PerformDeed.{stack-of, new-place, left-rings, left-active, Moving, moving, Did, deed-done}
 use Rattle.control.specs.PerformIdle.{noted}
@@ -50,35 +46,6 @@ copy-place false place p = place
 abbrev pub copy-noted : (copies : Bool) → (t time : ℕ) → Strand → Strands → Strands
 copy-noted true t time x s = enqueued-strand t (new-place (s .places)) (noted (new-place (s .places)) time x (freed-strands s))
 copy-noted false t time x s = s
-
--- `strand_left`: what stands at the strand's place from now on
-abbrev pub left : Strand → TimeStamp → (refines : Bool) → Left
-left s time refines = record { strand = s; time = time; refines = refines }
-
-abbrev pub answer-left-by : (root made : Bool) → (s refinement : Strand) → TimeStamp → Left
-answer-left-by false made s f time = left s time false
-answer-left-by true true s f time = left f 0 true
-answer-left-by true false s f time = left s time false
-
-abbrev pub answer-left : (depth : ℕ) → Answer → Strand → TimeStamp → Left
-answer-left depth x s time = answer-left-by (ltb depth 2) (refine x .made) s (refine x .strand) time
-
-abbrev pub gives-answer : Deed → Bool
-gives-answer (Stop n) = false
-gives-answer GoesOn = false
-gives-answer GivesUp = false
-gives-answer (Cycles height) = false
-gives-answer (Pushes table) = false
-gives-answer Requeues = false
-gives-answer Flounders = false
-gives-answer (Answering empties) = true
-
-abbrev pub strand-left-by : (gives : Bool) → (depth : ℕ) → Answer → Strand → TimeStamp → Left
-strand-left-by true depth x s time = answer-left depth x s time
-strand-left-by false depth x s time = left s time false
-
-abbrev pub strand-left : Deed → (depth : ℕ) → Answer → Strand → TimeStamp → Left
-strand-left deed depth x s time = strand-left-by (gives-answer deed) depth x s time
 
 -- the copy and the strand, settled: their numbers are written
 abbrev pub settled : Decision → Left → (t place : ℕ) → TimeStamp → Strands → Strands

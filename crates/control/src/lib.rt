@@ -11,7 +11,8 @@ pub mod clear_strands_after_cycle; // clear_strands_after_cycle.rt: the queues o
 pub mod unwind_stack; // unwind_stack.rt: active strands go back to their tables
 pub mod on_positive_cycle; // on_positive_cycle.rt: what a cycle means to the entry on top
 pub mod make_tables; // make_tables.rt: the goals noted get their tables
-pub mod perform; // perform.rt: a turn done
+pub mod create_refinement_strand; // create_refinement_strand.rt: what stands at the strand's place after a turn
 pub mod perform_deed; // perform_deed.rt: what is done about the strand in hand
-pub mod perform_idle; // perform_idle.rt: what is done where the top has no strand to go on with
 pub mod perform_strand; // perform_strand.rt: a turn with a strand, done
+pub mod perform_idle; // perform_idle.rt: what is done where the top has no strand to go on with
+pub mod perform; // perform.rt: a turn done

@@ -1,7 +1,7 @@
 // A turn with a strand, done: the strand leaves its origin, the goals noted get their tables, the copy for the next answer is queued, the
 // strand's numbers are written, and then the deed is done (crate `split`, `perform` of `takes`).
+use crate::create_refinement_strand::strand_left;
 use crate::decision::Decision;
-use crate::decision::Deed;
 use crate::ensure_root_answer::Next;
 use crate::ensure_root_answer::Top;
 use crate::make_tables::make_tables;
@@ -16,10 +16,8 @@ use crate::select_subgoal::last_literal;
 use rings::ring_enqueue;
 use stores::places::take_place;
 use stores::queue::number_strand;
-use strands::Answer;
 use strands::Strand;
 use strands::literals::is_negative;
-use strands::making::create_refinement_strand;
 ghost use mathlib.Core.Path.{_≡_};
 ghost use mathlib.Core.List.{List};
 ghost use Rattle.strands.specs.declared.Answer.{Answer};
@@ -29,7 +27,8 @@ ghost use Rattle.stores.specs.Queue.{store};
 ghost use Rattle.control.specs.SelectSubgoal.{noted-count};
 ghost use Rattle.control.specs.MakeTables.{tables-of, tabling, tables-from};
 ghost use Rattle.control.specs.PerformDeed.{stack-of, answers-of, left-rings, left-active};
-ghost use Rattle.control.specs.PerformStrand.{stores-of, copy-noted, copy-place, answer-left, gives-answer, strand-left};
+ghost use Rattle.control.specs.CreateRefinementStrand.{strand-left};
+ghost use Rattle.control.specs.PerformStrand.{stores-of, copy-noted, copy-place};
 ghost use Rattle.control.specs.PerformStrand.{settled-as, settled, turn-by, strand-performed};
 
 // The strand leaves its origin, and the goals noted get their tables: how many tables there are then.
@@ -67,7 +66,8 @@ fn begin_turn(
         (now («clause_flags» .entry)) (made .goals) (noted-count made) 0
         (tabling (tables-of count (now (goal .entry)) (now (coinductive .entry)) (now (floundered .entry)) (now (complete .entry)))
         (store strands (now (time .entry)) (now (ambiguous .entry)) (now (variant .entry)) (now (waits .entry)) (now (wants .entry))
-        (left-rings (p .queued) t (p .before) (places (now (next .entry)) (now (tail .entry)) (now (len .entry)) (now (used .entry))))))) ⌝ }
+        (left-rings (p .queued) t (p .before)
+        (places (now (next .entry)) (now (tail .entry)) (now (len .entry)) (now (used .entry))))))) ⌝ }
 {
     leave(next, tail, len, active, p.queued, p.before, t, depth);
     make_tables(
@@ -94,8 +94,8 @@ fn begin_turn(
     )
 }
 
-// The copy for the next answer, pursued at this time, waits at the end of the table's queue: its place, or the strand's own where there is no
-// copy. A store that is full was seen in deciding (22).
+// The copy for the next answer, pursued at this time, waits at the end of the table's queue: its place, or the strand's own where there is
+// no copy. A store that is full was seen in deciding (22).
 fn store_copy(
     copies: bool,
     copy: Strand,
@@ -128,68 +128,6 @@ fn store_copy(
         return k;
     }
     place
-}
-
-// What stands at the strand's place from now on, and when that was last pursued; whether it is a refinement strand.
-pub struct Left {
-    pub strand: Strand,
-    pub time: u64,
-    pub refines: bool,
-}
-
-// A strand that has given its answer: at the root the answer's refinement strand takes its place, if it has one, and nobody has pursued that.
-fn answer_left(x: Answer, s: Strand, depth: usize, at: u64) -> Left
-    ensures { λ r. ⌜ r ≡ answer-left depth x s at ⌝ }
-{
-    if depth >= 2 {
-        return Left {
-            strand: s,
-            time: at,
-            refines: false,
-        };
-    }
-    let r = create_refinement_strand(x);
-    if r.made {
-        let f = r.strand;
-        return Left {
-            strand: f,
-            time: 0,
-            refines: true,
-        };
-    }
-    Left {
-        strand: s,
-        time: at,
-        refines: false,
-    }
-}
-
-fn gives_answer(deed: Deed) -> bool
-    ensures { λ r. ⌜ r ≡ gives-answer deed ⌝ }
-{
-    match deed {
-        Deed::Stop(_) => false,
-        Deed::GoesOn => false,
-        Deed::GivesUp => false,
-        Deed::Cycles(_) => false,
-        Deed::Pushes(_) => false,
-        Deed::Requeues => false,
-        Deed::Flounders => false,
-        Deed::Answers(_) => true,
-    }
-}
-
-fn strand_left(deed: Deed, x: Answer, s: Strand, depth: usize, at: u64) -> Left
-    ensures { λ r. ⌜ r ≡ strand-left deed depth x s at ⌝ }
-{
-    if gives_answer(deed) {
-        return answer_left(x, s, depth, at);
-    }
-    Left {
-        strand: s,
-        time: at,
-        refines: false,
-    }
 }
 
 // What settling leaves: the copy's place, and what stands at the strand's own.

@@ -1,8 +1,8 @@
 -- `settle` meets its contract: the copy, what stands at the strand's place, and its numbers.
 use Rattle.stores.specs.Places.{places}
 use Rattle.stores.specs.Queue.{store}
-use Rattle.control.specs.declared.perform_strand.Left.{Left}
-use Rattle.control.specs.PerformStrand.{strand-left}
+use Rattle.control.specs.declared.create_refinement_strand.Left.{Left}
+use Rattle.control.specs.CreateRefinementStrand.{strand-left}
 use Rattle.control.proofs.PerformIdleCases.{noted-is}
 use Rattle.control.proofs.PerformStrandCases.{settled-is, settled-so}
 use borrow.Author.Needs.{needs}

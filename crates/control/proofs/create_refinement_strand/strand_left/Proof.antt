@@ -1,8 +1,8 @@
 -- `strand_left` meets its contract, by whether the strand gives its answer.
-use Rattle.control.proofs.PerformStrandCases.{left-answer, left-as-it-is}
+use Rattle.control.proofs.CreateRefinementStrandCases.{left-answer, left-as-it-is}
 use borrow.Author.Needs.{needs}
-use Rattle.control.proofs.perform_strand.strand_left.Statement.{statement}
-use Rattle.control.proofs.perform_strand.strand_left.Tie as tie
+use Rattle.control.proofs.create_refinement_strand.strand_left.Statement.{statement}
+use Rattle.control.proofs.create_refinement_strand.strand_left.Tie as tie
 
 gives-answer-requires : tie.Need-gives-answer-requires
 gives-answer-requires c κs = search needs

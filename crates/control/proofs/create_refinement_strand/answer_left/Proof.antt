@@ -1,8 +1,8 @@
 -- `answer_left` meets its contract, by whether the root is on top and the answer has a refinement strand.
-use Rattle.control.proofs.PerformStrandCases.{at-caller, refined, unrefined}
+use Rattle.control.proofs.CreateRefinementStrandCases.{at-caller, refined, unrefined}
 use borrow.Author.Needs.{needs}
-use Rattle.control.proofs.perform_strand.answer_left.Statement.{statement}
-use Rattle.control.proofs.perform_strand.answer_left.Tie as tie
+use Rattle.control.proofs.create_refinement_strand.answer_left.Statement.{statement}
+use Rattle.control.proofs.create_refinement_strand.answer_left.Tie as tie
 
 returns : tie.Need-returns
 returns c = let a = c .before .args in at-caller (a .x) (a .s) (a .depth) (a .at) (c .if1 .taken)
