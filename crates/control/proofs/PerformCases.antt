@@ -12,11 +12,11 @@ use Rattle.control.specs.declared.on_no_strands_left.Idle.{Idle}
 use Rattle.control.specs.declared.perform.Flow.{Flow}
 use Rattle.control.specs.declared.select_subgoal.Made.{Made}
 use Rattle.control.specs.PerformIdle.{IdleDone}
-use Rattle.control.specs.PerformStrand.{Stores, TurnDone, strand-performed}
+use Rattle.control.specs.PerformStrand.{Lent, TurnDone, strand-performed}
 use Rattle.control.specs.Perform.{has-strand, stops, stop-flow, left-so, idle-left, idle-in, performed-by, performed}
 
 module _ (gf first-of len-of cv cf : List ℕ) (p : Next) (top : Top) (made : Made) (d : Decision) (place : ℕ) (s : Strand) (seen : ℕ)
-    (a : Answer) (i : Idle) (w : Stores) (has : Bool) (is : has ≡ has-strand i) where
+    (a : Answer) (i : Idle) (w : Lent) (has : Bool) (is : has ≡ has-strand i) where
   -- by the two tests
   abbrev by : (has st : Bool) → TurnDone
   by h st = performed-by gf first-of len-of cv cf p top made d place s seen a h st i w

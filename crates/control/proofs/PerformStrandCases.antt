@@ -26,7 +26,7 @@ use Rattle.control.specs.SelectSubgoal.{chosen}
 use Rattle.control.specs.MakeTables.{Tabling}
 use Rattle.control.specs.PerformDeed.{new-place, moving, Did, deed-done}
 use Rattle.control.specs.PerformIdle.{noted}
-use Rattle.control.specs.PerformStrand.{Stores, stores-of, copy-place, copy-noted, settled, settled-as, TurnDone}
+use Rattle.control.specs.PerformStrand.{Lent, lent-of, copy-place, copy-noted, settled, settled-as, TurnDone}
 use Rattle.control.specs.PerformStrand.{begun, stands, settled-in, left-stack, deed-in, tables-after, strand-performed}
 use Rattle.control.proofs.PerformIdleCases.{noted-is}
 
@@ -78,7 +78,7 @@ module _ (d : Decision) (place t : ℕ) (at : TimeStamp) (l l′ : Left) (is : l
   settled-so p q e = ap₂ (λ (i : ℕ) (m : Left). record { «copy_place» = i; strand = m .strand; refines = m .refines }) e is
 
 -- THE TURN
-module _ (gf first-of len-of cv cf : List ℕ) (p : Next) (top : Top) (made : Made) (d : Decision) (seen : ℕ) (w : Stores) where
+module _ (gf first-of len-of cv cf : List ℕ) (p : Next) (top : Top) (made : Made) (d : Decision) (seen : ℕ) (w : Lent) where
   -- a turn by what its stages leave
   abbrev turn-from : Tabling → Strands → Settled → Did → TurnDone
   turn-from m s c e = record {
@@ -89,7 +89,7 @@ module _ (gf first-of len-of cv cf : List ℕ) (p : Next) (top : Top) (made : Ma
     strand = c .strand;
     answer-at = e .answer-at;
     answer = d .answer;
-    stores = stores-of (tables-after gf first-of len-of cv cf p top made d seen (m .tables) (e .moved)) (with-places s (e .moved .rings))
+    lent = lent-of (tables-after gf first-of len-of cv cf p top made d seen (m .tables) (e .moved)) (with-places s (e .moved .rings))
         (e .moved .answers) (e .moved .stack) (e .moved .clock);
   }
 

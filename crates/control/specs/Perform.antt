@@ -18,7 +18,7 @@ use Rattle.control.specs.declared.perform.Performed.{Performed}
 use Rattle.control.specs.declared.select_subgoal.Made.{Made}
 use Rattle.control.specs.MakeTables.{tables-of}
 use Rattle.control.specs.PerformIdle.{idling, IdleDone, idle-done}
-use Rattle.control.specs.PerformStrand.{Stores, stores-of, TurnDone, strand-performed}
+use Rattle.control.specs.PerformStrand.{Lent, lent-of, TurnDone, strand-performed}
 
 -- `stays`
 abbrev pub stays-as : Flow → (place : ℕ) → Strand → (seen : ℕ) → Answer → Carried → Performed
@@ -68,7 +68,7 @@ stop-flow deed.Flounders = flow.Continue
 stop-flow (deed.Answers empties) = flow.Continue
 
 -- a turn that leaves the stores so, and the strand and the answer where they were read
-abbrev pub left-so : Flow → (place : ℕ) → Strand → (seen : ℕ) → Answer → Stores → TurnDone
+abbrev pub left-so : Flow → (place : ℕ) → Strand → (seen : ℕ) → Answer → Lent → TurnDone
 left-so f place s seen a w = record {
   flow = f;
   copy-at = place;
@@ -77,25 +77,25 @@ left-so f place s seen a w = record {
   strand = s;
   answer-at = seen;
   answer = a;
-  stores = w;
+  lent = w;
 }
 
 -- the stores, by what an act without a strand leaves
-abbrev pub idle-left : Stores → IdleDone → Stores
-idle-left w i = stores-of
+abbrev pub idle-left : Lent → IdleDone → Lent
+idle-left w i = lent-of
     (tables-of (w .tables .count) (w .tables .goal) (w .tables .coinductive) (w .tables .floundered) (i .left .complete)) (i .left .strands)
     (w .answers) (i .left .stack) (w .clock)
 
 -- THE MODEL of a turn: s is the strand that was read at this place, a the answer read at the place `seen`
 module _ (goal-flags goal-first goal-len clause-variant clause-flags : List ℕ) (p : Next) (top : Top) (made : Made) (d : Decision)
     (place : ℕ) (s : Strand) (seen : ℕ) (a : Answer) where
-  abbrev pub idle-in : Idle → Stores → IdleDone
+  abbrev pub idle-in : Idle → Lent → IdleDone
   idle-in i w = idle-done (top .table) place s i (idling (w .strands) (w .tables .complete) (w .stack))
 
-  abbrev pub performed-by : (has-strand stops : Bool) → Idle → Stores → TurnDone
+  abbrev pub performed-by : (has-strand stops : Bool) → Idle → Lent → TurnDone
   performed-by true true i w = left-so (stop-flow (d .deed)) place s seen a w
   performed-by true false i w = strand-performed goal-flags goal-first goal-len clause-variant clause-flags p top made d seen w
   performed-by false stops i w = left-so (idle-in i w .flow) place (idle-in i w .strand) seen a (idle-left w (idle-in i w))
 
-  abbrev pub performed : Idle → Stores → TurnDone
+  abbrev pub performed : Idle → Lent → TurnDone
   performed i w = performed-by (has-strand i) (stops (d .deed)) i w

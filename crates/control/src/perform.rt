@@ -18,7 +18,7 @@ ghost use Rattle.stores.specs.Places.{places};
 ghost use Rattle.stores.specs.Queue.{store};
 ghost use Rattle.control.specs.MakeTables.{tables-of};
 ghost use Rattle.control.specs.PerformDeed.{stack-of, answers-of};
-ghost use Rattle.control.specs.PerformStrand.{stores-of, turn-by};
+ghost use Rattle.control.specs.PerformStrand.{lent-of, turn-by};
 ghost use Rattle.control.specs.Perform.{stays-as, has-strand, stops, stop-flow, performed};
 
 // How the turn ends (definitions, `Flow`), or the number of its stop.
@@ -175,7 +175,7 @@ pub fn perform(
         (now (active .exit)))
         ≡ performed (now («goal_flags» .entry)) (now («goal_first» .entry)) (now («goal_len» .entry))
         (now («clause_variant» .entry)) (now («clause_flags» .entry)) p top made d place s seen a idle
-        (stores-of
+        (lent-of
         (tables-of (was .count) (now (goal .entry)) (now (coinductive .entry)) (now (floundered .entry)) (now (complete .entry)))
         (store strands (now (time .entry)) (now (ambiguous .entry)) (now (variant .entry)) (now (waits .entry)) (now (wants .entry))
         (places (now (next .entry)) (now (tail .entry)) (now (len .entry)) (was .used)))

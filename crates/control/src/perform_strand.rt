@@ -28,7 +28,7 @@ ghost use Rattle.control.specs.SelectSubgoal.{noted-count};
 ghost use Rattle.control.specs.MakeTables.{tables-of, tabling, tables-from};
 ghost use Rattle.control.specs.PerformDeed.{stack-of, answers-of, left-rings, left-active};
 ghost use Rattle.control.specs.CreateRefinementStrand.{strand-left};
-ghost use Rattle.control.specs.PerformStrand.{stores-of, copy-noted, copy-place};
+ghost use Rattle.control.specs.PerformStrand.{lent-of, copy-noted, copy-place};
 ghost use Rattle.control.specs.PerformStrand.{settled-as, settled, turn-by, strand-performed};
 
 // The strand leaves its origin, and the goals noted get their tables: how many tables there are then.
@@ -248,7 +248,7 @@ pub fn perform_strand(
         (now (active .exit)))
         ≡ strand-performed (now («goal_flags» .entry)) (now («goal_first» .entry)) (now («goal_len» .entry))
         (now («clause_variant» .entry)) (now («clause_flags» .entry)) p top made d seen
-        (stores-of
+        (lent-of
         (tables-of (was .count) (now (goal .entry)) (now (coinductive .entry)) (now (floundered .entry)) (now (complete .entry)))
         (store strands (now (time .entry)) (now (ambiguous .entry)) (now (variant .entry)) (now (waits .entry)) (now (wants .entry))
         (places (now (next .entry)) (now (tail .entry)) (now (len .entry)) (was .used)))

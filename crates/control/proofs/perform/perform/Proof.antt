@@ -9,7 +9,7 @@ use Rattle.control.specs.declared.perform.Performed.{Performed}
 use Rattle.control.specs.MakeTables.{tables-of}
 use Rattle.control.specs.PerformDeed.{stack-of, answers-of}
 use Rattle.control.specs.PerformIdle.{idled-by}
-use Rattle.control.specs.PerformStrand.{Stores, stores-of, TurnDone, turn-by}
+use Rattle.control.specs.PerformStrand.{Lent, lent-of, TurnDone, turn-by}
 use Rattle.control.proofs.PerformCases.{stop-is, strand-is, idle-is}
 use borrow.Author.Needs.{needs}
 use Rattle.control.proofs.perform.perform.Statement.{statement}
@@ -17,10 +17,10 @@ use Rattle.control.proofs.perform.perform.Tie as tie
 
 -- what is lent, where strands and answers are the owner's; and how a turn that leaves all of it ends
 module _ (l : tie.Start) (strands : List Strand) (answers : List Answer) where
-  abbrev lent : Stores
+  abbrev lent : Lent
   lent =
       let a = l .args in
-      stores-of (tables-of (a .was .count) (a .goal .now) (a .coinductive .now) (a .floundered .now) (a .complete .now))
+      lent-of (tables-of (a .was .count) (a .goal .now) (a .coinductive .now) (a .floundered .now) (a .complete .now))
       (store strands (a .time .now) (a .ambiguous .now) (a .variant .now) (a .waits .now) (a .wants .now)
       (places (a .next .now) (a .tail .now) (a .len .now) (a .was .used)))
       (answers-of answers (a .answer-variant .now) (a .answer-key .now) (a .answer-ambiguous .now)

@@ -9,7 +9,7 @@ use Rattle.stores.specs.Places.{places}
 use Rattle.stores.specs.Queue.{store}
 use Rattle.control.specs.MakeTables.{tables-of, tabling}
 use Rattle.control.specs.PerformDeed.{stack-of, answers-of, did-by}
-use Rattle.control.specs.PerformStrand.{stores-of}
+use Rattle.control.specs.PerformStrand.{lent-of}
 use Rattle.control.proofs.PerformStrandCases.{turn-is}
 use borrow.Author.Needs.{needs}
 use Rattle.control.proofs.perform_strand.perform_strand.Statement.{statement}
@@ -54,7 +54,7 @@ returns c =
     let stack3 = answers3 .1 .1 .1 .1 .1 .1 in
     λ strands answers. turn-is (a .goal-flags .now) (a .goal-first .now) (a .goal-len .now) (a .clause-variant .now) (a .clause-flags .now)
     (a .p) (a .top) (a .made) (a .d) (a .seen)
-    (stores-of (tables-of (a .was .count) (a .goal .now) (a .coinductive .now) (a .floundered .now) (a .complete .now))
+    (lent-of (tables-of (a .was .count) (a .goal .now) (a .coinductive .now) (a .floundered .now) (a .complete .now))
     (store strands (a .time .now) (a .ambiguous .now) (a .variant .now) (a .waits .now) (a .wants .now)
     (places (a .next .now) (a .tail .now) (a .len .now) (a .was .used)))
     (answers-of answers (a .answer-variant .now) (a .answer-key .now) (a .answer-ambiguous .now)
