@@ -38,3 +38,4 @@ pub mod PerformIdleCases
 pub mod CreateRefinementStrandCases
 pub mod PerformStrandCases
 pub mod PerformCases
+pub mod Doing

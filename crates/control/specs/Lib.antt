@@ -16,3 +16,4 @@ pub mod PerformDeed
 pub mod PerformIdle
 pub mod PerformStrand
 pub mod Perform
+pub mod Doing
