@@ -53,7 +53,7 @@ changed-is z t h change =
     ]) (table-there (first-strands (z .book)) (z .tables) (z .strands) (z .answers) t h)
 
 -- a forest by its tables
-forest-is : (z : Stores) (l m : List Table) → l ≡ m → forests.with-tables (forest z) l ≡ forests.with-tables (forest z) m
+pub forest-is : (z : Stores) (l m : List Table) → l ≡ m → forests.with-tables (forest z) l ≡ forests.with-tables (forest z) m
 forest-is z l m e = ap (forests.with-tables (forest z)) e
 
 -- other rings: what stands at the places is as it was

@@ -39,3 +39,4 @@ pub mod CreateRefinementStrandCases
 pub mod PerformStrandCases
 pub mod PerformCases
 pub mod Doing
+pub mod DoingStack
