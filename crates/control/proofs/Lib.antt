@@ -40,3 +40,4 @@ pub mod PerformStrandCases
 pub mod PerformCases
 pub mod Doing
 pub mod DoingStack
+pub mod DoingTables
