@@ -17,3 +17,4 @@ pub mod PerformIdle
 pub mod PerformStrand
 pub mod Perform
 pub mod Doing
+pub mod Performing
