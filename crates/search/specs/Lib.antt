@@ -1,0 +1,2 @@
+pub mod Course
+pub mod RootAnswer

@@ -1,0 +1,3 @@
+// A search: the loop that owns the strands and the answers, and all that is done before its first turn and after its last.
+pub mod course;
+pub mod root_answer;
