@@ -1,2 +1,4 @@
 pub mod Course
 pub mod RootAnswer
+pub mod EnsureRootAnswer
+pub mod Walk
