@@ -5,30 +5,42 @@ use native.Mathlib.Nat.{mod-eq-of-lt}
 use native.Mathlib.Omega.{arith}
 use mathlib.Core.Bool.{Bool, true, false}
 use mathlib.Core.List.{List, [], _∷_}
+use mathlib.Core.Option.{Option, none, some}
 use mathlib.Core.Path.{_≡_, refl, sym, ap, subst, _∙_}
+use lib.Dec.{ltb}
 use lib.ListN.{getD, set}
-use Rattle.definitions.specs.{Minimums, MAX}
+use borrow.Author.Tests.{lt-ltb, le-ltb}
+use Rattle.definitions.specs.{TimeStamp, Minimums, MAX}
 use Rattle.definitions.specs.Book as books
-use Rattle.definitions.specs.Logic.{SolveState}
+use Rattle.definitions.specs.Logic.{SolveState, continue, return-ok}
+use Rattle.definitions.specs.Stop.{go}
 use Rattle.definitions.specs.Strand as held
-use Rattle.definitions.specs.Table.{mark-floundered}
-use Rattle.definitions.specs.Turn.{cycle-minimums}
+use Rattle.definitions.specs.Table.{take-strands, mark-floundered}
+use Rattle.definitions.specs.Turn.{cycle-minimums, create-refinement-strand}
 use Rattle.split.specs.Acts as split
-use Rattle.strands.specs.View.{is-negative}
-use Rattle.stores.specs.Queue.{with-places, given}
-use Rattle.stores.specs.Stack.{activated}
-use Rattle.stores.specs.Table.{with-answer-places, marked}
+use Rattle.strands.specs.declared.Answer.{Answer}
+use Rattle.strands.specs.declared.Strand.{Strand}
+use Rattle.strands.specs.Making.{refinement-by, refine}
+use Rattle.strands.specs.View.{is-negative, seen, answer}
+use Rattle.strands.proofs.MakeViews.{refine-view}
+use Rattle.stores.specs.Places.{enqueued, free-place}
+use Rattle.stores.specs.Queue.{with-places, enqueued-strand, given}
+use Rattle.stores.specs.Stack.{popped, activated}
+use Rattle.stores.specs.Sound.{GoodAnswer}
+use Rattle.stores.specs.Table.{answer-stored}
 use Rattle.stores.specs.View.{strand-at}
-use Rattle.control.specs.Doing.{with-lent, with-strands, with-stack, Sounds, state-above}
+use Rattle.control.specs.declared.create_refinement_strand.Left.{Left}
+use Rattle.control.specs.CreateRefinementStrand.{answer-left-by, answer-left}
+use Rattle.control.specs.Doing.{with-lent, with-strands, with-answers, with-stack, Sounds, state-above, flows}
 use Rattle.control.specs.MakeTables.{tables-of}
 use Rattle.control.specs.OnPositiveCycle.{cycled}
-use Rattle.control.specs.PerformDeed.{Moving, moving, requeued, given-away, table-pushed, table-floundered, emptied}
+use Rattle.control.specs.PerformDeed.{Moving, moving, requeued, given-away, table-pushed, table-floundered, emptied-if, seated, answer-flow}
 use Rattle.control.specs.PerformDeed as deeds
 use Rattle.control.specs.PerformStrand.{lent-of}
 use Rattle.control.specs.Stores.{Stores, first-strands, state}
 use Rattle.control.proofs.Doing.{state-is, queued-sound, queued-view, freed-sound, freed-view, active-sound, active-view}
-use Rattle.control.proofs.DoingStack.{cycled-sound, cycled-view, pushed-sound, pushed-view, gone-sound, gone-view}
-use Rattle.control.proofs.DoingTables.{floundered-sound, floundered-view}
+use Rattle.control.proofs.DoingStack.{cycled-sound, cycled-view, popped-sound, popped-view, pushed-sound, pushed-view, gone-sound, gone-view}
+use Rattle.control.proofs.DoingTables.{emptied-sound, emptied-view, floundered-sound, floundered-view, stored-sounds, answer-view, then-changed}
 
 -- WHAT A DEED MOVES of stores, and the stores with what it has moved
 abbrev pub moving-in : Stores → Moving
@@ -124,3 +136,114 @@ module _ (y : Stores) (n : ℕ) (depth : y .stack .depth ≡ suc n) (q : ℕ) (o
             ∙ ap split.gone (freed-view floundered q p n ∙ floundered-view y n depth (q ∷ []) o);
         sound = gone-sound floundered-without n depth r idle;
       }
+
+-- AN ANSWER IS GIVEN
+
+-- what is left of the strand once the answer is stored: a refinement strand at the root, or nothing; then the top is popped
+abbrev refined-by : Option held.Strand → SolveState → SolveState
+refined-by r s = elim r as (λ (o : Option held.Strand). SolveState) [ none ↦ s | some strand ↦ split.queued-at-top strand s ]
+
+abbrev seated-in : (y : Stores) → (t q : ℕ) → (refines : Bool) → Stores
+seated-in y t q refines = with-lent (lent-of (y .tables) (with-places (y .strands) (enqueued (seated refines t) q (y .strands .places)))
+    (y .answers) (popped (y .stack)) (y .clock)) y
+
+pub record Ends (root : Bool) (a : Answer) (s : SolveState) (z : Stores) : Type 0 where
+  pub view : flows (answer-flow root) (state z) ≡ go (split.answered (answer a) s)
+  pub sound : Sounds [] z
+
+-- no entry is below the top: it is the root
+module _ (y : Stores) (depth : y .stack .depth ≡ 1) (q : ℕ) (o : Sounds (q ∷ []) y) (idle : getD (y .stack .active) 0 0 ≡ 256) (a : Answer)
+    (s : Strand) (c : TimeStamp) where
+  root-ends : (made : Bool) (f : Strand) → refinement-by made (seen 0 f) ≡ create-refinement-strand (answer a)
+      → strand-at (first-strands (y .book)) (y .strands) q
+      ≡ seen (answer-left-by true made s f c .time) (answer-left-by true made s f c .strand)
+      → Ends true a (state-above 0 y) (seated-in y (getD (y .stack .table) 0 0) q (answer-left-by true made s f c .refines))
+  root-ends true f e shown =
+      let y′ : Stores = with-strands (enqueued-strand (getD (y .stack .table) 0 0) q (y .strands)) y in
+      let p = queued-sound y q o 0 depth in
+      record {
+        view = ap (λ (x : SolveState). go (return-ok x)) (popped-view y′ 0 depth [] p idle
+            ∙ ap split.popped (queued-view y q o 0 depth)
+            ∙ ap (λ (x : held.Strand). split.popped (split.queued-at-top x (state-above 0 y))) shown
+            ∙ ap (λ (r : Option held.Strand). record { forest = refined-by r (state-above 0 y) .forest; stack = [] }) e);
+        sound = popped-sound y′ 0 depth [] p idle;
+      }
+  root-ends false f e shown =
+      let y′ : Stores = with-strands (given q (y .strands)) y in
+      let p = freed-sound y q o in
+      record {
+        view = ap (λ (x : SolveState). go (return-ok x)) (popped-view y′ 0 depth [] p idle
+            ∙ ap split.popped (freed-view y q o 0)
+            ∙ ap (λ (r : Option held.Strand). record { forest = refined-by r (state-above 0 y) .forest; stack = [] }) e);
+        sound = popped-sound y′ 0 depth [] p idle;
+      }
+
+-- a caller is below it
+module _ (y : Stores) (n : ℕ) (depth : y .stack .depth ≡ suc (suc n)) (q : ℕ) (o : Sounds (q ∷ []) y)
+    (idle : getD (y .stack .active) (suc n) 0 ≡ 256) (a : Answer) where
+  caller-ends : Ends false a (state-above (suc n) y) (seated-in y (getD (y .stack .table) (suc n) 0) q false)
+  caller-ends =
+      let y′ : Stores = with-strands (given q (y .strands)) y in
+      let p = freed-sound y q o in
+      record {
+        view = ap (λ (x : SolveState). go (continue x)) (popped-view y′ (suc n) depth [] p idle
+            ∙ ap split.popped (freed-view y q o (suc n)));
+        sound = popped-sound y′ (suc n) depth [] p idle;
+      }
+
+-- either, by the depth
+module _ (y : Stores) (q : ℕ) (o : Sounds (q ∷ []) y) (a : Answer) (good : GoodAnswer a) (s : Strand) (c : TimeStamp) where
+  abbrev left-by : (root : Bool) → Left
+  left-by root = answer-left-by root (refine a .made) s (refine a .strand) c
+
+  abbrev shown-by : (root : Bool) → Type 0
+  shown-by root = strand-at (first-strands (y .book)) (y .strands) q ≡ seen (left-by root .time) (left-by root .strand)
+
+  abbrev ends-by : (n : ℕ) → (root : Bool) → Type 0
+  ends-by n root =
+      shown-by root → Ends root a (state-above n y) (seated-in y (getD (y .stack .table) n 0) q (left-by root .refines))
+
+  answer-ends : (n : ℕ) → y .stack .depth ≡ suc n → getD (y .stack .active) n 0 ≡ 256 → ends-by n (ltb (y .stack .depth) 2)
+  answer-ends zero depth idle =
+      subst (ends-by 0) (sym (lt-ltb (y .stack .depth) 2 (omega arith)))
+      (root-ends y depth q o idle a s c (refine a .made) (refine a .strand) (refine-view a (good .sound .delayed-long)))
+  answer-ends (suc n) depth idle =
+      subst (ends-by (suc n)) (sym (le-ltb (y .stack .depth) 2 (omega arith))) (λ shown. caller-ends y n depth q o idle a)
+
+-- the answer is stored, and the queue emptied where that is told
+module _ (y : Stores) (n : ℕ) (depth : y .stack .depth ≡ suc n) (q : ℕ) (o : Sounds (q ∷ []) y) (a : Answer) (good : GoodAnswer a)
+    (room : free-place (y .answers .places) < 256) where
+  abbrev top : ℕ
+  top = getD (y .stack .table) n 0
+
+  abbrev with-answer : Stores
+  with-answer = with-answers (answer-stored top a (y .answers)) y
+
+  abbrev answering : (empties : Bool) → Stores
+  answering empties = with-strands (with-places (y .strands) (emptied-if empties top (y .strands .places))) with-answer
+
+  answering-sound : (empties : Bool) → Sounds (q ∷ []) (answering empties)
+  answering-sound true = emptied-sound with-answer n depth (q ∷ []) (stored-sounds y n depth (q ∷ []) o a good room)
+  answering-sound false = stored-sounds y n depth (q ∷ []) o a good room
+
+  answering-view : (empties : Bool)
+      → state-above n (answering empties) ≡ split.top-table (split.stored (answer a) empties) (state-above n y)
+  answering-view true =
+      emptied-view with-answer n depth (q ∷ []) (stored-sounds y n depth (q ∷ []) o a good room)
+      ∙ ap (split.top-table take-strands) (answer-view y n depth (q ∷ []) o a good room)
+      ∙ then-changed y n (o .made n (omega arith)) (split.stored (answer a) false) take-strands
+  answering-view false = answer-view y n depth (q ∷ []) o a good room
+
+  module _ (idle : getD (y .stack .active) n 0 ≡ 256) (s : Strand) (c : TimeStamp) where
+    abbrev left-at : Left
+    left-at = answer-left (y .stack .depth) a s c
+
+    answers : (empties : Bool) → strand-at (first-strands (y .book)) (y .strands) q ≡ seen (left-at .time) (left-at .strand)
+        → Ends (ltb (y .stack .depth) 2) a (split.top-table (split.stored (answer a) empties) (state-above n y))
+        (seated-in (answering empties) top q (left-at .refines))
+    answers empties shown =
+        let r = answer-ends (answering empties) q (answering-sound empties) a good s c n depth idle shown in
+        record {
+          view = r .view ∙ ap (λ (x : SolveState). go (split.answered (answer a) x)) (answering-view empties);
+          sound = r .sound;
+        }
