@@ -65,7 +65,7 @@ module _ (y : Stores) (n : ℕ) (depth : y .stack .depth ≡ suc n) (q : ℕ) (o
   t = getD (y .stack .table) n 0
 
   -- the strand goes on
-  goes-on : Comes (split.activated (strand-at (first-strands (y .book)) (y .strands) q) (state-above n y))
+  pub goes-on : Comes (split.activated (strand-at (first-strands (y .book)) (y .strands) q) (state-above n y))
       (moved-in y (deeds.with-stack m (activated q (y .stack))))
   goes-on = record {
     view = state-is (with-stack (activated q (y .stack)) y) n depth ∙ active-view y n depth q o idle;
@@ -76,14 +76,14 @@ module _ (y : Stores) (n : ℕ) (depth : y .stack .depth ≡ suc n) (q : ℕ) (o
   abbrev without : Stores
   without = with-strands (given q (y .strands)) y
 
-  gives-up : Comes (split.gone (state-above n y)) (moved-in y (given-away q m))
+  pub gives-up : Comes (split.gone (state-above n y)) (moved-in y (given-away q m))
   gives-up = record {
     view = gone-view without n depth (freed-sound y q o) idle ∙ ap split.gone (freed-view y q o n);
     sound = gone-sound without n depth (freed-sound y q o) idle;
   }
 
   -- it goes back to the queue of the top's table
-  requeues : Comes (split.queued-at-top (strand-at (first-strands (y .book)) (y .strands) q) (state-above n y)) (moved-in y (requeued t q m))
+  pub requeues : Comes (split.queued-at-top (strand-at (first-strands (y .book)) (y .strands) q) (state-above n y)) (moved-in y (requeued t q m))
   requeues = record {
     view = state-is (moved-in y (requeued t q m)) n depth ∙ queued-view y q o n depth;
     sound = queued-sound y q o n depth;
@@ -94,7 +94,7 @@ module _ (y : Stores) (n : ℕ) (depth : y .stack .depth ≡ suc n) (q : ℕ) (o
     abbrev cycling : Stores
     cycling = with-stack (cycled (is-negative l) r (y .stack)) y
 
-    cycles : Comes (split.queued-at-top (strand-at (first-strands (y .book)) (y .strands) q)
+    pub cycles : Comes (split.queued-at-top (strand-at (first-strands (y .book)) (y .strands) q)
         (split.top-entry (cycle-minimums l r) (state-above n y)))
         (moved-in y (requeued t q (deeds.with-stack m (cycled (is-negative l) r (y .stack)))))
     cycles =
@@ -110,7 +110,7 @@ module _ (y : Stores) (n : ℕ) (depth : y .stack .depth ≡ suc n) (q : ℕ) (o
     abbrev waiting : Stores
     waiting = with-stack (activated q (y .stack)) y
 
-    pushes : Comes (split.pushed table (split.activated (strand-at (first-strands (y .book)) (y .strands) q) (state-above n y)))
+    pub pushes : Comes (split.pushed table (split.activated (strand-at (first-strands (y .book)) (y .strands) q) (state-above n y)))
         (moved-in y (table-pushed table q m))
     pushes =
         let p = active-sound y n depth q o idle in
@@ -127,7 +127,7 @@ module _ (y : Stores) (n : ℕ) (depth : y .stack .depth ≡ suc n) (q : ℕ) (o
   abbrev floundered-without : Stores
   floundered-without = with-strands (given q (floundered .strands)) floundered
 
-  flounders : Comes (split.gone (split.top-table mark-floundered (state-above n y))) (moved-in y (given-away q (table-floundered t m)))
+  pub flounders : Comes (split.gone (split.top-table mark-floundered (state-above n y))) (moved-in y (given-away q (table-floundered t m)))
   flounders =
       let p = floundered-sound y n depth (q ∷ []) o in
       let r = freed-sound floundered q p in
@@ -238,7 +238,7 @@ module _ (y : Stores) (n : ℕ) (depth : y .stack .depth ≡ suc n) (q : ℕ) (o
     abbrev left-at : Left
     left-at = answer-left (y .stack .depth) a s c
 
-    answers : (empties : Bool) → strand-at (first-strands (y .book)) (y .strands) q ≡ seen (left-at .time) (left-at .strand)
+    pub answers : (empties : Bool) → strand-at (first-strands (y .book)) (y .strands) q ≡ seen (left-at .time) (left-at .strand)
         → Ends (ltb (y .stack .depth) 2) a (split.top-table (split.stored (answer a) empties) (state-above n y))
         (seated-in (answering empties) top q (left-at .refines))
     answers empties shown =

@@ -43,3 +43,4 @@ pub mod DoingStack
 pub mod DoingTables
 pub mod DoingSettled
 pub mod DoingDeeds
+pub mod DoingDecision

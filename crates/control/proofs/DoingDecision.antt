@@ -1,0 +1,174 @@
+-- The deed of a turn with a strand, done: the copy and the strand are settled, then the deed, for sound stores that the strand has left its
+-- origin in and whose tables are made.
+use Prim.Native.Nat.{ℕ, suc, _<_}
+use native.Mathlib.Nat.{mod-eq-of-lt}
+use native.Mathlib.Omega.{arith}
+use mathlib.Core.Bool.{Bool, true, false}
+use mathlib.Core.List.{List, [], _∷_}
+use mathlib.Core.Path.{_≡_, refl, sym, ap, ap₂, subst, _∙_}
+use lib.Dec.{ltb}
+use lib.ListN.{getD, set}
+use lib.Seq.{set-getD}
+use borrow.Author.Tests.{lt-ltb}
+use Rattle.definitions.specs.{TimeStamp, Minimums, MAX}
+use Rattle.definitions.specs.Book as books
+use Rattle.definitions.specs.Logic as logic
+use Rattle.definitions.specs.Logic.{SolveState, continue, return-err}
+use Rattle.definitions.specs.Stop.{go, _>>=_}
+use Rattle.definitions.specs.Strand as held
+use Rattle.definitions.specs.Table.{mark-floundered}
+use Rattle.definitions.specs.Turn.{cycle-minimums}
+use Rattle.split.specs.Acts as split
+use Rattle.book.specs.View.{meant}
+use Rattle.strands.specs.declared.Answer.{Answer}
+use Rattle.strands.specs.declared.Strand.{Strand}
+use Rattle.strands.specs.View.{is-negative, seen, answer}
+use Rattle.stores.specs.declared.table.Answers.{Answers}
+use Rattle.stores.specs.Numbers.{number-if}
+use Rattle.stores.specs.Places.{free-place}
+use Rattle.stores.specs.Queue.{with-places}
+use Rattle.stores.specs.Table.{answer-stored}
+use Rattle.stores.specs.View.{unread-answer, strand-at}
+use Rattle.control.specs.declared.decision.Decision.{Decision}
+use Rattle.control.specs.declared.decision.Deed.{Deed}
+use Rattle.control.specs.declared.decision.Deed.the-variants.{Stop, GoesOn, GivesUp, Cycles, Pushes, Requeues, Flounders}
+use Rattle.control.specs.declared.decision.Deed.the-variants.{Answers as Answering}
+use Rattle.control.specs.declared.ensure_root_answer.Next.{Next}
+use Rattle.control.specs.declared.ensure_root_answer.Top.{Top}
+use Rattle.control.specs.declared.select_subgoal.Made.{Made}
+use Rattle.control.specs.CreateRefinementStrand.{gives-answer}
+use Rattle.control.specs.Decision.{decided, copy-by, last-literal, meaning}
+use Rattle.control.specs.Doing.{lent, with-lent, with-strands, Sounds, state-above, flows}
+use Rattle.control.specs.MakeTables.{tables-of}
+use Rattle.control.specs.OnPositiveCycle.{met-at}
+use Rattle.control.specs.Perform.{stops}
+use Rattle.control.specs.PerformDeed.{answers-of, new-place, answer-kept, Moving, moving, Did, deed-done}
+use Rattle.control.specs.PerformStrand.{lent-of, copy-place, settled, TurnDone, begun, left-stack, strand-performed}
+use Rattle.control.specs.Performing.{put}
+use Rattle.control.specs.SelectSubgoal.{chosen}
+use Rattle.control.specs.Stores.{Stores, first-strands, state}
+use Rattle.control.specs.Turn.{KeptDecision}
+use Rattle.control.proofs.Seen.{chosen-means}
+use Rattle.control.proofs.DoingSettled.{Settles, stands, settled-strands, settled-sounds}
+use Rattle.control.proofs.DoingDeeds.{moving-in, moved-in, Comes, Ends, goes-on, gives-up, requeues, cycles, pushes, flounders, answers}
+
+-- WHAT A DEED NEEDS, of the stores that it is done to. Two deeds may come with a copy.
+abbrev pub may-copy : Deed → Bool
+may-copy (Stop n) = false
+may-copy GoesOn = true
+may-copy GivesUp = true
+may-copy (Cycles height) = false
+may-copy (Pushes table) = false
+may-copy Requeues = false
+may-copy Flounders = false
+may-copy (Answering empties) = false
+
+-- `read` is the place of the answer that was read: where none is given, it is written there again
+pub record Able (d : Decision) (read : ℕ) (z : Stores) : Type 0 where
+  pub copy-fits : d .copies ≡ true → free-place (z .strands .places) < 256
+  pub no-copy : may-copy (d .deed) ≡ false → d .copies ≡ false
+  pub answer-fits : gives-answer (d .deed) ≡ true → free-place (z .answers .places) < 256
+  pub same-answer : gives-answer (d .deed) ≡ false → d .answer ≡ getD (z .answers .answers) read unread-answer
+  pub meets : (height : ℕ) → d .deed ≡ Cycles height → height < z .stack .depth
+  pub is-made : (table : ℕ) → d .deed ≡ Pushes table → table < z .tables .count
+  pub has-room : (table : ℕ) → d .deed ≡ Pushes table → z .stack .depth < 64
+  pub in-time : (table : ℕ) → d .deed ≡ Pushes table → z .clock < MAX
+
+-- WHAT IS DONE to the stores z, by the decision d about the strand at q, for the top's table t at its clock c
+module _ (z : Stores) (d : Decision) (t q : ℕ) (c : TimeStamp) (read : ℕ) where
+  abbrev pub settled-stores : Stores
+  settled-stores = with-strands (settled-strands z d t q c) z
+
+  abbrev pub deed-did : Did
+  deed-did = deed-done (is-negative (meant (chosen (d .strand)))) (stands z d t q c .refines) (d .answer) t q read (d .deed)
+      (moving-in settled-stores)
+
+  abbrev pub deed-left : TurnDone
+  deed-left =
+      let m : Moving = deed-did .moved in
+      record {
+        flow = deed-did .flow;
+        copy-at = copy-place (d .copies) q (z .strands .places);
+        copy = d .copy;
+        strand-at = q;
+        strand = stands z d t q c .strand;
+        answer-at = deed-did .answer-at;
+        answer = d .answer;
+        lent = lent-of (tables-of (z .tables .count) (z .tables .goal) (z .tables .coinductive) (m .floundered) (z .tables .complete))
+            (with-places (settled d (stands z d t q c) t q c (z .strands)) (m .rings)) (m .answers) (m .stack) (m .clock);
+      }
+
+  abbrev pub after-deed : Stores
+  after-deed = with-lent (put deed-left) z
+
+  pub record PerformsDeed (n : ℕ) : Type 0 where
+    pub does : flows (deed-left .flow) (state after-deed)
+        ≡ (meaning c (λ h. getD (z .stack .clock) h 0) d >>= λ deed. go (split.perform-deed deed (state-above n z)))
+    pub sound : Sounds [] after-deed
+
+-- It is the turn with a strand, where z is what leaving and making the tables leave of z′.
+module _ (gf first-of len-of cv cf : List ℕ) (p : Next) (top : Top) (made : Made) (d : Decision) (read : ℕ) (z : Stores) where
+  abbrev pub begun-stores : Stores
+  begun-stores =
+      let b = begun gf first-of len-of cv cf p top made d read (lent z) in
+      with-lent (lent-of (b .tables) (b .strands) (z .answers) (left-stack gf first-of len-of cv cf p top made d read (z .stack)) (z .clock)) z
+
+  pub after-begun : with-lent (put (strand-performed gf first-of len-of cv cf p top made d read (lent z))) z
+      ≡ after-deed begun-stores d (top .table) (p .place) (top .clock) read
+  after-begun = refl
+
+-- THE PARTS of it, over variables
+-- with the answer that the owner writes
+abbrev answer-put : (i : ℕ) → Answer → Moving → Moving
+answer-put i a m = moving (m .rings) (m .floundered)
+    (answers-of (set (m .answers .answers) i a) (m .answers .variant) (m .answers .key) (m .answers .ambiguous) (m .answers .places))
+    (m .stack) (m .clock)
+
+-- which is the one that stands there
+put-again : (y : Stores) (m : Moving) (i : ℕ) (a : Answer) (s : SolveState) → a ≡ getD (m .answers .answers) i unread-answer
+    → Comes s (moved-in y m) → Comes s (moved-in y (answer-put i a m))
+put-again y m i a s e =
+    subst (λ (l : List Answer). Comes s (moved-in y (moving (m .rings) (m .floundered)
+    (answers-of l (m .answers .variant) (m .answers .key) (m .answers .ambiguous) (m .answers .places)) (m .stack) (m .clock))))
+    (sym (ap (set (m .answers .answers) i) e ∙ set-getD (m .answers .answers) i unread-answer))
+
+uncopied : (copies : Bool) (x : held.Strand) (s : SolveState) → copies ≡ false → split.copied (copy-by copies x) s ≡ s
+uncopied copies x s e = ap (λ (b : Bool). split.copied (copy-by b x) s) e
+
+-- a cycle that ends at an entry of the stack
+met-is : (clock : List ℕ) (height : ℕ) → height < 64 → met-at clock height ≡ record { positive = getD clock height 0; negative = MAX }
+met-is clock height h = ap (λ (b : Bool). record { positive = number-if b (getD clock height 0); negative = MAX }) (lt-ltb height 64 h)
+
+module _ (z : Stores) (n : ℕ) (depth : z .stack .depth ≡ suc n) (q : ℕ) (o : Sounds (q ∷ []) z) (idle : getD (z .stack .active) n 0 ≡ 256)
+    (c : TimeStamp) (read : ℕ) where
+  abbrev t : ℕ
+  t = getD (z .stack .table) n 0
+
+  abbrev s : SolveState
+  s = state-above n z
+
+  abbrev Does : Decision → Type 0
+  Does d = KeptDecision d → Able d read z → PerformsDeed z d t q c read n
+
+  module _ (copies : Bool) (x copy : Strand) (a : Answer) where
+    settles : (deed : Deed) → KeptDecision (decided deed copies x copy a) → Able (decided deed copies x copy a) read z
+        → Settles z n q copies c copy (stands z (decided deed copies x copy a) t q c .time)
+        (stands z (decided deed copies x copy a) t q c .strand) (settled-strands z (decided deed copies x copy a) t q c)
+    settles deed k can = settled-sounds z n depth q o (decided deed copies x copy a) k (can .copy-fits) c
+
+    abbrev stores-for : Deed → Stores
+    stores-for deed = settled-stores z (decided deed copies x copy a) t q c read
+
+    abbrev moves : Deed → Moving
+    moves deed = deed-did z (decided deed copies x copy a) t q c read .moved
+
+    does-go-on : Does (decided GoesOn copies x copy a)
+    does-go-on k can =
+        let r = settles GoesOn k can in
+        let w = put-again (stores-for GoesOn) (moves GoesOn) read a
+        (split.activated (strand-at (first-strands (z .book)) (stores-for GoesOn .strands) q) (state-above n (stores-for GoesOn)))
+        (can .same-answer refl) (goes-on (stores-for GoesOn) n depth q (r .sound) idle) in
+        record {
+          does = ap (λ (v : SolveState). go (continue v)) (w .view ∙ ap₂ split.activated (r .shown) (r .view));
+          sound = w .sound;
+        }
