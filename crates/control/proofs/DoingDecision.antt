@@ -172,3 +172,74 @@ module _ (z : Stores) (n : ℕ) (depth : z .stack .depth ≡ suc n) (q : ℕ) (o
           does = ap (λ (v : SolveState). go (continue v)) (w .view ∙ ap₂ split.activated (r .shown) (r .view));
           sound = w .sound;
         }
+
+    does-give-up : Does (decided GivesUp copies x copy a)
+    does-give-up k can =
+        let y : Stores = stores-for GivesUp in
+        let r = settles GivesUp k can in
+        let w = put-again y (moves GivesUp) read a (split.gone (state-above n y)) (can .same-answer refl)
+        (gives-up y n depth q (r .sound) idle) in
+        record {
+          does = ap (λ (v : SolveState). go (return-err logic.QuantumExceeded v)) (w .view ∙ ap split.gone (r .view));
+          sound = w .sound;
+        }
+
+    does-requeue : Does (decided Requeues copies x copy a)
+    does-requeue k can =
+        let y : Stores = stores-for Requeues in
+        let r = settles Requeues k can in
+        let w = put-again y (moves Requeues) read a
+        (split.queued-at-top (strand-at (first-strands (z .book)) (y .strands) q) (state-above n y)) (can .same-answer refl)
+        (requeues y n depth q (r .sound) idle) in
+        record {
+          does = ap (λ (v : SolveState). go (return-err logic.QuantumExceeded v))
+              (w .view ∙ ap₂ split.queued-at-top (r .shown) (r .view ∙ uncopied copies (seen c copy) s (can .no-copy refl)));
+          sound = w .sound;
+        }
+
+    does-push : (table : ℕ) → Does (decided (Pushes table) copies x copy a)
+    does-push table k can =
+        let y : Stores = stores-for (Pushes table) in
+        let r = settles (Pushes table) k can in
+        let w = put-again y (moves (Pushes table)) read a
+        (split.pushed table (split.activated (strand-at (first-strands (z .book)) (y .strands) q) (state-above n y)))
+        (can .same-answer refl)
+        (pushes y n depth q (r .sound) idle table (can .is-made table refl) (can .has-room table refl) (can .in-time table refl)) in
+        record {
+          does = ap (λ (v : SolveState). go (continue v)) (w .view ∙ ap (split.pushed table)
+              (ap₂ split.activated (r .shown) (r .view ∙ uncopied copies (seen c copy) s (can .no-copy refl))));
+          sound = w .sound;
+        }
+
+    does-flounder : Does (decided Flounders copies x copy a)
+    does-flounder k can =
+        let y : Stores = stores-for Flounders in
+        let r = settles Flounders k can in
+        let w = put-again y (moves Flounders) read a (split.gone (split.top-table mark-floundered (state-above n y)))
+        (can .same-answer refl) (flounders y n depth q (r .sound) idle) in
+        record {
+          does = ap (λ (v : SolveState). go (return-err logic.QuantumExceeded v)) (w .view ∙ ap
+              (λ (v : SolveState). split.gone (split.top-table mark-floundered v))
+              (r .view ∙ uncopied copies (seen c copy) s (can .no-copy refl)));
+          sound = w .sound;
+        }
+
+    does-cycle : (height : ℕ) → Does (decided (Cycles height) copies x copy a)
+    does-cycle height k can =
+        let y : Stores = stores-for (Cycles height) in
+        let l : books.Literal = meant (chosen x) in
+        let f : Minimums = met-at (z .stack .clock) height in
+        let f′ : Minimums = record { positive = getD (z .stack .clock) height 0; negative = MAX } in
+        let r = settles (Cycles height) k can in
+        let w = put-again y (moves (Cycles height)) read a
+        (split.queued-at-top (strand-at (first-strands (z .book)) (y .strands) q)
+        (split.top-entry (cycle-minimums l f) (state-above n y))) (can .same-answer refl) (cycles y n depth q (r .sound) idle l f) in
+        let few : height < 64 = omega (arith, can .meets height refl, o .stack .few) in
+        record {
+          does = ap (λ (v : SolveState). go (continue v)) (w .view
+              ∙ ap₂ (λ (v : held.Strand) (u : SolveState). split.queued-at-top v (split.top-entry (cycle-minimums l f) u)) (r .shown)
+              (r .view ∙ uncopied copies (seen c copy) s (can .no-copy refl))
+              ∙ ap₂ (λ (i : books.Literal) (j : Minimums). split.queued-at-top (seen c x) (split.top-entry (cycle-minimums i j) s))
+              (chosen-means x (k .strand)) (met-is (z .stack .clock) height few));
+          sound = w .sound;
+        }
