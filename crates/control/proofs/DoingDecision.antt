@@ -3,7 +3,7 @@
 use Prim.Native.Nat.{ℕ, suc, _<_}
 use native.Mathlib.Nat.{mod-eq-of-lt}
 use native.Mathlib.Omega.{arith}
-use mathlib.Core.Bool.{Bool, true, false}
+use mathlib.Core.Bool.{Bool, true, false, true≢false}
 use mathlib.Core.List.{List, [], _∷_}
 use mathlib.Core.Path.{_≡_, refl, sym, ap, ap₂, subst, _∙_}
 use lib.Dec.{ltb}
@@ -23,12 +23,13 @@ use Rattle.book.specs.View.{meant}
 use Rattle.strands.specs.declared.Answer.{Answer}
 use Rattle.strands.specs.declared.Strand.{Strand}
 use Rattle.strands.specs.View.{is-negative, seen, answer}
-use Rattle.stores.specs.declared.table.Answers.{Answers}
 use Rattle.stores.specs.Numbers.{number-if}
-use Rattle.stores.specs.Places.{free-place}
+use Rattle.stores.specs.Places.{enqueued, freed, free-place}
 use Rattle.stores.specs.Queue.{with-places}
-use Rattle.stores.specs.Table.{answer-stored}
+use Rattle.stores.specs.Stack.{popped}
+use Rattle.stores.specs.Table.{with-answer-places, written-answer}
 use Rattle.stores.specs.View.{unread-answer, strand-at}
+use Rattle.control.specs.declared.create_refinement_strand.Left.{Left}
 use Rattle.control.specs.declared.decision.Decision.{Decision}
 use Rattle.control.specs.declared.decision.Deed.{Deed}
 use Rattle.control.specs.declared.decision.Deed.the-variants.{Stop, GoesOn, GivesUp, Cycles, Pushes, Requeues, Flounders}
@@ -37,12 +38,12 @@ use Rattle.control.specs.declared.ensure_root_answer.Next.{Next}
 use Rattle.control.specs.declared.ensure_root_answer.Top.{Top}
 use Rattle.control.specs.declared.select_subgoal.Made.{Made}
 use Rattle.control.specs.CreateRefinementStrand.{gives-answer}
-use Rattle.control.specs.Decision.{decided, copy-by, last-literal, meaning}
+use Rattle.control.specs.Decision.{decided, copy-by, meaning}
 use Rattle.control.specs.Doing.{lent, with-lent, with-strands, Sounds, state-above, flows}
 use Rattle.control.specs.MakeTables.{tables-of}
 use Rattle.control.specs.OnPositiveCycle.{met-at}
 use Rattle.control.specs.Perform.{stops}
-use Rattle.control.specs.PerformDeed.{answers-of, new-place, answer-kept, Moving, moving, Did, deed-done}
+use Rattle.control.specs.PerformDeed.{answers-of, emptied-if, seated, Moving, moving, Did, deed-done}
 use Rattle.control.specs.PerformStrand.{lent-of, copy-place, settled, TurnDone, begun, left-stack, strand-performed}
 use Rattle.control.specs.Performing.{put}
 use Rattle.control.specs.SelectSubgoal.{chosen}
@@ -50,7 +51,8 @@ use Rattle.control.specs.Stores.{Stores, first-strands, state}
 use Rattle.control.specs.Turn.{KeptDecision}
 use Rattle.control.proofs.Seen.{chosen-means}
 use Rattle.control.proofs.DoingSettled.{Settles, stands, settled-strands, settled-sounds}
-use Rattle.control.proofs.DoingDeeds.{moving-in, moved-in, Comes, Ends, goes-on, gives-up, requeues, cycles, pushes, flounders, answers}
+use Rattle.control.proofs.DoingDeeds.{moving-in, moved-in, Comes, Ends}
+use Rattle.control.proofs.DoingDeeds.{goes-on, gives-up, requeues, cycles, pushes, flounders, answers}
 
 -- WHAT A DEED NEEDS, of the stores that it is done to. Two deeds may come with a copy.
 abbrev pub may-copy : Deed → Bool
@@ -106,12 +108,13 @@ module _ (z : Stores) (d : Decision) (t q : ℕ) (c : TimeStamp) (read : ℕ) wh
         ≡ (meaning c (λ h. getD (z .stack .clock) h 0) d >>= λ deed. go (split.perform-deed deed (state-above n z)))
     pub sound : Sounds [] after-deed
 
--- It is the turn with a strand, where z is what leaving and making the tables leave of z′.
+-- It is the model's turn with a strand: z before it, and what is left of z once the strand has left its origin and the tables are made.
 module _ (gf first-of len-of cv cf : List ℕ) (p : Next) (top : Top) (made : Made) (d : Decision) (read : ℕ) (z : Stores) where
   abbrev pub begun-stores : Stores
   begun-stores =
       let b = begun gf first-of len-of cv cf p top made d read (lent z) in
-      with-lent (lent-of (b .tables) (b .strands) (z .answers) (left-stack gf first-of len-of cv cf p top made d read (z .stack)) (z .clock)) z
+      with-lent (lent-of (b .tables) (b .strands) (z .answers) (left-stack gf first-of len-of cv cf p top made d read (z .stack))
+      (z .clock)) z
 
   pub after-begun : with-lent (put (strand-performed gf first-of len-of cv cf p top made d read (lent z))) z
       ≡ after-deed begun-stores d (top .table) (p .place) (top .clock) read
@@ -229,7 +232,6 @@ module _ (z : Stores) (n : ℕ) (depth : z .stack .depth ≡ suc n) (q : ℕ) (o
         let y : Stores = stores-for (Cycles height) in
         let l : books.Literal = meant (chosen x) in
         let f : Minimums = met-at (z .stack .clock) height in
-        let f′ : Minimums = record { positive = getD (z .stack .clock) height 0; negative = MAX } in
         let r = settles (Cycles height) k can in
         let w = put-again y (moves (Cycles height)) read a
         (split.queued-at-top (strand-at (first-strands (z .book)) (y .strands) q)
@@ -243,3 +245,38 @@ module _ (z : Stores) (n : ℕ) (depth : z .stack .depth ≡ suc n) (q : ℕ) (o
               (chosen-means x (k .strand)) (met-is (z .stack .clock) height few));
           sound = w .sound;
         }
+
+    -- the owner writes the answer at the place that was free
+    does-answer : (empties : Bool) → Does (decided (Answering empties) copies x copy a)
+    does-answer empties k can =
+        let y : Stores = stores-for (Answering empties) in
+        let l : Left = stands z (decided (Answering empties) copies x copy a) t q c in
+        let r = settles (Answering empties) k can in
+        let w = subst (λ (i : ℕ). Ends (ltb (z .stack .depth) 2) a (split.top-table (split.stored (answer a) empties) (state-above n y))
+        (moved-in y (moving (enqueued (seated (l .refines) t) q (emptied-if empties t (y .strands .places))) (z .tables .floundered)
+        (with-answer-places (written-answer i a (z .answers)) (enqueued t i (freed (z .answers .places)))) (popped (z .stack)) (z .clock))))
+        (sym (mod-eq-of-lt (can .answer-fits refl)))
+        (answers y n depth q (r .sound) a (k .answer) (can .answer-fits refl) idle x c empties (r .shown)) in
+        record {
+          does = w .view ∙ ap (λ (v : SolveState). go (split.answered (answer a) (split.top-table (split.stored (answer a) empties) v)))
+              (r .view ∙ uncopied copies (seen c copy) s (can .no-copy refl));
+          sound = w .sound;
+        }
+
+    does-deed : (deed : Deed) → stops deed ≡ false → Does (decided deed copies x copy a)
+    does-deed (Stop i) never = absurd (true≢false never)
+    does-deed GoesOn goes = does-go-on
+    does-deed GivesUp goes = does-give-up
+    does-deed (Cycles height) goes = does-cycle height
+    does-deed (Pushes table) goes = does-push table
+    does-deed Requeues goes = does-requeue
+    does-deed Flounders goes = does-flounder
+    does-deed (Answering empties) goes = does-answer empties
+
+-- THE DEED, DONE
+pub deed-performed : (z : Stores) (n : ℕ) → z .stack .depth ≡ suc n → (q : ℕ) → Sounds (q ∷ []) z → getD (z .stack .active) n 0 ≡ 256
+    → (d : Decision) → stops (d .deed) ≡ false → (read : ℕ) → KeptDecision d → Able d read z → (t : ℕ) → t ≡ getD (z .stack .table) n 0
+    → (c : TimeStamp) → PerformsDeed z d t q c read n
+deed-performed z n depth q o idle d goes read k can t is c =
+    subst (λ (i : ℕ). PerformsDeed z d i q c read n) (sym is)
+    (does-deed z n depth q o idle c read (d .copies) (d .strand) (d .copy) (d .answer) (d .deed) goes k can)

@@ -1,14 +1,13 @@
 -- The deed of a turn, for sound stores: the strand's place is in hand and the strand settled there, and the top's entry has none. What each
 -- deed leaves is sound, and shows what crate `split` says.
-use Prim.Native.Nat.{ℕ, zero, suc, _%_, _<_}
-use native.Mathlib.Nat.{mod-eq-of-lt}
+use Prim.Native.Nat.{ℕ, zero, suc, _<_}
 use native.Mathlib.Omega.{arith}
 use mathlib.Core.Bool.{Bool, true, false}
-use mathlib.Core.List.{List, [], _∷_}
+use mathlib.Core.List.{[], _∷_}
 use mathlib.Core.Option.{Option, none, some}
-use mathlib.Core.Path.{_≡_, refl, sym, ap, subst, _∙_}
+use mathlib.Core.Path.{_≡_, sym, ap, subst, _∙_}
 use lib.Dec.{ltb}
-use lib.ListN.{getD, set}
+use lib.ListN.{getD}
 use borrow.Author.Tests.{lt-ltb, le-ltb}
 use Rattle.definitions.specs.{TimeStamp, Minimums, MAX}
 use Rattle.definitions.specs.Book as books
@@ -34,13 +33,16 @@ use Rattle.control.specs.CreateRefinementStrand.{answer-left-by, answer-
 use Rattle.control.specs.Doing.{with-lent, with-strands, with-answers, with-stack, Sounds, state-above, flows}
 use Rattle.control.specs.MakeTables.{tables-of}
 use Rattle.control.specs.OnPositiveCycle.{cycled}
-use Rattle.control.specs.PerformDeed.{Moving, moving, requeued, given-away, table-pushed, table-floundered, emptied-if, seated, answer-flow}
+use Rattle.control.specs.PerformDeed.{Moving, moving, requeued, given-away, table-pushed, table-floundered}
+use Rattle.control.specs.PerformDeed.{emptied-if, seated, answer-flow}
 use Rattle.control.specs.PerformDeed as deeds
 use Rattle.control.specs.PerformStrand.{lent-of}
 use Rattle.control.specs.Stores.{Stores, first-strands, state}
 use Rattle.control.proofs.Doing.{state-is, queued-sound, queued-view, freed-sound, freed-view, active-sound, active-view}
-use Rattle.control.proofs.DoingStack.{cycled-sound, cycled-view, popped-sound, popped-view, pushed-sound, pushed-view, gone-sound, gone-view}
-use Rattle.control.proofs.DoingTables.{emptied-sound, emptied-view, floundered-sound, floundered-view, stored-sounds, answer-view, then-changed}
+use Rattle.control.proofs.DoingStack.{cycled-sound, cycled-view, popped-sound, popped-view, pushed-sound, pushed-view}
+use Rattle.control.proofs.DoingStack.{gone-sound, gone-view}
+use Rattle.control.proofs.DoingTables.{emptied-sound, emptied-view, floundered-sound, floundered-view}
+use Rattle.control.proofs.DoingTables.{stored-sounds, answer-view, then-changed}
 
 -- WHAT A DEED MOVES of stores, and the stores with what it has moved
 abbrev pub moving-in : Stores → Moving
@@ -83,7 +85,8 @@ module _ (y : Stores) (n : ℕ) (depth : y .stack .depth ≡ suc n) (q : ℕ) (o
   }
 
   -- it goes back to the queue of the top's table
-  pub requeues : Comes (split.queued-at-top (strand-at (first-strands (y .book)) (y .strands) q) (state-above n y)) (moved-in y (requeued t q m))
+  pub requeues : Comes (split.queued-at-top (strand-at (first-strands (y .book)) (y .strands) q) (state-above n y))
+      (moved-in y (requeued t q m))
   requeues = record {
     view = state-is (moved-in y (requeued t q m)) n depth ∙ queued-view y q o n depth;
     sound = queued-sound y q o n depth;

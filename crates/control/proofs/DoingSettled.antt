@@ -1,7 +1,6 @@
 -- The copy and the strand in hand settled, for sound stores: the owner has written both, with their numbers, and the copy is queued.
-use Prim.Native.Nat.{ℕ, suc, _%_, _<_}
+use Prim.Native.Nat.{ℕ, suc, _<_}
 use native.Mathlib.Nat.{mod-eq-of-lt}
-use native.Mathlib.Omega.{arith}
 use mathlib.Core.Bool.{Bool, true, false}
 use mathlib.Core.List.{List, [], _∷_}
 use mathlib.Core.Path.{_≡_, refl, sym, ap, subst, _∙_}
