@@ -41,3 +41,6 @@ pub mod PerformCases
 pub mod Doing
 pub mod DoingStack
 pub mod DoingTables
+pub mod DoingSettled
+pub mod DoingDeeds
+pub mod DoingDecision
