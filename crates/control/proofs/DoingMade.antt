@@ -42,15 +42,12 @@ use Rattle.control.specs.MakeTables.{Tabling, tabling, table-made, table
 use Rattle.control.specs.PerformStrand.{lent-of}
 use Rattle.control.specs.Doing.{with-lent, Sounds, state-above}
 use Rattle.control.specs.Stores.{Stores, first-strands, forest, held-places}
+use Rattle.control.proofs.ChooseRoom.{strands-for}
 use Rattle.control.proofs.SelectTables.{map-span, built-of, built-is, tables-noted, noted-each}
 
 -- the stores with these tables and strands
 abbrev pub with-tabling : Tabling → Stores → Stores
 with-tabling m z = with-lent (lent-of (m .tables) (m .strands) (z .answers) (z .stack) (z .clock)) z
-
--- how many strands a goal's table has when it is made, by the book's numbers
-abbrev pub strands-for : (goal-flags goal-len : List ℕ) → (g : ℕ) → ℕ
-strands-for goal-flags goal-len g = strands-by (bit1 (entry 64 goal-flags g)) (entry 64 goal-len g)
 
 -- a table as it is built, by its goal's flags
 abbrev table-by : (floundered : Bool) → (g : ℕ) → (coinductive : Bool) → List held.Strand → Table

@@ -23,6 +23,7 @@ pub mod ChooseCases
 pub mod ChooseLook
 pub mod ChooseDecides
 pub mod ChooseKept
+pub mod ChooseRoom
 pub mod OnNoStrandsLeftCases
 pub mod OnNoStrandsLeft
 pub mod Turn
