@@ -20,13 +20,13 @@ use Rattle.split.specs.Acts as split
 use Rattle.split.specs.Acts.{Origin}
 use Rattle.stores.specs.declared.queue.Spot.{Spot}
 use Rattle.stores.specs.declared.queue.Strands.{Strands}
-use Rattle.stores.specs.Numbers.{flag}
+use Rattle.stores.specs.Numbers.{free, flag}
 use Rattle.stores.specs.Places.{ring, taken-at, first-of}
 use Rattle.stores.specs.Queue.{with-places, strands-of, eligible, test-at, spot-from}
 use Rattle.stores.specs.Stack.{top-written}
 use Rattle.stores.specs.View.{FirstStrands, strand-at, tables}
 use Rattle.stores.proofs.ListsSpans.{rotate-front, map-turned}
-use Rattle.stores.proofs.PlacesViews.{taken-own, taken-other}
+use Rattle.stores.proofs.PlacesViews.{length-ring, taken-own, taken-other}
 use Rattle.stores.proofs.QueueCases.{spot-is}
 use Rattle.stores.proofs.QueueSound.{taken-at-sound}
 use Rattle.stores.proofs.QueueViews.{tables-changed}
@@ -37,7 +37,7 @@ use Rattle.control.specs.EnsureRootAnswer.{next-by, next-strand}
 use Rattle.control.specs.PerformDeed.{stack-of, left-rings, left-active}
 use Rattle.control.specs.PerformStrand.{lent-of}
 use Rattle.control.specs.Doing.{with-lent, Sounds, state-above}
-use Rattle.control.specs.Stores.{Stores, first-strands, forest, held-places, SoundStores}
+use Rattle.control.specs.Stores.{Stores, first-strands, in-use, forest, held-places, SoundStores}
 use Rattle.control.specs.Turn.{top, next, origin-by, origin}
 use Rattle.control.proofs.Doing.{idle-sound, idle-view}
 use Rattle.control.proofs.DoingTables.{same-entries, top-table-view}
@@ -108,6 +108,17 @@ module _ (z : Stores) (n : ℕ) (o : Sounds [] z) (t-made : getD (z .stack .tabl
       ∙ ap (λ (l : List held.Strand). set (forest z .tables) u (tabled.with-strands (table-held z u) l)) own)
       (same-entries z (after .places) (suc n))
 
+  -- as many are live, the one in hand with them
+  queue-live : in-use (after .places) ≡ in-use (z .strands .places)
+  queue-live =
+      let other : free ≡ u → ⊥ = λ e. omega (arith, t-made, o .strands .places .few) in
+      omega (
+        arith,
+        length-ring (after .places) free,
+        length-ring (z .strands .places) free,
+        ap length (taken-other (z .strands .places) (z .tables .count) (held-places z) u j (o .strands .places) small there free other),
+      )
+
 -- FOR SOUND STORES
 pub sounds-of : (root index first : ℕ) (z : Stores) → SoundStores root index first z → (n : ℕ) → z .stack .depth ≡ suc n → Sounds [] z
 sounds-of root index first z o n d = record {
@@ -123,6 +134,7 @@ pub record Leaves (z : Stores) (n : ℕ) (p : Next) (t : ℕ) (from : Origin) : 
   pub sound : Sounds (p .place ∷ []) (left-by p t z)
   pub view : state-above n (left-by p t z) ≡ split.taken from (state-above n z)
   pub idle : getD (left-by p t z .stack .active) n 0 ≡ 256
+  pub live : in-use (left-by p t z .strands .places) ≡ in-use (z .strands .places)
 
 module _ (root index first : ℕ) (z : Stores) (o : SoundStores root index first z) (n : ℕ) (d : z .stack .depth ≡ suc n) where
   abbrev t : ℕ
@@ -172,6 +184,7 @@ module _ (root index first : ℕ) (z : Stores) (o : SoundStores root index first
         sound = queue-sound z n sounds made first-one there;
         view = queue-view z n sounds made first-one there;
         idle = idle;
+        live = queue-live z n sounds made first-one there;
       }
 
   leaves-by : (b : Bool) → ltb place 256 ≡ b → next-by b place spot .found ≡ true
@@ -182,6 +195,7 @@ module _ (root index first : ℕ) (z : Stores) (o : SoundStores root index first
         sound = idle-sound z n d sounds other;
         view = idle-view z n d sounds other;
         idle = written-idle;
+        live = refl;
       }
   leaves-by false e found =
       let all : place ≡ 256 = omega (arith, ltb-false place 256 e, o .stack .places n (omega arith)) in
@@ -214,6 +228,10 @@ module _ (root index first : ℕ) (z : Stores) (o : SoundStores root index first
 
     pub left-idle : getD (away z .stack .active) n 0 ≡ 256
     left-idle = leaves is .idle
+
+    -- as many strands are live as were
+    pub left-live : in-use (away z .strands .places) ≡ in-use (z .strands .places)
+    left-live = leaves is .live
 
 -- what stands at a place is as it was
 pub left-shown : (z : Stores) (q : ℕ)

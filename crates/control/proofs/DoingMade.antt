@@ -5,7 +5,7 @@ use native.Mathlib.Omega.{arith}
 use mathlib.Core.Bool.{Bool, true, false}
 use mathlib.Core.List.{List, [], _∷_, _++_, map, append-nil, append-assoc}
 use mathlib.Core.Path.{_≡_, refl, sym, ap, ap₂, subst, _∙_}
-use lib.ListN.{length, getD}
+use lib.ListN.{length, getD, length-append}
 use Rattle.definitions.specs.Book.{bit0, bit1}
 use Rattle.definitions.specs.Lists.{total}
 use Rattle.definitions.specs.Logic.{initial-strand, with-forest}
@@ -30,7 +30,7 @@ use Rattle.stores.specs.Numbers.{within}
 use Rattle.stores.specs.Queue.{clauses-from, fresh-each}
 use Rattle.stores.specs.Sound.{waiting, SoundStrands, SoundAnswers}
 use Rattle.stores.specs.Tables.{inserted}
-use Rattle.stores.specs.View.{FirstStrands, strand-at, tables, entries}
+use Rattle.stores.specs.View.{FirstStrands, strand-at, held-table, tables, entries}
 use Rattle.stores.proofs.ListsSpans.{span-at}
 use Rattle.stores.proofs.QueueStores.{queued-is}
 use Rattle.stores.proofs.StackCallers.{entered-holds}
@@ -334,6 +334,17 @@ module _ (made : Made) (hand : List ℕ) (z : Stores) (sound : books.Sound (z .b
       let waits = tabled-waiting z hand (all-made made z) more all-tabled in
       let need = tables-need (made .goals) z sound hand o (made .count) 0 each-named in
       let noted = needed-noted (made .goals) (z .book) (made .count) in
+      omega arith
+
+  -- and so many tables are made
+  pub made-count : all-made made z .tables .count ≡ z .tables .count + made .count
+  made-count =
+      let was = length-span (held-table shows (z .tables) (z .strands) (z .answers)) 0 (z .tables .count) in
+      let now = length-span (held-table shows (all-made made z .tables) (all-made made z .strands) (z .answers)) 0
+      (all-made made z .tables .count) in
+      let new = length-span (λ j. built (books.view (z .book)) (getD (made .goals) j 0)) 0 (made .count) in
+      let both = ap length (all-tabled .means) in
+      let apart = length-append (forest z .tables) more in
       omega arith
 
   forest-made : forest (with-tabling (all-made made z) z) ≡ with-made (forest z) (noted-goals made)

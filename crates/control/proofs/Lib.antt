@@ -44,3 +44,4 @@ pub mod DoingStack
 pub mod DoingTables
 pub mod DoingLeft
 pub mod DoingMade
+pub mod DoingBegun
