@@ -41,3 +41,4 @@ pub mod PerformCases
 pub mod Doing
 pub mod DoingStack
 pub mod DoingTables
+pub mod DoingBack
