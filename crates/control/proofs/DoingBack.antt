@@ -1,34 +1,52 @@
 -- What a turn reads and writes back where it was read: nothing that is shown changes. So a turn that stops leaves the state as it was.
 use Prim.Native.Nat.{ℕ}
-use mathlib.Core.Bool.{Bool, true, false}
-use mathlib.Core.List.{List, _++_}
+use mathlib.Core.Bool.{Bool, true, false, true≢false}
+use mathlib.Core.List.{List, [], _++_}
+use mathlib.Core.Option.{Option}
 use mathlib.Core.Path.{_≡_, refl, sym, ap, ap₂, subst, _∙_}
+use lib.Dec.{eqb, ltb}
 use lib.ListN.{getD, set, length-set}
 use lib.Seq.{getD-set-other, set-set, set-getD}
+use Rattle.definitions.specs.{TimeStamp, MAX}
+use Rattle.definitions.specs.Logic as logic
+use Rattle.definitions.specs.Logic.{SolveState}
 use Rattle.definitions.specs.Stack as said
+use Rattle.definitions.specs.Stop.{Stops, go, _>>=_}
 use Rattle.definitions.specs.Strand as held
 use Rattle.definitions.specs.Tables.{Forest}
 use Rattle.rings.proofs.Counts.{is-or-not, map-cong}
+use Rattle.split.specs.Acts as splits
 use Rattle.strands.specs.declared.Answer.{Answer}
 use Rattle.strands.specs.declared.Strand.{Strand}
+use Rattle.strands.specs.View.{seen}
 use Rattle.stores.specs.declared.queue.Strands.{Strands}
-use Rattle.stores.specs.Places.{ring}
 use Rattle.stores.specs.Numbers.{flag-number}
+use Rattle.stores.specs.Places.{ring}
 use Rattle.stores.specs.Queue.{store, strands-of}
 use Rattle.stores.specs.Sound.{Written, InUse, SoundStrands}
+use Rattle.stores.specs.Stack.{caller-place}
 use Rattle.stores.specs.View.{FirstStrands, is-fresh, strand-by, strand-at, unread-strand, unread-answer}
 use Rattle.stores.proofs.ListsSpans.{all-times}
 use Rattle.stores.proofs.QueueViews.{tables-kept}
 use Rattle.stores.proofs.StackViews.{entered-kept}
-use Rattle.control.specs.EnsureRootAnswer.{in-hand-by}
+use Rattle.control.specs.declared.decision.Decision.{Decision}
+use Rattle.control.specs.declared.decision.Deed.{Deed}
+use Rattle.control.specs.declared.decision.Deed.the-variants as deeds
+use Rattle.control.specs.declared.ensure_root_answer.Top.{Top}
+use Rattle.control.specs.declared.on_no_strands_left.Idle.the-variants as idles
 use Rattle.control.specs.declared.perform.Flow.{Flow}
-use Rattle.control.specs.Doing.{with-lent, with-strands, Sounds}
-use Rattle.control.specs.Perform.{left-so}
+use Rattle.control.specs.declared.perform.Flow.the-variants as ways
+use Rattle.control.specs.Decision.{copy-by, meaning-by}
+use Rattle.control.specs.Doing.{lent, with-lent, with-strands, Sounds, flows}
+use Rattle.control.specs.EnsureRootAnswer.{in-hand-by}
+use Rattle.control.specs.OnNoStrandsLeft.{caller-waits-on-not, no-strands-by, minimum-at, part-by, head-by, cycle-by, left-by, without-by}
+use Rattle.control.specs.Perform.{has-strand, stops, stop-flow, left-so, performed-by}
 use Rattle.control.specs.PerformDeed.{answers-of}
-use Rattle.control.specs.Performing.{put}
-use Rattle.control.specs.PerformStrand.{Lent, lent-of}
+use Rattle.control.specs.Performing.{put, place-by, read-place, chosen, turn-done, Performs}
+use Rattle.control.specs.PerformStrand.{Lent, lent-of, TurnDone}
+use Rattle.control.specs.SelectSubgoal.{noted-goals}
 use Rattle.control.specs.Stores.{Stores, first-strands, forest, state, held-places}
-use Rattle.control.specs.Turn.{hand-at}
+use Rattle.control.specs.Turn.{top, next, hand-at, chosen-for, decided-for, idle, origin, clock-at, strand-means, act-means, turn-means}
 use Rattle.control.proofs.Doing.{forest-is}
 
 -- the strands, with another list
@@ -134,3 +152,106 @@ module _ (f : Flow) (p : ℕ) (x : Strand) (at : ℕ) (w : Lent) where
 
     pub so-view : state (with-lent (put (left-so f p x at (getD (w .answers .answers) at unread-answer) w)) z) ≡ state (with-lent w z)
     so-view = ap (λ (v : Lent). state (with-lent v z)) put-so ∙ back-view (with-lent w z) p x was
+
+-- A TURN BY WHAT IT COMES TO
+pub performs-as : (z : Stores) (r : TurnDone) → turn-done z ≡ r
+    → flows (r .flow) (state (with-lent (put r) z)) ≡ (turn-means z >>= λ act. go (splits.perform act (state z)))
+    → ((n : ℕ) → r .flow ≡ ways.Stop n → state (with-lent (put r) z) ≡ state z) → Sounds [] (with-lent (put r) z) → Performs z
+performs-as z r is does undone sound = record {
+  does = ap (λ (d : TurnDone). flows (d .flow) (state (with-lent (put d) z))) is ∙ does;
+  undone = λ n e.
+      ap (λ (d : TurnDone). state (with-lent (put d) z)) is ∙ undone n (ap (λ (d : TurnDone). d .flow) (sym is) ∙ e);
+  sound = subst (λ (d : TurnDone). Sounds [] (with-lent (put d) z)) (sym is) sound;
+}
+
+-- there is a strand to go on with, or an act without one
+module _ (len waits positive negative active : List ℕ) (x : Top) where
+  none-by : (empty complete : Bool) → has-strand (left-by len waits positive negative active empty complete x) ≡ false
+  none-by true complete = empty-queue (ltb (x .depth) 2) (caller-waits-on-not waits active (x .depth))
+    where
+      empty-queue : (root not : Bool) → has-strand (no-strands-by root not) ≡ false
+      empty-queue true not = refl
+      empty-queue false true = refl
+      empty-queue false false = refl
+  none-by false true = refl
+  none-by false false =
+      met (ltb (minimum-at positive (x .depth)) (x .clock)) (ltb (minimum-at negative (x .depth)) (x .clock))
+    where
+      part : (root : Bool) → has-strand (part-by root) ≡ false
+      part true = refl
+      part false = refl
+
+      head : (not : Bool) → has-strand (head-by not) ≡ false
+      head true = refl
+      head false = refl
+
+      met : (p q : Bool) → has-strand (cycle-by p q (minimum-at negative (x .depth)) (x .depth)) ≡ false
+      met true q = part (ltb (x .depth) 2)
+      met false true = part (ltb (x .depth) 2)
+      met false false = head (ltb (minimum-at negative (x .depth)) MAX)
+
+  strand-if : (found : Bool) → has-strand (without-by len waits positive negative active found x) ≡ found
+  strand-if true = refl
+  strand-if false = none-by (eqb (getD len (x .table) 0) 0) (x .complete)
+
+pub strand-found : (z : Stores) → has-strand (idle z) ≡ next z .found
+strand-found z =
+    strand-if (z .strands .places .len) (z .strands .waits) (z .stack .positive) (z .stack .negative) (z .stack .active) (top z)
+    (next z .found)
+
+-- A STOP
+stop-means : (time : TimeStamp) (clock-at : ℕ → TimeStamp) (x : Deed) → stops x ≡ true → (copy : Option held.Strand) (y : Strand) (a : Answer)
+    → (s : SolveState) {A : Type 0} (k : A → Stops logic.Flow) (act : splits.Deed → Stops A)
+    → flows (stop-flow x) s ≡ (meaning-by time clock-at x copy y a >>= act >>= k)
+stop-means time clock-at (deeds.Stop n) e copy y a s k act = refl
+stop-means time clock-at deeds.GoesOn e copy y a s k act = absurd (true≢false (sym e))
+stop-means time clock-at deeds.GivesUp e copy y a s k act = absurd (true≢false (sym e))
+stop-means time clock-at (deeds.Cycles height) e copy y a s k act = absurd (true≢false (sym e))
+stop-means time clock-at (deeds.Pushes table) e copy y a s k act = absurd (true≢false (sym e))
+stop-means time clock-at deeds.Requeues e copy y a s k act = absurd (true≢false (sym e))
+stop-means time clock-at deeds.Flounders e copy y a s k act = absurd (true≢false (sym e))
+stop-means time clock-at (deeds.Answers empties) e copy y a s k act = absurd (true≢false (sym e))
+
+module _ (z : Stores) (o : Sounds [] z) (has : has-strand (idle z) ≡ true) (halts : stops (decided-for z (chosen z) .deed) ≡ true) where
+  found : next z .found ≡ true
+  found = sym (strand-found z) ∙ has
+
+  place-is : read-place z ≡ next z .place
+  place-is = ap (λ (b : Bool). place-by b (next z .place) (caller-place (z .stack .depth) (z .stack .active))) found
+
+  nothing : idle z ≡ idles.Nothing
+  nothing =
+      ap (λ (b : Bool). without-by (z .strands .places .len) (z .strands .waits) (z .stack .positive) (z .stack .negative)
+      (z .stack .active) b (top z)) found
+
+  means : turn-means z ≡ strand-means z (next z) (chosen z)
+  means =
+      ap (act-means z) nothing ∙ ap (λ (p : ℕ). strand-means z (next z) (chosen-for z (hand-at z p))) (sym place-is)
+
+  abbrev decision : Decision
+  decision = decided-for z (chosen z)
+
+  abbrev stopped : TurnDone
+  stopped = left-so (stop-flow (decision .deed)) (read-place z) (hand-at z (read-place z)) (chosen z .place)
+      (getD (z .answers .answers) (chosen z .place) unread-answer) (lent z)
+
+  done-is : turn-done z ≡ stopped
+  done-is =
+      ap₂ (λ (b c : Bool). performed-by (z .book .«goal_flags») (z .book .«goal_first») (z .book .«goal_len») (z .book .«clause_variant»)
+      (z .book .«clause_flags») (next z) (top z) (chosen z .made) decision (read-place z) (hand-at z (read-place z)) (chosen z .place)
+      (getD (z .answers .answers) (chosen z .place) unread-answer) b c (idle z) (lent z)) has halts
+
+  as-it-was : state (with-lent (put stopped) z) ≡ state z
+  as-it-was =
+      so-view (stop-flow (decision .deed)) (read-place z) (hand-at z (read-place z)) (chosen z .place) (lent z) z (hand-was z (read-place z))
+
+  pub stop-performs : Performs z
+  stop-performs =
+      performs-as z stopped done-is
+      (stop-means (top z .clock) (clock-at z) (decision .deed) halts (copy-by (decision .copies) (seen (top z .clock) (decision .copy)))
+      (decision .strand) (decision .answer) (state (with-lent (put stopped) z)) (λ act. go (splits.perform act (state z)))
+      (λ deed. go (splits.takes (origin z (next z)) (noted-goals (chosen z .made)) deed))
+      ∙ sym (ap (λ (a : Stops splits.Act). a >>= λ act. go (splits.perform act (state z))) means))
+      (λ n e. as-it-was)
+      (so-sound (stop-flow (decision .deed)) (read-place z) (hand-at z (read-place z)) (chosen z .place) (lent z) z
+      (hand-was z (read-place z)) [] o)
