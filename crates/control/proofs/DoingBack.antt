@@ -39,14 +39,16 @@ use Rattle.control.specs.declared.perform.Flow.the-variants as ways
 use Rattle.control.specs.Decision.{copy-by, meaning-by}
 use Rattle.control.specs.Doing.{lent, with-lent, with-strands, Sounds, flows}
 use Rattle.control.specs.EnsureRootAnswer.{in-hand-by}
-use Rattle.control.specs.OnNoStrandsLeft.{caller-waits-on-not, no-strands-by, minimum-at, part-by, head-by, cycle-by, left-by, without-by}
+use Rattle.control.specs.OnNoStrandsLeft.{caller-waits-on-not, no-strands-by, minimum-at, part-by, head-by, cycle-by, left-by}
+use Rattle.control.specs.OnNoStrandsLeft.{without-by}
 use Rattle.control.specs.Perform.{has-strand, stops, stop-flow, left-so, performed-by}
 use Rattle.control.specs.PerformDeed.{answers-of}
 use Rattle.control.specs.Performing.{put, place-by, read-place, chosen, turn-done, Performs}
 use Rattle.control.specs.PerformStrand.{Lent, lent-of, TurnDone}
 use Rattle.control.specs.SelectSubgoal.{noted-goals}
 use Rattle.control.specs.Stores.{Stores, first-strands, forest, state, held-places}
-use Rattle.control.specs.Turn.{top, next, hand-at, chosen-for, decided-for, idle, origin, clock-at, strand-means, act-means, turn-means}
+use Rattle.control.specs.Turn.{top, next, hand-at, chosen-for, decided-for, idle}
+use Rattle.control.specs.Turn.{origin, clock-at, strand-means, act-means, turn-means}
 use Rattle.control.proofs.Doing.{forest-is}
 
 -- the strands, with another list
@@ -200,7 +202,8 @@ strand-found z =
     (next z .found)
 
 -- A STOP
-stop-means : (time : TimeStamp) (clock-at : ℕ → TimeStamp) (x : Deed) → stops x ≡ true → (copy : Option held.Strand) (y : Strand) (a : Answer)
+stop-means : (time : TimeStamp) (clock-at : ℕ → TimeStamp) (x : Deed) → stops x ≡ true
+    → (copy : Option held.Strand) (y : Strand) (a : Answer)
     → (s : SolveState) {A : Type 0} (k : A → Stops logic.Flow) (act : splits.Deed → Stops A)
     → flows (stop-flow x) s ≡ (meaning-by time clock-at x copy y a >>= act >>= k)
 stop-means time clock-at (deeds.Stop n) e copy y a s k act = refl
@@ -243,7 +246,8 @@ module _ (z : Stores) (o : Sounds [] z) (has : has-strand (idle z) ≡ true) (ha
 
   as-it-was : state (with-lent (put stopped) z) ≡ state z
   as-it-was =
-      so-view (stop-flow (decision .deed)) (read-place z) (hand-at z (read-place z)) (chosen z .place) (lent z) z (hand-was z (read-place z))
+      so-view (stop-flow (decision .deed)) (read-place z) (hand-at z (read-place z)) (chosen z .place) (lent z) z
+      (hand-was z (read-place z))
 
   pub stop-performs : Performs z
   stop-performs =

@@ -42,3 +42,4 @@ pub mod Doing
 pub mod DoingStack
 pub mod DoingTables
 pub mod DoingBack
+pub mod DoingIdle
