@@ -2,48 +2,58 @@
 use Prim.Native.Nat.{ℕ, suc, _-_, _≤_, _<_}
 use native.Mathlib.Omega.{arith}
 use mathlib.Core.Bool.{Bool, true, false, true≢false}
-use mathlib.Core.List.{List, []}
+use mathlib.Core.List.{List, [], _∷_}
 use mathlib.Core.Path.{_≡_, refl, sym, ap, ap₂, subst, _∙_}
 use lib.Dec.{eqb, ltb}
 use lib.ListN.{getD}
-use borrow.Author.Tests.{ltb-true, ltb-false}
+use borrow.Author.Tests.{lt-ltb, ltb-true, ltb-false, ne-eqb}
 use Rattle.definitions.specs as said-numbers
 use Rattle.definitions.specs.{MAX}
 use Rattle.definitions.specs.Logic as logic
 use Rattle.definitions.specs.Logic.{SolveState}
 use Rattle.definitions.specs.Stop.{Stops, go, _>>=_}
 use Rattle.definitions.specs.Table.{with-mode}
+use Rattle.definitions.specs.Tables.{Forest}
 use Rattle.split.specs.Acts as splits
 use Rattle.strands.specs.declared.Strand.{Strand}
+use Rattle.stores.specs.declared.places.Places.{Places}
 use Rattle.stores.specs.declared.queue.Spot.{Spot}
-use Rattle.stores.specs.Numbers.{within}
-use Rattle.stores.specs.Queue.{with-places}
+use Rattle.stores.specs.declared.queue.Strands.{Strands}
+use Rattle.stores.specs.Numbers.{free, within}
+use Rattle.stores.specs.Places.{enqueued}
+use Rattle.stores.specs.Queue.{with-places, given}
+use Rattle.stores.specs.Sound.{SoundStrands}
+use Rattle.stores.specs.Stack.{caller-place}
 use Rattle.stores.specs.Tables.{moded}
-use Rattle.stores.specs.View.{is-fresh, unread-strand, unread-answer}
+use Rattle.stores.specs.View.{FirstStrands, is-fresh, unread-strand, unread-answer, active-places}
+use Rattle.stores.proofs.QueueSound.{given-strand-sound}
+use Rattle.stores.proofs.QueueViews.{given-view}
+use Rattle.stores.proofs.StackCallers.{caller-place-is, pop-places}
 use Rattle.control.specs.declared.ensure_root_answer.Next.{Next}
 use Rattle.control.specs.declared.ensure_root_answer.Top.{Top}
 use Rattle.control.specs.declared.on_no_strands_left.Idle.{Idle}
 use Rattle.control.specs.declared.on_no_strands_left.Idle.the-variants as idles
 use Rattle.control.specs.declared.perform.Flow.{Flow}
 use Rattle.control.specs.declared.perform.Flow.the-variants as ways
-use Rattle.control.specs.Doing.{lent, with-lent, with-tables, Sounds, state-above, flows}
+use Rattle.control.specs.Doing.{lent, with-lent, with-tables, with-strands, Sounds, state-above, flows}
 use Rattle.control.specs.EnsureRootAnswer.{next-by, next-strand}
 use Rattle.control.specs.OnNoStrandsLeft.{caller-waits-on-not, no-strands-by, minimum-at, part-by, head-by, cycle-by, left-by}
 use Rattle.control.specs.OnNoStrandsLeft.{without-by}
 use Rattle.control.specs.Perform.{has-strand, stops, left-so, idle-left, performed, performed-by}
 use Rattle.control.specs.PerformDeed.{bare}
-use Rattle.control.specs.PerformIdle.{idling, IdleDone, idle-done}
+use Rattle.control.specs.PerformIdle.{caller-failed, idling, IdleDone, idle-done}
 use Rattle.control.specs.Performing.{put, read-place, chosen, turn-done, Performs}
 use Rattle.control.specs.PerformStrand.{lent-of, TurnDone}
-use Rattle.control.specs.Stores.{Stores, first-strands, state, held-places, SoundStores}
-use Rattle.control.specs.UnwindStack.{all-back}
+use Rattle.control.specs.Stores.{Stores, first-strands, forest, state, held-places, SoundStores}
 use Rattle.control.specs.Turn.{top, next, hand-at, decided-for, idle, act-means, turn-means}
-use Rattle.control.proofs.Doing.{state-is}
+use Rattle.control.specs.UnwindStack.{enqueued-if, enqueued-back, all-back}
+use Rattle.control.proofs.Doing.{state-is, forest-is, entries-moved}
 use Rattle.control.proofs.DoingBack.{hand-was, so-sound, so-view, performs-as, strand-found}
-use Rattle.control.proofs.DoingStack.{gone-sound, gone-view}
+use Rattle.control.proofs.DoingStack.{Back, unwinds, gone-sound, gone-view}
 use Rattle.control.proofs.DoingTables.{moded-sounds, mode-changed}
 use Rattle.control.proofs.EnsureRootAnswer.{top-is}
-use Rattle.control.proofs.Stores.{top-entry, entries-made}
+use Rattle.control.proofs.OnNoStrandsLeft.{under, is-there}
+use Rattle.control.proofs.Stores.{entries-made}
 
 -- what is known of an act: whether the top is the root
 abbrev RootIf : Idle → (root : Bool) → Type 0
@@ -199,6 +209,28 @@ module _ (root index first : ℕ) (z : Stores) (o : SoundStores root index first
       (λ m e. no-stop (left z idles.ChangesMode .flow) m refl e)
       (subst (λ (u : ℕ). Sounds [] (with-tables (moded u false (z .tables)) z)) (sym t-is) (moded-sounds z n d [] sounds))
 
+  -- THE SEARCH IS OVER, with these rings
+  abbrev over-with : Places → Stores
+  over-with p = with-lent (lent-of (z .tables) (with-places (z .strands) p) (z .answers) (bare (z .stack)) (z .clock)) z
+
+  over-sound : (p : Places) → SoundStrands (first-strands (z .book)) (with-places (z .strands) p) (z .tables .count) []
+      → Sounds [] (over-with p)
+  over-sound p sound = record {
+    tables = o .tables;
+    strands = sound;
+    answers = o .answers;
+    stack = record {
+      few = omega arith;
+      long-table = o .stack .long-table;
+      long-clock = o .stack .long-clock;
+      long-positive = o .stack .long-positive;
+      long-negative = o .stack .long-negative;
+      long-active = o .stack .long-active;
+      places = λ i h. absurd (omega arith);
+    };
+    made = λ i h. absurd (omega arith);
+  }
+
   -- A NEGATIVE CYCLE: the search is over
   pub negative-performs : idle z ≡ idles.NegativeCycle → Performs z
   negative-performs is =
@@ -211,8 +243,7 @@ module _ (root index first : ℕ) (z : Stores) (o : SoundStores root index first
 
   -- THE ROOT HAS NO STRAND: the search is over, and there is no caller
   abbrev over-by : (m : ℕ) → Stores
-  over-by m = with-lent (lent-of (z .tables) (with-places (z .strands) (all-back (z .stack .table) (z .stack .active) m (z .strands .places)))
-      (z .answers) (bare (z .stack)) (z .clock)) z
+  over-by m = over-with (all-back (z .stack .table) (z .stack .active) m (z .strands .places))
 
   pub finish-performs : idle z ≡ idles.Finishes → Performs z
   finish-performs is =
@@ -226,3 +257,83 @@ module _ (root index first : ℕ) (z : Stores) (o : SoundStores root index first
       ∙ ap (λ (m : ℕ). splits.gone (state-above m z)) lowest))
       (λ m e. no-stop (left z idles.Finishes .flow) m refl e)
       (subst (λ (m : ℕ). Sounds [] (over-by m)) below (gone-sound z n d sounds none))
+
+  -- A CALLER, at height m: its strand is in its entry
+  module _ (m : ℕ) (below : n ≡ suc m) (no-strand : getD (z .stack .active) n 0 ≡ 256) where
+    abbrev fresh : FirstStrands
+    fresh = first-strands (z .book)
+
+    abbrev tb : List ℕ
+    tb = z .stack .table
+
+    abbrev ac : List ℕ
+    ac = z .stack .active
+
+    abbrev q : ℕ
+    q = getD ac m 0
+
+    q-there : q ≡ 256 → ⊥
+    q-there = is-there root index first z o n d m below
+
+    q-few : q < 256
+    q-few = under q (o .stack .places m (omega arith)) q-there
+
+    place-is : caller-place (z .stack .depth) ac ≡ q
+    place-is =
+        let back : z .stack .depth - 2 ≡ m = omega arith in
+        caller-place-is fresh (z .stack) (z .strands) (o .stack) (omega arith) ∙ ap (λ (i : ℕ). getD ac i 0) back
+
+    held-is : held-places z ≡ q ∷ active-places ac m
+    held-is =
+        let last : z .stack .depth - 1 ≡ n = omega arith in
+        pop-places (z .stack) (omega arith) (ap (λ (i : ℕ). getD ac i 0) last ∙ no-strand)
+        ∙ ap (active-places ac) (last ∙ below)
+        ∙ ap (λ (b : Bool). elim b as (λ (c : Bool). List ℕ) [ true ↦ active-places ac m | false ↦ q ∷ active-places ac m ])
+        (ne-eqb q 256 q-there)
+
+    strands-held : SoundStrands (first-strands (z .book)) (z .strands) (z .tables .count) (getD (z .stack .active) m 0 ∷ active-places ac m)
+    strands-held = subst (SoundStrands fresh (z .strands) (z .tables .count)) held-is (o .strands)
+
+    -- THE CALLER FAILED: its strand's place is free, and those below go back
+    abbrev freed : Strands
+    freed = given q (z .strands)
+
+    unwound : Back z (sounds .made) (o .stack .places) m freed
+    unwound =
+        unwinds z (sounds .made) (o .stack .places) m (omega arith) freed
+        (given-strand-sound fresh (z .strands) (z .tables .count) (active-places ac m) q strands-held)
+
+    failed-is : caller-failed tb ac (z .stack .depth) (z .strands .places) ≡ all-back tb ac m (enqueued free q (z .strands .places))
+    failed-is =
+        let few = o .stack .few in
+        let lower : within (z .stack .depth - 1 - 1) ≡ m = omega arith in
+        ap₂ (λ (i p : ℕ). all-back tb ac i (enqueued-back free p (z .strands .places))) lower place-is
+        ∙ ap (λ (b : Bool). all-back tb ac m (enqueued-if b free q (z .strands .places))) (lt-ltb q 256 q-few)
+
+    failed-view : state (over-with (all-back tb ac m (enqueued free q (z .strands .places)))) ≡ splits.gone (splits.popped (state z))
+    failed-view =
+        ap (λ (f : Forest). record { forest = f; stack = [] })
+        (unwound .view
+        ∙ ap₂ splits.callers-unwound
+        (forest-is z (forest (with-strands freed z) .tables) (forest z .tables)
+        (given-view fresh (z .tables) (z .answers) (z .strands) (active-places ac m) q (strands-held .places)))
+        (entries-moved z (freed .places) m))
+        ∙ sym (ap (λ (i : ℕ). splits.gone (splits.popped (state-above i z))) below)
+        ∙ sym (ap (λ (s : SolveState). splits.gone (splits.popped s)) (state-is z n d))
+
+    failed-performs : idle z ≡ idles.CallerFailed → Performs z
+    failed-performs is =
+        read-back z idles.CallerFailed is refl (hand-was z (read-place z))
+        (ap (λ (s : SolveState). go (logic.return-err logic.QuantumExceeded s))
+        (ap (λ (p : Places). state (over-with p)) failed-is ∙ failed-view))
+        (λ m e. no-stop (left z idles.CallerFailed .flow) m refl e)
+        (subst (λ (p : Places). Sounds [] (over-with p)) (sym failed-is)
+        (over-sound (all-back tb ac m (enqueued free q (z .strands .places))) (unwound .sound)))
+
+  -- with an act that is for a caller there is one
+  caller-below : ltb (z .stack .depth) 2 ≡ false → n ≡ suc (n - 1)
+  caller-below e = omega (arith, ltb-false (z .stack .depth) 2 e)
+
+  pub caller-failed-performs : idle z ≡ idles.CallerFailed → Performs z
+  caller-failed-performs is =
+      failed-performs (n - 1) (caller-below (root-known idles.CallerFailed is refl)) (no-strand idles.CallerFailed is refl) is
