@@ -42,4 +42,5 @@ pub mod Doing
 pub mod DoingStack
 pub mod DoingTables
 pub mod DoingBack
-pub mod DoingIdle
+pub mod DoingNoStrand
+pub mod DoingCaller

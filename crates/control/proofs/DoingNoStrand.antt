@@ -1,4 +1,5 @@
--- The acts of a turn with no strand to go on with, done, for sound stores: each leaves what crate `split` says, and the stores are sound.
+-- A turn with no strand to go on with, done, for sound stores: by what its act leaves, and the acts that are for no caller. Each leaves
+-- what crate `split` says, and the stores are sound.
 use Prim.Native.Nat.{ℕ, suc, _-_, _≤_, _<_}
 use native.Mathlib.Omega.{arith}
 use mathlib.Core.Bool.{Bool, true, false, true≢false}
@@ -56,7 +57,7 @@ use Rattle.control.proofs.OnNoStrandsLeft.{under, is-there}
 use Rattle.control.proofs.Stores.{entries-made}
 
 -- what is known of an act: whether the top is the root
-abbrev RootIf : Idle → (root : Bool) → Type 0
+abbrev pub RootIf : Idle → (root : Bool) → Type 0
 RootIf idles.Nothing root = Unit {0}
 RootIf idles.Finishes root = root ≡ true
 RootIf idles.CallerFailed root = root ≡ false
@@ -104,7 +105,7 @@ none-active place true e s is = absurd (true≢false is)
 none-active place false e s is = ltb-false place 256 e
 
 -- a flow that is no stop
-abbrev is-stop : Flow → Bool
+abbrev pub is-stop : Flow → Bool
 is-stop ways.Continue = false
 is-stop ways.ReturnOk = false
 is-stop ways.NoMoreSolutions = false
@@ -112,24 +113,24 @@ is-stop ways.QuantumExceeded = false
 is-stop ways.NegativeCycle = false
 is-stop (ways.Stop n) = true
 
-no-stop : {A : Type 0} (f : Flow) (n : ℕ) → is-stop f ≡ false → f ≡ ways.Stop n → A
+pub no-stop : {A : Type 0} (f : Flow) (n : ℕ) → is-stop f ≡ false → f ≡ ways.Stop n → A
 no-stop f n goes is = absurd (true≢false (sym (ap is-stop is) ∙ goes))
 
 -- THE TURN by what the act leaves
 module _ (z : Stores) where
-  abbrev left : Idle → IdleDone
+  abbrev pub left : Idle → IdleDone
   left i =
       idle-done (top z .table) (read-place z) (hand-at z (read-place z)) i (idling (z .strands) (z .tables .complete) (z .stack))
 
-  abbrev after : Idle → Stores
+  abbrev pub after : Idle → Stores
   after i = with-lent (idle-left (lent z) (left i)) z
 
-  abbrev done : Idle → TurnDone
+  abbrev pub done : Idle → TurnDone
   done i = left-so (left i .flow) (read-place z) (left i .strand) (chosen z .place)
       (getD (z .answers .answers) (chosen z .place) unread-answer) (idle-left (lent z) (left i))
 
   module _ (i : Idle) (is : idle z ≡ i) (none : has-strand i ≡ false) where
-    done-is : turn-done z ≡ done i
+    pub done-is : turn-done z ≡ done i
     done-is =
         ap (λ (j : Idle). performed (z .book .«goal_flags») (z .book .«goal_first») (z .book .«goal_len») (z .book .«clause_variant»)
         (z .book .«clause_flags») (next z) (top z) (chosen z .made) (decided-for z (chosen z)) (read-place z) (hand-at z (read-place z))
@@ -139,11 +140,11 @@ module _ (z : Stores) where
         (hand-at z (read-place z)) (chosen z .place) (getD (z .answers .answers) (chosen z .place) unread-answer) b
         (stops (decided-for z (chosen z) .deed)) i (lent z)) none
 
-    abbrev does : Stops logic.Flow
+    abbrev pub does : Stops logic.Flow
     does = act-means z i >>= λ act. go (splits.perform act (state z))
 
     -- the strand goes back where it was read
-    read-back :
+    pub read-back :
         (is-fresh (left i .left .strands) (read-place z) ≡ false
         → left i .strand ≡ getD (left i .left .strands .strands) (read-place z) unread-strand)
         → flows (left i .flow) (state (after i)) ≡ does
@@ -171,7 +172,7 @@ module _ (root index first : ℕ) (z : Stores) (o : SoundStores root index first
   abbrev t : ℕ
   t = getD (z .stack .table) n 0
 
-  t-is : top z .table ≡ t
+  pub t-is : top z .table ≡ t
   t-is = ap (λ (x : Top). x .table) (top-is root index first z o n d)
 
   abbrev next-under : Top → Next
@@ -181,17 +182,17 @@ module _ (root index first : ℕ) (z : Stores) (o : SoundStores root index first
 
   -- WHERE THERE IS NO STRAND
   module _ (i : Idle) (is : idle z ≡ i) (none : has-strand i ≡ false) where
-    not-found : next z .found ≡ false
+    pub not-found : next z .found ≡ false
     not-found = sym (strand-found z) ∙ ap has-strand is ∙ none
 
-    no-strand : getD (z .stack .active) n 0 ≡ 256
+    pub no-strand : getD (z .stack .active) n 0 ≡ 256
     no-strand =
         let many : 256 ≤ top z .active =
         none-active (top z .active) (ltb (top z .active) 256) refl _ not-found in
         let same : top z .active ≡ getD (z .stack .active) n 0 = ap (λ (x : Top). x .active) (top-is root index first z o n d) in
         omega (arith, many, same, o .stack .places n (omega arith))
 
-    root-known : RootIf i (ltb (z .stack .depth) 2)
+    pub root-known : RootIf i (ltb (z .stack .depth) 2)
     root-known =
         subst (λ (j : Idle). RootIf j (ltb (z .stack .depth) 2)) is
         (subst (λ (x : Top). RootIf (idle z) (ltb (x .depth) 2)) (top-is root index first z o n d)
@@ -210,10 +211,10 @@ module _ (root index first : ℕ) (z : Stores) (o : SoundStores root index first
       (subst (λ (u : ℕ). Sounds [] (with-tables (moded u false (z .tables)) z)) (sym t-is) (moded-sounds z n d [] sounds))
 
   -- THE SEARCH IS OVER, with these rings
-  abbrev over-with : Places → Stores
+  abbrev pub over-with : Places → Stores
   over-with p = with-lent (lent-of (z .tables) (with-places (z .strands) p) (z .answers) (bare (z .stack)) (z .clock)) z
 
-  over-sound : (p : Places) → SoundStrands (first-strands (z .book)) (with-places (z .strands) p) (z .tables .count) []
+  pub over-sound : (p : Places) → SoundStrands (first-strands (z .book)) (with-places (z .strands) p) (z .tables .count) []
       → Sounds [] (over-with p)
   over-sound p sound = record {
     tables = o .tables;
@@ -258,82 +259,6 @@ module _ (root index first : ℕ) (z : Stores) (o : SoundStores root index first
       (λ m e. no-stop (left z idles.Finishes .flow) m refl e)
       (subst (λ (m : ℕ). Sounds [] (over-by m)) below (gone-sound z n d sounds none))
 
-  -- A CALLER, at height m: its strand is in its entry
-  module _ (m : ℕ) (below : n ≡ suc m) (no-strand : getD (z .stack .active) n 0 ≡ 256) where
-    abbrev fresh : FirstStrands
-    fresh = first-strands (z .book)
-
-    abbrev tb : List ℕ
-    tb = z .stack .table
-
-    abbrev ac : List ℕ
-    ac = z .stack .active
-
-    abbrev q : ℕ
-    q = getD ac m 0
-
-    q-there : q ≡ 256 → ⊥
-    q-there = is-there root index first z o n d m below
-
-    q-few : q < 256
-    q-few = under q (o .stack .places m (omega arith)) q-there
-
-    place-is : caller-place (z .stack .depth) ac ≡ q
-    place-is =
-        let back : z .stack .depth - 2 ≡ m = omega arith in
-        caller-place-is fresh (z .stack) (z .strands) (o .stack) (omega arith) ∙ ap (λ (i : ℕ). getD ac i 0) back
-
-    held-is : held-places z ≡ q ∷ active-places ac m
-    held-is =
-        let last : z .stack .depth - 1 ≡ n = omega arith in
-        pop-places (z .stack) (omega arith) (ap (λ (i : ℕ). getD ac i 0) last ∙ no-strand)
-        ∙ ap (active-places ac) (last ∙ below)
-        ∙ ap (λ (b : Bool). elim b as (λ (c : Bool). List ℕ) [ true ↦ active-places ac m | false ↦ q ∷ active-places ac m ])
-        (ne-eqb q 256 q-there)
-
-    strands-held : SoundStrands (first-strands (z .book)) (z .strands) (z .tables .count) (getD (z .stack .active) m 0 ∷ active-places ac m)
-    strands-held = subst (SoundStrands fresh (z .strands) (z .tables .count)) held-is (o .strands)
-
-    -- THE CALLER FAILED: its strand's place is free, and those below go back
-    abbrev freed : Strands
-    freed = given q (z .strands)
-
-    unwound : Back z (sounds .made) (o .stack .places) m freed
-    unwound =
-        unwinds z (sounds .made) (o .stack .places) m (omega arith) freed
-        (given-strand-sound fresh (z .strands) (z .tables .count) (active-places ac m) q strands-held)
-
-    failed-is : caller-failed tb ac (z .stack .depth) (z .strands .places) ≡ all-back tb ac m (enqueued free q (z .strands .places))
-    failed-is =
-        let few = o .stack .few in
-        let lower : within (z .stack .depth - 1 - 1) ≡ m = omega arith in
-        ap₂ (λ (i p : ℕ). all-back tb ac i (enqueued-back free p (z .strands .places))) lower place-is
-        ∙ ap (λ (b : Bool). all-back tb ac m (enqueued-if b free q (z .strands .places))) (lt-ltb q 256 q-few)
-
-    failed-view : state (over-with (all-back tb ac m (enqueued free q (z .strands .places)))) ≡ splits.gone (splits.popped (state z))
-    failed-view =
-        ap (λ (f : Forest). record { forest = f; stack = [] })
-        (unwound .view
-        ∙ ap₂ splits.callers-unwound
-        (forest-is z (forest (with-strands freed z) .tables) (forest z .tables)
-        (given-view fresh (z .tables) (z .answers) (z .strands) (active-places ac m) q (strands-held .places)))
-        (entries-moved z (freed .places) m))
-        ∙ sym (ap (λ (i : ℕ). splits.gone (splits.popped (state-above i z))) below)
-        ∙ sym (ap (λ (s : SolveState). splits.gone (splits.popped s)) (state-is z n d))
-
-    failed-performs : idle z ≡ idles.CallerFailed → Performs z
-    failed-performs is =
-        read-back z idles.CallerFailed is refl (hand-was z (read-place z))
-        (ap (λ (s : SolveState). go (logic.return-err logic.QuantumExceeded s))
-        (ap (λ (p : Places). state (over-with p)) failed-is ∙ failed-view))
-        (λ m e. no-stop (left z idles.CallerFailed .flow) m refl e)
-        (subst (λ (p : Places). Sounds [] (over-with p)) (sym failed-is)
-        (over-sound (all-back tb ac m (enqueued free q (z .strands .places))) (unwound .sound)))
-
   -- with an act that is for a caller there is one
-  caller-below : ltb (z .stack .depth) 2 ≡ false → n ≡ suc (n - 1)
+  pub caller-below : ltb (z .stack .depth) 2 ≡ false → n ≡ suc (n - 1)
   caller-below e = omega (arith, ltb-false (z .stack .depth) 2 e)
-
-  pub caller-failed-performs : idle z ≡ idles.CallerFailed → Performs z
-  caller-failed-performs is =
-      failed-performs (n - 1) (caller-below (root-known idles.CallerFailed is refl)) (no-strand idles.CallerFailed is refl) is
