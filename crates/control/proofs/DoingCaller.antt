@@ -60,12 +60,20 @@ use Rattle.control.specs.UnwindStack.{enqueued-if, enqueued-back, all-ba
 use Rattle.control.proofs.Doing.{state-is, forest-is, entries-moved, idle-sound, idle-view, active-sound, active-view}
 use Rattle.control.proofs.Doing.{queued-sound, queued-view, written-sounds, written-view, written-shown}
 use Rattle.control.proofs.DoingBack.{hand-was, put-so, performs-as}
-use Rattle.control.proofs.DoingNoStrand.{no-stop, left, done, done-is, read-back, sounds, not-found, no-strand, root-known}
+use Rattle.control.proofs.DoingNoStrand.{no-stop, left, after, done, done-is, read-back, sounds, not-found, no-strand, root-known}
 use Rattle.control.proofs.DoingNoStrand.{over-with, over-sound, caller-below}
 use Rattle.control.proofs.DoingStack.{Back, unwinds, popped-sound, popped-view, cycled-sound, cycled-view}
 use Rattle.control.proofs.EnsureRootAnswer.{Known, in-hand-is, in-hand-sound}
-use Rattle.control.proofs.OnNoStrandsLeft.{under, is-there, calls, strand-is, selected-is, awaits, sign-of-caller, for-caller, minimum-is}
+use Rattle.control.proofs.OnNoStrandsLeft.{under, is-there, calls, strand-is, selected-is, awaits}
+use Rattle.control.proofs.OnNoStrandsLeft.{sign-of-caller, for-caller, minimum-is}
 use Rattle.control.proofs.PerformIdleCases.{table-some}
+use Rattle.control.proofs.Stores.{top-entry, entries-below}
+
+-- a cycle changes the minimums alone
+active-apart : (l : books.Literal) (m : Minimums) (e : said.StackEntry)
+    → cycle-minimums l m (with-active e none) ≡ with-active (cycle-minimums l m e) none
+active-apart (Positive goal want outsized) m e = refl
+active-apart (Negative goal outsized) m e = refl
 
 module _ (root index first : ℕ) (z : Stores) (o : SoundStores root index first z) (n : ℕ) (d : z .stack .depth ≡ suc n) where
   -- A CALLER, at height m: its strand is in its entry
@@ -120,7 +128,8 @@ module _ (root index first : ℕ) (z : Stores) (o : SoundStores root index first
         ap₂ (λ (i p : ℕ). all-back tb ac i (enqueued-back free p (z .strands .places))) lower place-is
         ∙ ap (λ (b : Bool). all-back tb ac m (enqueued-if b free q (z .strands .places))) (lt-ltb q 256 q-few)
 
-    failed-view : state (over-with root index first z o n d (all-back tb ac m (enqueued free q (z .strands .places)))) ≡ splits.gone (splits.popped (state z))
+    failed-view : state (over-with root index first z o n d (all-back tb ac m (enqueued free q (z .strands .places))))
+        ≡ splits.gone (splits.popped (state z))
     failed-view =
         ap (λ (f : Forest). record { forest = f; stack = [] })
         (unwound .view
@@ -299,11 +308,99 @@ module _ (root index first : ℕ) (z : Stores) (o : SoundStores root index first
         (λ i e. no-stop (left z idles.CallerProved .flow) i refl e)
         (subst (λ (w : Lent). Sounds [] (with-lent w z)) (sym put-is) (subst (Sounds []) (sym stores-are) entry-fine))
 
+    -- THE CALLER MEETS THE TOP'S CYCLE: it takes the top's minimums, and its strand goes back to its table's queue
+    abbrev through : books.Literal
+    through = selected-literal shown
+
+    abbrev least : Minimums
+    least = minimums-at (getD (z .stack .positive) n 0) (getD (z .stack .negative) n 0)
+
+    abbrev meeting : Stores
+    meeting = with-stack (cycled (is-negative through) least (in-hand .stack)) in-hand
+
+    meeting-fine : Sounds (q ∷ []) meeting
+    meeting-fine = cycled-sound in-hand m few-below (q ∷ []) in-hand-fine through least
+
+    abbrev rejoining : Stores
+    rejoining = with-strands (enqueued-strand (getD tb m 0) q (z .strands)) meeting
+
+    rejoining-fine : Sounds [] rejoining
+    rejoining-fine = queued-sound meeting q meeting-fine m few-below
+
+    rejoining-shows : state rejoining
+        ≡ splits.queued-at-top shown (splits.top-entry (λ c. with-active (cycle-minimums through least c) none) (state-above m popped-z))
+    rejoining-shows =
+        state-is rejoining m few-below
+        ∙ queued-view meeting q meeting-fine m few-below
+        ∙ ap (splits.queued-at-top shown)
+        (cycled-view in-hand m few-below (q ∷ []) in-hand-fine through least
+        ∙ ap (splits.top-entry (cycle-minimums through least)) in-hand-shows
+        ∙ ap (λ (e : said.StackEntry). record { forest = forest z; stack = e ∷ entries-below popped-z m })
+        (active-apart through least (top-entry popped-z m)))
+
+    taken-is : caller-taken (z .stack) ≡ in-hand .stack
+    taken-is =
+        let few = o .stack .few in
+        let back : z .stack .depth - 2 ≡ m = omega arith in
+        ap (λ (l : List ℕ). record {
+          depth = z .stack .depth - 1;
+          table = z .stack .table;
+          clock = z .stack .clock;
+          positive = z .stack .positive;
+          negative = z .stack .negative;
+          active = l;
+        })
+        (ap₂ (λ (b : Bool) (i : ℕ). set-if b i 256 ac) (some-caller (z .stack .depth) (omega arith) (omega arith)) back
+        ∙ sym (top-is-set 256 ac))
+
+    cycled-is : cycled (caller-waits-on-not (z .strands .waits) ac (z .stack .depth))
+        (minimums-at (minimum-at (z .stack .positive) (z .stack .depth)) (minimum-at (z .stack .negative) (z .stack .depth)))
+        (caller-taken (z .stack)) ≡ meeting .stack
+    cycled-is =
+        ap₂ (λ (b : Bool) (k : Stack). cycled b
+        (minimums-at (minimum-at (z .stack .positive) (z .stack .depth)) (minimum-at (z .stack .negative) (z .stack .depth))) k)
+        (sign-of-caller root index first z o n d m below) taken-is
+        ∙ ap₂ (λ (x y : ℕ). cycled (is-negative through) (minimums-at x y) (in-hand .stack))
+        (minimum-is root index first z o n d (z .stack .positive)) (minimum-is root index first z o n d (z .stack .negative))
+
+    rejoined-is : rejoined tb ac (z .stack .depth) (z .strands .places) ≡ enqueued (getD tb m 0) q (z .strands .places)
+    rejoined-is =
+        let few = o .stack .few in
+        let back : z .stack .depth - 2 ≡ m = omega arith in
+        ap₂ (λ (u p : ℕ). enqueued-back u p (z .strands .places))
+        (sym (table-some (z .stack .depth) tb (omega arith) (omega arith)) ∙ ap (λ (i : ℕ). getD tb i 0) back) place-is
+        ∙ ap (λ (b : Bool). enqueued-if b (getD tb m 0) q (z .strands .places)) (lt-ltb q 256 q-few)
+
+    part-is : after z idles.PartOfCycle ≡ rejoining
+    part-is =
+        ap₂ (λ (p : Places) (k : Stack). with-lent (lent-of (z .tables) (with-places (z .strands) p) (z .answers) k (z .clock)) z)
+        rejoined-is cycled-is
+
+    abbrev met : SolveState → SolveState
+    met s = splits.queued-at-top shown (splits.top-entry (λ c. with-active (cycle-minimums through least c) none) s)
+
+    part-performs : idle z ≡ idles.PartOfCycle → Performs z
+    part-performs is =
+        read-back z idles.PartOfCycle is refl (hand-was z (read-place z))
+        (ap (λ (s : SolveState). go (logic.continue s))
+        (ap state part-is ∙ rejoining-shows ∙ ap met (popped-shows ∙ ap splits.popped (state-is z n d)))
+        ∙ sym (ap (λ (s : SolveState). go (splits.perform (splits.part-of-cycle shown through) s)) (state-is z n d))
+        ∙ sym (ap (λ (a : splits.Act). go (splits.perform a (state z)))
+        (for-caller root index first z o n d m below (λ s. splits.part-of-cycle s (selected-literal s)))))
+        (λ i e. no-stop (left z idles.PartOfCycle .flow) i refl e)
+        (subst (Sounds []) (sym part-is) rejoining-fine)
+
   pub caller-failed-performs : idle z ≡ idles.CallerFailed → Performs z
   caller-failed-performs is =
-      failed-performs (n - 1) (caller-below root index first z o n d (root-known root index first z o n d idles.CallerFailed is refl)) (no-strand root index first z o n d idles.CallerFailed is refl) is
+      failed-performs (n - 1) (caller-below root index first z o n d (root-known root index first z o n d idles.CallerFailed is refl))
+      (no-strand root index first z o n d idles.CallerFailed is refl) is
 
   pub caller-proved-performs : idle z ≡ idles.CallerProved → Performs z
   caller-proved-performs is =
       proved-performs (n - 1) (caller-below root index first z o n d (root-known root index first z o n d idles.CallerProved is refl))
       (no-strand root index first z o n d idles.CallerProved is refl) is
+
+  pub part-of-cycle-performs : idle z ≡ idles.PartOfCycle → Performs z
+  part-of-cycle-performs is =
+      part-performs (n - 1) (caller-below root index first z o n d (root-known root index first z o n d idles.PartOfCycle is refl))
+      (no-strand root index first z o n d idles.PartOfCycle is refl) is
