@@ -44,3 +44,5 @@ pub mod DoingTables
 pub mod DoingBack
 pub mod DoingNoStrand
 pub mod DoingCaller
+pub mod DoingClears
+pub mod DoingIdle
