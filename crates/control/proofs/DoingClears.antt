@@ -1,13 +1,13 @@
 -- A cycle cleared where the top has no strand to go on with, done, for sound stores: 29 leaves everything as it was; else the tables lose
 -- their queues, the callers' strands go back, and the search is over.
-use Prim.Native.Nat.{ℕ, suc, _+_, _-_, _%_, _≤_, _<_}
+use Prim.Native.Nat.{ℕ, suc, _-_, _%_, _≤_, _<_}
 use native.Mathlib.Nat.{mod-eq-of-lt}
 use native.Mathlib.Omega.{arith}
 use mathlib.Core.Bool.{Bool, true, false}
 use mathlib.Core.List.{List, [], _∷_, map}
 use mathlib.Core.Option.{Option, none, some}
 use mathlib.Core.Path.{_≡_, refl, sym, ap, ap₂, subst, _∙_}
-use lib.Dec.{eqb, ltb}
+use lib.Dec.{eqb}
 use lib.ListN.{length, getD, getElem?}
 use borrow.Author.Tests.{lt-ltb, eqb-true}
 use Rattle.definitions.specs.{TableIndex}
@@ -15,7 +15,6 @@ use Rattle.definitions.specs.Book as books
 use Rattle.definitions.specs.Lists.{any-passes}
 use Rattle.definitions.specs.Logic as logic
 use Rattle.definitions.specs.Logic.{SolveState}
-use Rattle.definitions.specs.Stack as said
 use Rattle.definitions.specs.Stop.{Stops, stop, go, _>>=_}
 use Rattle.definitions.specs.Strand as held
 use Rattle.definitions.specs.Table.{Table}
@@ -33,26 +32,25 @@ use Rattle.stores.specs.declared.queue.Strands.{Strands}
 use Rattle.stores.specs.Numbers.{within}
 use Rattle.stores.specs.Places.{ring}
 use Rattle.stores.specs.Queue.{is-not, waits-on, waits-for, with-places}
-use Rattle.stores.specs.Sound.{InUse, SoundStrands}
-use Rattle.stores.specs.View.{FirstStrands, strand-by, strand-at, is-fresh, unread-strand, active-places}
+use Rattle.stores.specs.Sound.{SoundStrands}
+use Rattle.stores.specs.View.{FirstStrands, strand-by, strand-at, is-fresh, unread-strand}
 use Rattle.stores.proofs.ListsAlike.{times-cases}
 use Rattle.control.specs.declared.clear_strands_after_cycle.Cleared.{Cleared}
 use Rattle.control.specs.declared.on_no_strands_left.Idle.the-variants as idles
 use Rattle.control.specs.declared.perform.Flow.the-variants as ways
 use Rattle.control.specs.ClearStrandsAfterCycle.{cleared, awaited, Told, Shows, rings-in, queue-unless, Emptied, Clears}
-use Rattle.control.specs.Doing.{with-lent, with-strands, Sounds, state-above, flows}
+use Rattle.control.specs.Doing.{with-lent, with-strands, Sounds, flows}
 use Rattle.control.specs.Performing.{read-place, Performs}
-use Rattle.control.specs.PerformIdle.{cleared-by, clearing, cycle-cleared, clearing-flow, clearing-depth, with-depth}
+use Rattle.control.specs.PerformIdle.{cleared-by, clearing, clearing-flow, clearing-depth, with-depth}
 use Rattle.control.specs.PerformStrand.{lent-of}
 use Rattle.control.specs.Stores.{Stores, first-strands, forest, state, held-places, SoundStores}
-use Rattle.control.specs.Turn as turns
 use Rattle.control.specs.Turn.{top, idle}
 use Rattle.control.specs.UnwindStack.{all-back}
 use Rattle.control.proofs.ClearStrandsAfterCycleDecides.{clear-decides}
 use Rattle.control.proofs.ClearStrandsAfterCycleEmptied.{emptied-view}
 use Rattle.control.proofs.Doing.{state-is, entries-moved}
 use Rattle.control.proofs.DoingBack.{hand-was}
-use Rattle.control.proofs.DoingNoStrand.{no-stop, left, read-back, sounds, t-is, no-strand, over-with, over-sound}
+use Rattle.control.proofs.DoingNoStrand.{no-stop, read-back, sounds, top-table-is, no-strand, over-with, over-sound}
 use Rattle.control.proofs.DoingStack.{Back, unwinds, popped-off, below-is}
 use Rattle.control.proofs.Stores.{table-held, few-made, counted, table-found, table-made, searching}
 
@@ -230,7 +228,7 @@ module _ (root index first : ℕ) (z : Stores) (o : SoundStores root index first
 
     came-here : Came (cleared-at (top z .table) .«met_29») (cleared-at (top z .table)) (decided-at (top z .table))
     came-here =
-        subst (λ (t : ℕ). Came (cleared-at t .«met_29») (cleared-at t) (decided-at t)) (sym (t-is root index first z o n d)) came-there
+        subst (λ (t : ℕ). Came (cleared-at t .«met_29») (cleared-at t) (decided-at t)) (sym (top-table-is root index first z o n d)) came-there
 
   pub clear-performs : idle z ≡ idles.Clears → Performs z
   clear-performs is =

@@ -8,7 +8,8 @@ use Rattle.control.specs.Perform.{has-strand}
 use Rattle.control.specs.Performing.{Performs}
 use Rattle.control.specs.Stores.{Stores, SoundStores}
 use Rattle.control.specs.Turn.{idle}
-use Rattle.control.proofs.DoingCaller.{caller-failed-performs, caller-proved-performs, part-of-cycle-performs}
+use Rattle.control.proofs.DoingCaller.{caller-failed-performs}
+use Rattle.control.proofs.DoingCallerStrand.{caller-proved-performs, part-of-cycle-performs}
 use Rattle.control.proofs.DoingClears.{clear-performs}
 use Rattle.control.proofs.DoingNoStrand.{mode-performs, negative-performs, finish-performs}
 

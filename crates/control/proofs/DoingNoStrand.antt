@@ -3,57 +3,47 @@
 use Prim.Native.Nat.{ℕ, suc, _-_, _≤_, _<_}
 use native.Mathlib.Omega.{arith}
 use mathlib.Core.Bool.{Bool, true, false, true≢false}
-use mathlib.Core.List.{List, [], _∷_}
-use mathlib.Core.Path.{_≡_, refl, sym, ap, ap₂, subst, _∙_}
+use mathlib.Core.List.{List, []}
+use mathlib.Core.Path.{_≡_, refl, sym, ap, subst, _∙_}
 use lib.Dec.{eqb, ltb}
 use lib.ListN.{getD}
-use borrow.Author.Tests.{lt-ltb, ltb-true, ltb-false, ne-eqb}
+use borrow.Author.Tests.{ltb-true, ltb-false}
 use Rattle.definitions.specs as said-numbers
 use Rattle.definitions.specs.{MAX}
 use Rattle.definitions.specs.Logic as logic
 use Rattle.definitions.specs.Logic.{SolveState}
 use Rattle.definitions.specs.Stop.{Stops, go, _>>=_}
 use Rattle.definitions.specs.Table.{with-mode}
-use Rattle.definitions.specs.Tables.{Forest}
 use Rattle.split.specs.Acts as splits
-use Rattle.strands.specs.declared.Strand.{Strand}
 use Rattle.stores.specs.declared.places.Places.{Places}
 use Rattle.stores.specs.declared.queue.Spot.{Spot}
-use Rattle.stores.specs.declared.queue.Strands.{Strands}
-use Rattle.stores.specs.Numbers.{free, within}
-use Rattle.stores.specs.Places.{enqueued}
-use Rattle.stores.specs.Queue.{with-places, given}
+use Rattle.stores.specs.Numbers.{within}
+use Rattle.stores.specs.Queue.{with-places}
 use Rattle.stores.specs.Sound.{SoundStrands}
-use Rattle.stores.specs.Stack.{caller-place}
 use Rattle.stores.specs.Tables.{moded}
-use Rattle.stores.specs.View.{FirstStrands, is-fresh, unread-strand, unread-answer, active-places}
-use Rattle.stores.proofs.QueueSound.{given-strand-sound}
-use Rattle.stores.proofs.QueueViews.{given-view}
-use Rattle.stores.proofs.StackCallers.{caller-place-is, pop-places}
-use Rattle.control.specs.declared.ensure_root_answer.Next.{Next}
+use Rattle.stores.specs.View.{is-fresh, unread-strand, unread-answer}
 use Rattle.control.specs.declared.ensure_root_answer.Top.{Top}
 use Rattle.control.specs.declared.on_no_strands_left.Idle.{Idle}
 use Rattle.control.specs.declared.on_no_strands_left.Idle.the-variants as idles
 use Rattle.control.specs.declared.perform.Flow.{Flow}
 use Rattle.control.specs.declared.perform.Flow.the-variants as ways
-use Rattle.control.specs.Doing.{lent, with-lent, with-tables, with-strands, Sounds, state-above, flows}
-use Rattle.control.specs.EnsureRootAnswer.{next-by, next-strand}
+use Rattle.control.specs.Doing.{lent, with-lent, with-tables, Sounds, state-above, flows}
+use Rattle.control.specs.EnsureRootAnswer.{next-by}
 use Rattle.control.specs.OnNoStrandsLeft.{caller-waits-on-not, no-strands-by, minimum-at, part-by, head-by, cycle-by, left-by}
 use Rattle.control.specs.OnNoStrandsLeft.{without-by}
 use Rattle.control.specs.Perform.{has-strand, stops, left-so, idle-left, performed, performed-by}
 use Rattle.control.specs.PerformDeed.{bare}
-use Rattle.control.specs.PerformIdle.{caller-failed, idling, IdleDone, idle-done}
+use Rattle.control.specs.PerformIdle.{idling, IdleDone, idle-done}
 use Rattle.control.specs.Performing.{put, read-place, chosen, turn-done, Performs}
 use Rattle.control.specs.PerformStrand.{lent-of, TurnDone}
-use Rattle.control.specs.Stores.{Stores, first-strands, forest, state, held-places, SoundStores}
-use Rattle.control.specs.Turn.{top, next, hand-at, decided-for, idle, act-means, turn-means}
-use Rattle.control.specs.UnwindStack.{enqueued-if, enqueued-back, all-back}
-use Rattle.control.proofs.Doing.{state-is, forest-is, entries-moved}
+use Rattle.control.specs.Stores.{Stores, first-strands, state, SoundStores}
+use Rattle.control.specs.Turn.{top, next, hand-at, decided-for, idle, act-means}
+use Rattle.control.specs.UnwindStack.{all-back}
+use Rattle.control.proofs.Doing.{state-is}
 use Rattle.control.proofs.DoingBack.{hand-was, so-sound, so-view, performs-as, strand-found}
-use Rattle.control.proofs.DoingStack.{Back, unwinds, gone-sound, gone-view}
+use Rattle.control.proofs.DoingStack.{gone-sound, gone-view}
 use Rattle.control.proofs.DoingTables.{moded-sounds, mode-changed}
 use Rattle.control.proofs.EnsureRootAnswer.{top-is}
-use Rattle.control.proofs.OnNoStrandsLeft.{under, is-there}
 use Rattle.control.proofs.Stores.{entries-made}
 
 -- what is known of an act: whether the top is the root
@@ -172,13 +162,8 @@ module _ (root index first : ℕ) (z : Stores) (o : SoundStores root index first
   abbrev t : ℕ
   t = getD (z .stack .table) n 0
 
-  pub t-is : top z .table ≡ t
-  t-is = ap (λ (x : Top). x .table) (top-is root index first z o n d)
-
-  abbrev next-under : Top → Next
-  next-under x =
-      next-strand (z .strands .places .next) (z .strands .places .tail) (z .strands .places .len) (z .strands .time)
-      (z .strands .ambiguous) x
+  pub top-table-is : top z .table ≡ t
+  top-table-is = ap (λ (x : Top). x .table) (top-is root index first z o n d)
 
   -- WHERE THERE IS NO STRAND
   module _ (i : Idle) (is : idle z ≡ i) (none : has-strand i ≡ false) where
@@ -203,12 +188,12 @@ module _ (root index first : ℕ) (z : Stores) (o : SoundStores root index first
   pub mode-performs : idle z ≡ idles.ChangesMode → Performs z
   mode-performs is =
       read-back z idles.ChangesMode is refl (hand-was z (read-place z))
-      (ap (λ (u : ℕ). go (logic.return-err logic.QuantumExceeded (state (with-tables (moded u false (z .tables)) z)))) t-is
+      (ap (λ (u : ℕ). go (logic.return-err logic.QuantumExceeded (state (with-tables (moded u false (z .tables)) z)))) top-table-is
       ∙ ap (λ (s : SolveState). go (logic.return-err logic.QuantumExceeded s))
       (state-is (with-tables (moded t false (z .tables)) z) n d ∙ mode-changed z n d [] sounds
       ∙ sym (ap (splits.top-table (λ u. with-mode u said-numbers.Ambiguous)) (state-is z n d))))
       (λ m e. no-stop (left z idles.ChangesMode .flow) m refl e)
-      (subst (λ (u : ℕ). Sounds [] (with-tables (moded u false (z .tables)) z)) (sym t-is) (moded-sounds z n d [] sounds))
+      (subst (λ (u : ℕ). Sounds [] (with-tables (moded u false (z .tables)) z)) (sym top-table-is) (moded-sounds z n d [] sounds))
 
   -- THE SEARCH IS OVER, with these rings
   abbrev pub over-with : Places → Stores

@@ -44,5 +44,6 @@ pub mod DoingTables
 pub mod DoingBack
 pub mod DoingNoStrand
 pub mod DoingCaller
+pub mod DoingCallerStrand
 pub mod DoingClears
 pub mod DoingIdle
