@@ -228,7 +228,8 @@ module _ (root index first : ℕ) (z : Stores) (o : SoundStores root index first
 
     came-here : Came (cleared-at (top z .table) .«met_29») (cleared-at (top z .table)) (decided-at (top z .table))
     came-here =
-        subst (λ (t : ℕ). Came (cleared-at t .«met_29») (cleared-at t) (decided-at t)) (sym (top-table-is root index first z o n d)) came-there
+        subst (λ (t : ℕ). Came (cleared-at t .«met_29») (cleared-at t) (decided-at t)) (sym (top-table-is root index first z o n d))
+        came-there
 
   pub clear-performs : idle z ≡ idles.Clears → Performs z
   clear-performs is =
