@@ -270,10 +270,10 @@ module _ (z : Stores) (n : ℕ) (d : z .stack .depth ≡ suc n) (o : Sounds [] z
   abbrev over : Strands
   over = with-places (z .strands) (all-back tb′ ac′ (within (z .stack .depth - 1)) (z .strands .places))
 
-  below-is : within (z .stack .depth - 1) ≡ n
+  pub below-is : within (z .stack .depth - 1) ≡ n
   below-is = let few = o .stack .few in omega arith
 
-  popped-off : active-places ac′ (z .stack .depth) ≡ active-places ac′ n
+  pub popped-off : active-places ac′ (z .stack .depth) ≡ active-places ac′ n
   popped-off =
       pop-places (z .stack) (omega arith) (ap (λ (i : ℕ). getD ac′ i 0) (last-is z n d) ∙ no-strand)
       ∙ ap (active-places ac′) (last-is z n d)

@@ -48,3 +48,9 @@ pub mod DoingDecision
 pub mod DoingLeft
 pub mod DoingMade
 pub mod DoingBegun
+pub mod DoingBack
+pub mod DoingNoStrand
+pub mod DoingCaller
+pub mod DoingCallerStrand
+pub mod DoingClears
+pub mod DoingIdle

@@ -60,7 +60,7 @@ sign-is : (found : Option books.Literal) (l : books.Literal) → found ≡ some 
 sign-is none l e = absurd (no-such e)
 sign-is (some l) m e = refl
 
-under : (q : ℕ) → q ≤ 256 → (q ≡ 256 → ⊥) → q < 256
+pub under : (q : ℕ) → q ≤ 256 → (q ≡ 256 → ⊥) → q < 256
 under q h n = below-next q 256 (omega arith) n
 
 module _ (root index first : ℕ) (z : Stores) (o : SoundStores root index first z) (n : ℕ) (d : z .stack .depth ≡ suc n) where
@@ -101,7 +101,7 @@ module _ (root index first : ℕ) (z : Stores) (o : SoundStores root index first
     abbrev shown : held.Strand
     shown = strand-at fresh (z .strands) q
 
-    calls : Calls (z .book .goals) (f .tables) t (active-strand-at fresh (z .strands) q)
+    pub calls : Calls (z .book .goals) (f .tables) t (active-strand-at fresh (z .strands) q)
     calls =
         subst (λ (i : ℕ). Below (z .book .goals) (f .tables) root first t (top-entry z n .clock) (entries-below z i)) below
         (searching root index first z o n d .below)
@@ -110,22 +110,22 @@ module _ (root index first : ℕ) (z : Stores) (o : SoundStores root index first
     abbrev active-by : (none-active : Bool) → Option held.Strand
     active-by none-active = elim none-active [ true ↦ none | false ↦ some shown ]
 
-    is-there : q ≡ 256 → ⊥
+    pub is-there : q ≡ 256 → ⊥
     is-there e = no-such (sym (ap active-by (eq-eqb q 256 e)) ∙ calls .is-active)
 
-    active-is : active-strand-at fresh (z .strands) q ≡ some shown
+    pub active-is : active-strand-at fresh (z .strands) q ≡ some shown
     active-is = ap active-by (ne-eqb q 256 is-there)
 
-    strand-is : calls .strand ≡ shown
+    pub strand-is : calls .strand ≡ shown
     strand-is = same-some (sym (calls .is-active) ∙ active-is)
 
     abbrev literals : List books.Literal
     literals = shown .ex-clause .subgoals
 
-    selected-is : shown .selected-subgoal ≡ some (calls .selected)
+    pub selected-is : shown .selected-subgoal ≡ some (calls .selected)
     selected-is = ap (λ (x : held.Strand). x .selected-subgoal) (sym strand-is) ∙ calls .is-selected
 
-    awaits : Awaits (f .tables) (length literals) (calls .selected)
+    pub awaits : Awaits (f .tables) (length literals) (calls .selected)
     awaits =
         subst (Selects (f .tables) (length literals)) selected-is
         (subst (SoundStrand (z .book .goals) (f .tables)) strand-is (calls .sound) .1)
@@ -164,7 +164,7 @@ module _ (root index first : ℕ) (z : Stores) (o : SoundStores root index first
         ∙ ap (λ (j : Option held.SelectedSubgoal). is-negative (or no-literal (getElem? literals (or no-selected j .subgoal-index))))
         (sym selected-is)
 
-    sign-of-caller : caller-waits-on-not (z .strands .waits) (z .stack .active) (z .stack .depth) ≡ is-negative (selected-literal shown)
+    pub sign-of-caller : caller-waits-on-not (z .strands .waits) (z .stack .active) (z .stack .depth) ≡ is-negative (selected-literal shown)
     sign-of-caller =
         let back : z .stack .depth - 2 ≡ m = omega arith in
         let few = o .stack .places m (omega arith) in
@@ -177,7 +177,7 @@ module _ (root index first : ℕ) (z : Stores) (o : SoundStores root index first
     caller-is = ap (or no-strand) active-is
 
     -- what the caller's strand is for
-    for-caller : (act : held.Strand → Act) → with-caller act (entries-of z) ≡ act shown
+    pub for-caller : (act : held.Strand → Act) → with-caller act (entries-of z) ≡ act shown
     for-caller act =
         ap (with-caller act) (stack-is root index first z o n d ∙ ap (λ (i : ℕ). top-entry z n ∷ entries-below z i) below)
         ∙ ap act caller-is
@@ -256,7 +256,7 @@ module _ (root index first : ℕ) (z : Stores) (o : SoundStores root index first
       (ap₂ (λ (b c : Bool). cycle-decided (b && c)) (le-leb clock (least .positive) (ltb-false (least .positive) clock e))
       (le-leb clock (least .negative) (ltb-false (least .negative) clock e′)))
 
-  minimum-is : (l : List ℕ) → minimum-at l (z .stack .depth) ≡ getD l n 0
+  pub minimum-is : (l : List ℕ) → minimum-at l (z .stack .depth) ≡ getD l n 0
   minimum-is l =
       let last : z .stack .depth - 1 ≡ n = omega arith in
       sym (minimum-some l (z .stack .depth) (λ e. omega arith) (o .stack .few)) ∙ ap (λ (i : ℕ). getD l i 0) last
