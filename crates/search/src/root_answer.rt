@@ -152,7 +152,15 @@ pub fn start(
     if flag_at(floundered, t) {
         return ended(Course { done: 0, ..was }, Ending::Floundered);
     }
-    let i = index_from(mode, answer_next, answer_tail, answer_len, answer_key, t, was.index);
+    let i = index_from(
+        mode,
+        answer_next,
+        answer_tail,
+        answer_len,
+        answer_key,
+        t,
+        was.index,
+    );
     let c = Course {
         done: 0,
         index: i,
@@ -298,10 +306,7 @@ fn next_round(c: Course) -> Course
             ..c
         };
     }
-    Course {
-        exceeded,
-        ..c
-    }
+    Course { exceeded, ..c }
 }
 
 // What comes after a search that has ended: the course is over, or another search is to start.

@@ -1,0 +1,135 @@
+-- The ways out of the functions of root_answer.rt, over variables: what a return says is the model at the tests that led there.
+use Prim.Native.Nat.{ℕ, _+_, _-_, _≤_, _<_}
+use native.Mathlib.Numerals.{add-one}
+use mathlib.Core.Bool.{Bool, true, false, not}
+use mathlib.Core.List.{List}
+use mathlib.Core.Path.{_≡_, sym, ap, ap₂, _∙_}
+use lib.Dec.{eqb, leb, ltb}
+use lib.ListN.{getD}
+use borrow.Author.Tests.{lt-ltb, le-ltb, le-leb, lt-leb, eq-eqb, ne-eqb}
+use Rattle.definitions.specs.{MAX}
+use Rattle.rings.specs.Rings.{ring-of, place-if}
+use Rattle.control.specs.declared.perform.Flow.{Flow}
+use Rattle.search.specs.declared.course.Asked.{Asked}
+use Rattle.search.specs.declared.course.Course.{Course}
+use Rattle.search.specs.declared.course.Ending.{Ending}
+use Rattle.search.specs.declared.course.Ending.the-variants as endings
+use Rattle.search.specs.declared.course.Mode.{Mode}
+use Rattle.search.specs.Course.{is-peek}
+use Rattle.search.specs.RootAnswer.{stored-by, stored-at, stored-answer, course-at, pushes-by, pushes-root}
+use Rattle.search.specs.RootAnswer.{one-more-by, one-more, ending-of, counted, marked, finish, is-invalid, is-exceeded}
+use Rattle.search.specs.RootAnswer.{last-index, skip-by, skip-invalid, round-by, next-round, next-by, next-search}
+
+-- BEFORE THE FIRST TURN
+
+-- the answer stored at an index
+module _ (next tail len variant key ambiguous : List ℕ) (t index : ℕ) where
+  abbrev answered : Ending
+  answered = stored-answer next tail len variant key ambiguous t index
+
+  pub stored-far : 256 ≤ index → endings.Stopped 0 ≡ answered
+  stored-far h =
+      let q = place-if (ltb index (getD len t 0)) (getD (ring-of next tail len t) index 0) in
+      sym (ap (λ (b : Bool). stored-at next tail len variant key ambiguous b q) (le-leb 256 index h))
+
+  -- it stands at the place p
+  module _ (p : ℕ) (near : index < 256) (is : p ≡ place-if (ltb index (getD len t 0)) (getD (ring-of next tail len t) index 0)) where
+    abbrev by : (none delayed : Bool) → Ending
+    by none delayed = stored-by false none delayed (getD variant p 0) (not (eqb (getD ambiguous p 0) 0))
+
+    here : by (leb 256 p) (ltb 0 (getD key p 0)) ≡ answered
+    here = sym (ap (λ (b : Bool). stored-at next tail len variant key ambiguous b p) (lt-leb 256 index near))
+        ∙ ap (stored-at next tail len variant key ambiguous (leb 256 index)) is
+
+    pub stored-none : 256 ≤ p → endings.Stopped 0 ≡ answered
+    stored-none h = sym (ap (λ (b : Bool). by b (ltb 0 (getD key p 0))) (le-leb 256 p h)) ∙ here
+
+    pub stored-delayed : p < 256 → 0 < getD key p 0 → endings.InvalidAnswer ≡ answered
+    stored-delayed h d = sym (ap₂ by (lt-leb 256 p h) (lt-ltb 0 (getD key p 0) d)) ∙ here
+
+    pub stored-found : p < 256 → getD key p 0 ≤ 0 → endings.Found (getD variant p 0) (not (eqb (getD ambiguous p 0) 0)) ≡ answered
+    stored-found h d = sym (ap₂ by (lt-leb 256 p h) (le-ltb 0 (getD key p 0) d)) ∙ here
+
+-- the first push
+module _ (asked : Asked) (c : Course) where
+  abbrev pushed : (late none-left : Bool) → Course
+  pushed late none-left = pushes-by late none-left c
+
+  pub push-late : asked .«clock_limit» ≤ c .clock → pushes-by true false c ≡ pushes-root asked c
+  push-late h = sym (ap (λ (b : Bool). pushed b (eqb (asked .limit) 0)) (le-leb (asked .«clock_limit») (c .clock) h))
+
+  abbrev clocked : (over : Bool) → (depth clock : ℕ) → Course
+  clocked over depth clock = course-at over endings.Cut (c .index) (c .more) (c .exceeded) (c .done) (c .mark) depth clock c
+
+  pub push-cut : c .clock < asked .«clock_limit» → asked .limit ≡ 0 → clocked true (c .depth) (c .clock + 1) ≡ pushes-root asked c
+  push-cut h e =
+      ap (clocked true (c .depth)) (add-one (c .clock))
+      ∙ sym (ap₂ pushed (lt-leb (asked .«clock_limit») (c .clock) h) (eq-eqb (asked .limit) 0 e))
+
+  pub push-new : c .clock < asked .«clock_limit» → (asked .limit ≡ 0 → ⊥) → clocked false 1 (c .clock + 1) ≡ pushes-root asked c
+  push-new h n =
+      ap (clocked false 1) (add-one (c .clock))
+      ∙ sym (ap₂ pushed (lt-leb (asked .«clock_limit») (c .clock) h) (ne-eqb (asked .limit) 0 n))
+
+-- AFTER THE LAST TURN
+
+module _ (n : ℕ) where
+  pub more-below : n < MAX → n + 1 ≡ one-more n
+  more-below h = add-one n ∙ sym (ap (λ (b : Bool). one-more-by b n) (lt-ltb n MAX h))
+
+  pub more-most : MAX ≤ n → n ≡ one-more n
+  more-most h = sym (ap (λ (b : Bool). one-more-by b n) (le-ltb n MAX h))
+
+-- the search put back
+module _ (f : Flow) (stored : Ending) (c : Course) where
+  abbrev finished : Ending → (done mark : ℕ) → Course
+  finished e done mark = course-at true e (c .index) (c .more) (c .exceeded) done mark 0 (c .clock) c
+
+  pub finish-is : (e : Ending) (d m : ℕ) → e ≡ ending-of f stored → d ≡ counted f (c .done) → m ≡ marked f (c .mark)
+      → finished e d m ≡ finish f stored c
+  finish-is e d m ee ed em =
+      ap₂ (λ (x : Ending) (y : ℕ). finished x y m) ee ed ∙ ap (finished (ending-of f stored) (counted f (c .done))) em
+
+module _ (c : Course) where
+  abbrev moved : (index : ℕ) → Course
+  moved index = course-at false (c .ending) index (c .more) (c .exceeded) (c .done) (c .mark) (c .depth) (c .clock) c
+
+  pub skip-below : c .index < last-index → moved (c .index + 1) ≡ skip-invalid c
+  skip-below h = ap moved (add-one (c .index)) ∙ sym (ap (λ (b : Bool). skip-by b c) (lt-ltb (c .index) last-index h))
+
+  pub skip-last : last-index ≤ c .index → c ≡ skip-invalid c
+  skip-last h = sym (ap (λ (b : Bool). skip-by b c) (le-ltb (c .index) last-index h))
+
+  -- QuantumExceeded, counted as x
+  module _ (x : ℕ) (is : x ≡ one-more (c .exceeded)) where
+    abbrev round : (over : Bool) → (more exceeded : ℕ) → Course
+    round over more exceeded =
+        course-at over (c .ending) (c .index) more exceeded (c .done) (c .mark) (c .depth) (c .clock) c
+
+    pub round-left : 0 < c .more → round false (c .more - 1) x ≡ next-round c
+    round-left h = ap (round false (c .more - 1)) is ∙ sym (ap (λ (b : Bool). round-by b c) (lt-ltb 0 (c .more) h))
+
+    pub round-none : c .more ≤ 0 → round (c .over) (c .more) x ≡ next-round c
+    round-none h = ap (round (c .over) (c .more)) is ∙ sym (ap (λ (b : Bool). round-by b c) (le-ltb 0 (c .more) h))
+
+-- what comes after a search
+module _ (mode : Mode) (c : Course) (peeks : Bool) (is : peeks ≡ is-peek mode) where
+  abbrev next : (peeks invalid exceeded : Bool) → Course
+  next peeks invalid exceeded = next-by peeks invalid exceeded c
+
+  pub next-none : peeks ≡ false → c ≡ next-search mode c
+  next-none e = sym (ap (λ (b : Bool). next b (is-invalid (c .ending)) (is-exceeded (c .ending))) (sym is ∙ e))
+
+  module _ (peek : peeks ≡ true) (invalid : Bool) (is-i : invalid ≡ is-invalid (c .ending)) where
+    pub next-skips : invalid ≡ true → skip-invalid c ≡ next-search mode c
+    next-skips i = sym (ap₂ (λ (b d : Bool). next b d (is-exceeded (c .ending))) (sym is ∙ peek) (sym is-i ∙ i))
+
+    past : invalid ≡ false → next true false (is-exceeded (c .ending)) ≡ next-search mode c
+    past i = sym (ap₂ (λ (b d : Bool). next b d (is-exceeded (c .ending))) (sym is ∙ peek) (sym is-i ∙ i))
+
+    module _ (valid : invalid ≡ false) (exceeded : Bool) (is-x : exceeded ≡ is-exceeded (c .ending)) where
+      pub next-rounds : exceeded ≡ true → next-round c ≡ next-search mode c
+      next-rounds x = sym (ap (next true false) (sym is-x ∙ x)) ∙ past valid
+
+      pub next-ends : exceeded ≡ false → c ≡ next-search mode c
+      next-ends x = sym (ap (next true false) (sym is-x ∙ x)) ∙ past valid
