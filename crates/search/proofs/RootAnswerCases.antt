@@ -1,14 +1,16 @@
 -- The ways out of the functions of root_answer.rt, over variables: what a return says is the model at the tests that led there.
-use Prim.Native.Nat.{ℕ, _+_, _-_, _≤_, _<_}
+use Prim.Native.Nat.{ℕ, suc, _+_, _-_, _≤_, _<_}
+use native.Mathlib.Omega.{arith}
 use native.Mathlib.Numerals.{add-one}
 use mathlib.Core.Bool.{Bool, true, false, not}
-use mathlib.Core.List.{List}
+use mathlib.Core.List.{List, _∷_}
 use mathlib.Core.Path.{_≡_, sym, ap, ap₂, _∙_}
 use lib.Dec.{eqb, leb, ltb}
 use lib.ListN.{getD}
 use borrow.Author.Tests.{lt-ltb, le-ltb, le-leb, lt-leb, eq-eqb, ne-eqb}
 use Rattle.definitions.specs.{MAX}
-use Rattle.rings.specs.Rings.{ring-of, place-if}
+use Rattle.rings.specs.Rings.{walk, ring-of, place-if}
+use Rattle.rings.proofs.Walks.{walk-step}
 use Rattle.control.specs.declared.perform.Flow.{Flow}
 use Rattle.search.specs.declared.course.Asked.{Asked}
 use Rattle.search.specs.declared.course.Course.{Course}
@@ -16,11 +18,70 @@ use Rattle.search.specs.declared.course.Ending.{Ending}
 use Rattle.search.specs.declared.course.Ending.the-variants as endings
 use Rattle.search.specs.declared.course.Mode.{Mode}
 use Rattle.search.specs.Course.{is-peek}
-use Rattle.search.specs.RootAnswer.{stored-by, stored-at, stored-answer, course-at, pushes-by, pushes-root}
+use Rattle.search.specs.RootAnswer.{first-valid, stored-by, stored-at, stored-answer, course-at, pushes-by, pushes-root}
 use Rattle.search.specs.RootAnswer.{one-more-by, one-more, ending-of, counted, marked, finish, is-invalid, is-exceeded}
 use Rattle.search.specs.RootAnswer.{last-index, skip-by, skip-invalid, round-by, next-round, next-by, next-search}
 
 -- BEFORE THE FIRST TURN
+
+-- `first_valid` at index i of the ring
+module _ (key : List ℕ) (from i : ℕ) where
+  abbrev valid-by : (past valid : Bool) → (later : ℕ) → ℕ
+  valid-by past valid later = elim past [ false ↦ later | true ↦ elim valid [ true ↦ i | false ↦ later ] ]
+
+  module _ (p : ℕ) (ps : List ℕ) where
+    abbrev met : (past valid : Bool) → ℕ
+    met past valid = valid-by past valid (first-valid key from (suc i) ps)
+
+    before : i < from → first-valid key from (suc i) ps ≡ first-valid key from i (p ∷ ps)
+    before h = sym (ap (λ (b : Bool). met b (eqb (getD key p 0) 0)) (lt-leb from i h))
+
+    found : from ≤ i → getD key p 0 ≡ 0 → i ≡ first-valid key from i (p ∷ ps)
+    found h z = sym (ap₂ met (le-leb from i h) (eq-eqb (getD key p 0) 0 z))
+
+    passed : from ≤ i → (getD key p 0 ≡ 0 → ⊥) → first-valid key from (suc i) ps ≡ first-valid key from i (p ∷ ps)
+    passed h d = sym (ap₂ met (le-leb from i h) (ne-eqb (getD key p 0) 0 d))
+
+  -- n places are left behind a, which was read as b
+  module _ (next : List ℕ) (n a b : ℕ) (is : b ≡ a) where
+    abbrev left : ℕ
+    left = first-valid key from i (walk n next a)
+
+    -- what is left once the first of them is passed
+    abbrev later : (index : ℕ) → ℕ
+    later index = first-valid key from index (walk (n - 1) next (getD next b 0))
+
+    step : 0 < n → first-valid key from i (getD next b 0 ∷ walk (n - 1) next (getD next b 0)) ≡ left
+    step some = sym (ap (first-valid key from i) (walk-step n next b some)) ∙ ap (λ (x : ℕ). first-valid key from i (walk n next x)) is
+
+    pub valid-before : 0 < n → i < from → later (i + 1) ≡ left
+    valid-before some h = ap later (add-one i) ∙ before (getD next b 0) (walk (n - 1) next (getD next b 0)) h ∙ step some
+
+    -- the first of them, read as q
+    module _ (q : ℕ) (is-q : q ≡ getD next b 0) where
+      pub valid-found : 0 < n → from ≤ i → getD key q 0 ≡ 0 → i ≡ left
+      valid-found some h z =
+          found (getD next b 0) (walk (n - 1) next (getD next b 0)) h (sym (ap (λ (x : ℕ). getD key x 0) is-q) ∙ z) ∙ step some
+
+      pub valid-passed : 0 < n → from ≤ i → (getD key q 0 ≡ 0 → ⊥) → later (i + 1) ≡ left
+      valid-passed some h d =
+          ap later (add-one i)
+          ∙ passed (getD next b 0) (walk (n - 1) next (getD next b 0)) h (λ z. d (ap (λ (x : ℕ). getD key x 0) is-q ∙ z))
+          ∙ step some
+
+  -- none is left
+  module _ (next : List ℕ) (n a : ℕ) where
+    abbrev ends : (below : Bool) → ℕ
+    ends below = elim below [ true ↦ from | false ↦ i ]
+
+    over : n ≤ 0 → ends (ltb i from) ≡ first-valid key from i (walk n next a)
+    over h = let e : 0 ≡ n = omega arith in ap (λ (m : ℕ). first-valid key from i (walk m next a)) e
+
+    pub valid-none : n ≤ 0 → i < from → from ≡ first-valid key from i (walk n next a)
+    valid-none h b = sym (ap ends (lt-ltb i from b)) ∙ over h
+
+    pub valid-all : n ≤ 0 → from ≤ i → i ≡ first-valid key from i (walk n next a)
+    valid-all h b = sym (ap ends (le-ltb i from b)) ∙ over h
 
 -- the answer stored at an index
 module _ (next tail len variant key ambiguous : List ℕ) (t index : ℕ) where
