@@ -17,10 +17,13 @@ use Rattle.search.specs.declared.course.Course.{Course}
 use Rattle.search.specs.declared.course.Ending.{Ending}
 use Rattle.search.specs.declared.course.Ending.the-variants as endings
 use Rattle.search.specs.declared.course.Mode.{Mode}
-use Rattle.search.specs.Course.{is-peek}
-use Rattle.search.specs.RootAnswer.{first-valid, stored-by, stored-at, stored-answer, course-at, pushes-by, pushes-root}
+use Rattle.stores.specs.Numbers.{flag-at}
+use Rattle.search.specs.Course.{is-peek, ended}
+use Rattle.search.specs.RootAnswer.{first-valid, index-from, stored-by, stored-at, stored-answer, course-at, pushes-by, pushes-root}
+use Rattle.search.specs.RootAnswer.{from-index, start-by, start-at, start}
 use Rattle.search.specs.RootAnswer.{one-more-by, one-more, ending-of, counted, marked, finish, is-invalid, is-exceeded}
 use Rattle.search.specs.RootAnswer.{last-index, skip-by, skip-invalid, round-by, next-round, next-by, next-search}
+use Rattle.search.specs.RootAnswer.{unless-over, ended-so, end-search}
 
 -- BEFORE THE FIRST TURN
 
@@ -132,6 +135,50 @@ module _ (asked : Asked) (c : Course) where
       ap (clocked false 1) (add-one (c .clock))
       ∙ sym (ap₂ pushed (lt-leb (asked .«clock_limit») (c .clock) h) (ne-eqb (asked .limit) 0 n))
 
+-- all before the first turn
+module _ (asked : Asked) (floundered next tail len variant key ambiguous : List ℕ) (c : Course) where
+  abbrev started : Course
+  started = start asked floundered next tail len variant key ambiguous c
+
+  abbrev stored : (index : ℕ) → Ending
+  stored i = stored-answer next tail len variant key ambiguous (asked .table) i
+
+  abbrev started-by : (index : ℕ) → (missing floundered new : Bool) → Course
+  started-by i missing f new = start-by missing f new asked i (stored i) c
+
+  abbrev first : ℕ
+  first = index-from (asked .mode) next tail len key (asked .table) (c .index)
+
+  pub start-missing : c .count ≤ asked .table → ended (endings.Stopped 0) (from-index (c .index) c) ≡ started
+  start-missing h =
+      sym
+      (ap (λ (b : Bool). started-by first b (flag-at (asked .table) floundered) (eqb first (getD len (asked .table) 0)))
+      (le-leb (c .count) (asked .table) h))
+
+  -- the table's flag is read as f
+  module _ (there : asked .table < c .count) (f : Bool) (is-f : f ≡ flag-at (asked .table) floundered) where
+    flagged : (d : Bool) → f ≡ d → (i : ℕ) → (new : Bool)
+        → started-by i false d new ≡ started-by i (leb (c .count) (asked .table)) (flag-at (asked .table) floundered) new
+    flagged d e i new =
+        sym (ap₂ (λ (b g : Bool). started-by i b g new) (lt-leb (c .count) (asked .table) there) (sym is-f ∙ e))
+
+    pub start-floundered : f ≡ true → ended endings.Floundered (from-index (c .index) c) ≡ started
+    start-floundered e = flagged true e first (eqb first (getD len (asked .table) 0))
+
+    -- the index is i, and the answers are n
+    module _ (sane : f ≡ false) (i : ℕ) (is-i : i ≡ first) (n : ℕ) (is-n : n ≡ getD len (asked .table) 0) where
+      at-index : (new : Bool) → eqb i n ≡ new → started-by i false false new ≡ started
+      at-index new e =
+          flagged false sane i new
+          ∙ ap (started-by i (leb (c .count) (asked .table)) (flag-at (asked .table) floundered)) (sym e ∙ ap (eqb i) is-n)
+          ∙ ap (λ (j : ℕ). start-at asked floundered next tail len variant key ambiguous j c) is-i
+
+      pub start-new : i ≡ n → pushes-root asked (from-index i c) ≡ started
+      start-new e = at-index true (eq-eqb i n e)
+
+      pub start-stored : (i ≡ n → ⊥) → (e : Ending) → e ≡ stored i → ended e (from-index i c) ≡ started
+      start-stored d e is-e = ap (λ (x : Ending). ended x (from-index i c)) is-e ∙ at-index false (ne-eqb i n d)
+
 -- AFTER THE LAST TURN
 
 module _ (n : ℕ) where
@@ -194,3 +241,25 @@ module _ (mode : Mode) (c : Course) (peeks : Bool) (is : peeks ≡ is-peek mode)
 
       pub next-ends : exceeded ≡ false → c ≡ next-search mode c
       next-ends x = sym (ap (next true false) (sym is-x ∙ x)) ∙ past valid
+
+-- the search has ended so: it comes to n
+module _ (asked : Asked) (floundered next tail len variant key ambiguous : List ℕ) (c : Course) (s : Ending)
+    (is-s : s ≡ stored-answer next tail len variant key ambiguous (asked .table) (c .index))
+    (m : Course) (is-m : m ≡ finish (c .flow) s c) (n : Course) (is-n : n ≡ next-search (asked .mode) m) where
+  abbrev last : Course
+  last = end-search asked floundered next tail len variant key ambiguous c
+
+  comes-to : n ≡ ended-so asked floundered next tail len variant key ambiguous c
+  comes-to = is-n ∙ ap (next-search (asked .mode)) (is-m ∙ ap (λ (x : Ending). finish (c .flow) x c) is-s)
+
+  abbrev ends-by : (over : Bool) → Course → Course
+  ends-by over x = unless-over over x (start asked floundered next tail len variant key ambiguous x)
+
+  ends-so : (over : Bool) → n .over ≡ over → ends-by over n ≡ last
+  ends-so over e = sym (ap (λ (b : Bool). ends-by b n) e) ∙ ap (λ (x : Course). ends-by (x .over) x) comes-to
+
+  pub end-over : n .over ≡ true → n ≡ last
+  end-over e = ends-so true e
+
+  pub end-starts : n .over ≡ false → start asked floundered next tail len variant key ambiguous n ≡ last
+  end-starts e = ends-so false e
