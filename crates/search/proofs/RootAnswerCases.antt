@@ -19,8 +19,8 @@ use Rattle.search.specs.declared.course.Ending.the-variants as endings
 use Rattle.search.specs.declared.course.Mode.{Mode}
 use Rattle.stores.specs.Numbers.{flag-at}
 use Rattle.search.specs.Course.{is-peek, ended}
-use Rattle.search.specs.RootAnswer.{first-valid, index-from, stored-by, stored-at, stored-answer, course-at, pushes-by, pushes-root}
-use Rattle.search.specs.RootAnswer.{from-index, start-by, start-at, start}
+use Rattle.search.specs.RootAnswer.{first-valid, index-by, index-from, stored-by, stored-at, stored-answer}
+use Rattle.search.specs.RootAnswer.{course-at, pushes-by, pushes-root, from-index, start-by, start-at, start}
 use Rattle.search.specs.RootAnswer.{one-more-by, one-more, ending-of, counted, marked, finish, is-invalid, is-exceeded}
 use Rattle.search.specs.RootAnswer.{last-index, skip-by, skip-invalid, round-by, next-round, next-by, next-search}
 use Rattle.search.specs.RootAnswer.{unless-over, ended-so, end-search}
@@ -85,6 +85,11 @@ module _ (key : List ℕ) (from i : ℕ) where
 
     pub valid-all : n ≤ 0 → from ≤ i → i ≡ first-valid key from i (walk n next a)
     valid-all h b = sym (ap ends (le-ltb i from b)) ∙ over h
+
+pub index-peeks : (mode : Mode) (next tail len key : List ℕ) (t from : ℕ) (peeks : Bool) → peeks ≡ is-peek mode → peeks ≡ true
+    → (r : ℕ) → r ≡ first-valid key from 0 (ring-of next tail len t) → r ≡ index-from mode next tail len key t from
+index-peeks mode next tail len key t from peeks is e r is-r =
+    is-r ∙ sym (ap (λ (b : Bool). index-by b from (first-valid key from 0 (ring-of next tail len t))) (sym is ∙ e))
 
 -- the answer stored at an index
 module _ (next tail len variant key ambiguous : List ℕ) (t index : ℕ) where
@@ -261,5 +266,5 @@ module _ (asked : Asked) (floundered next tail len variant key ambiguous : List 
   pub end-over : n .over ≡ true → n ≡ last
   end-over e = ends-so true e
 
-  pub end-starts : n .over ≡ false → start asked floundered next tail len variant key ambiguous n ≡ last
-  end-starts e = ends-so false e
+  pub end-starts : n .over ≡ false → (r : Course) → r ≡ start asked floundered next tail len variant key ambiguous n → r ≡ last
+  end-starts e r is-r = is-r ∙ ends-so false e

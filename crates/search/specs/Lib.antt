@@ -1,2 +1,3 @@
 pub mod Course
 pub mod RootAnswer
+pub mod Falls

@@ -1,5 +1,4 @@
 -- `end_search` is its model at each way out.
-use mathlib.Core.Path.{_∙_}
 use Rattle.search.proofs.RootAnswerCases.{end-over, end-starts}
 use borrow.Author.Needs.{needs}
 use Rattle.search.proofs.root_answer.end_search.Statement.{statement}
@@ -35,11 +34,11 @@ returns-2 c =
     let m = n .before in
     let s = m .before in
     let a = s .before .args in
-    c .start .ensures
-    ∙ end-starts (a .asked) (a .floundered .now) (a .answer-next .now) (a .answer-tail .now) (a .answer-len .now) (a .answer-variant .now)
+    end-starts (a .asked) (a .floundered .now) (a .answer-next .now) (a .answer-tail .now) (a .answer-len .now) (a .answer-variant .now)
     (a .answer-key .now) (a .answer-ambiguous .now) (a .c)
     (s .stored-answer .result) (s .stored-answer .ensures) (m .finish .result) (m .finish .ensures)
     (n .next-search .result) (n .next-search .ensures) (test .if1 .left)
+    (c .start .result) (c .start .ensures)
 
 pub end-search-spec : {M : Type 1} → statement M
 end-search-spec =

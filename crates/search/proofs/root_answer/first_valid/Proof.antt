@@ -32,8 +32,10 @@ wide-len-requires c κs = search needs
 loop-holds : tie.Need-loop-holds Inv-loop μ-loop
 loop-holds c =
     let a = c .before .before .before .args in
-    let n = c .wide-len in
-    (ap (λ (m : ℕ). first-valid (a .key .now) (a .from) 0 (walk m (a .next .now) (getD (a .tail .now) (a .t) 0))) (n .ensures .0), search needs)
+    let n = c .wide-len in (
+      ap (λ (m : ℕ). first-valid (a .key .now) (a .from) 0 (walk m (a .next .now) (getD (a .tail .now) (a .t) 0))) (n .ensures .0),
+      search needs,
+    )
 
 wide-requires : tie.Need-wide-requires Inv-loop μ-loop
 wide-requires c κs = search needs
@@ -91,14 +93,16 @@ returns-2 : tie.Need-returns-2 Inv-loop μ-loop
 returns-2 c =
     let l = c .before .before in
     let a = l .before .before .before .before .args in
-    valid-none (a .key .now) (a .from) (l .loop .i) (a .next .now) (l .loop .left) (l .loop .prev) (c .before .loop-test .left) (c .if3 .taken)
+    valid-none (a .key .now) (a .from) (l .loop .i) (a .next .now) (l .loop .left) (l .loop .prev)
+    (c .before .loop-test .left) (c .if3 .taken)
     ∙ l .loop .inv .0
 
 returns-3 : tie.Need-returns-3 Inv-loop μ-loop
 returns-3 c =
     let l = c .before .before in
     let a = l .before .before .before .before .args in
-    valid-all (a .key .now) (a .from) (l .loop .i) (a .next .now) (l .loop .left) (l .loop .prev) (c .before .loop-test .left) (c .if3 .left)
+    valid-all (a .key .now) (a .from) (l .loop .i) (a .next .now) (l .loop .left) (l .loop .prev)
+    (c .before .loop-test .left) (c .if3 .left)
     ∙ l .loop .inv .0
 
 pub first-valid-spec : {M : Type 1} → statement M

@@ -1,8 +1,5 @@
 -- `index_from` is its model at each way out.
-use mathlib.Core.Bool.{Bool}
-use mathlib.Core.Path.{sym, ap, _∙_}
-use Rattle.rings.specs.Rings.{ring-of}
-use Rattle.search.specs.RootAnswer.{first-valid, index-by}
+use Rattle.search.proofs.RootAnswerCases.{index-peeks}
 use borrow.Author.Needs.{needs}
 use Rattle.search.proofs.root_answer.index_from.Statement.{statement}
 use Rattle.search.proofs.root_answer.index_from.Tie as tie
@@ -17,9 +14,9 @@ returns : tie.Need-returns
 returns c =
     let peek = c .before in
     let a = peek .before .before .args in
-    let valid = first-valid (a .key .now) (a .from) 0 (ring-of (a .next .now) (a .tail .now) (a .len .now) (a .t)) in
-    c .first-valid .ensures
-    ∙ sym (ap (λ (b : Bool). index-by b (a .from) valid) (sym (peek .before .is-peek .ensures) ∙ peek .if1 .taken))
+    let p = peek .before .is-peek in
+    index-peeks (a .mode) (a .next .now) (a .tail .now) (a .len .now) (a .key .now) (a .t) (a .from)
+    (p .result) (p .ensures) (peek .if1 .taken) (c .first-valid .result) (c .first-valid .ensures)
 
 returns-2 : tie.Need-returns-2
 returns-2 c = search needs

@@ -16,8 +16,8 @@ returns c =
     let test = c .before in
     let a = test .before .before .args in
     c .ended .ensures
-    ∙ start-missing (a .asked) (a .floundered .now) (a .answer-next .now) (a .answer-tail .now) (a .answer-len .now) (a .answer-variant .now)
-    (a .answer-key .now) (a .answer-ambiguous .now) (a .was) (test .if1 .taken)
+    ∙ start-missing (a .asked) (a .floundered .now) (a .answer-next .now) (a .answer-tail .now) (a .answer-len .now)
+    (a .answer-variant .now) (a .answer-key .now) (a .answer-ambiguous .now) (a .was) (test .if1 .taken)
 
 flag-at-requires : tie.Need-flag-at-requires
 flag-at-requires c κs = search needs
@@ -32,8 +32,8 @@ returns-2 c =
     let there = f .before in
     let a = there .before .before .args in
     c .ended2 .ensures
-    ∙ start-floundered (a .asked) (a .floundered .now) (a .answer-next .now) (a .answer-tail .now) (a .answer-len .now) (a .answer-variant .now)
-    (a .answer-key .now) (a .answer-ambiguous .now) (a .was) (there .if1 .left)
+    ∙ start-floundered (a .asked) (a .floundered .now) (a .answer-next .now) (a .answer-tail .now) (a .answer-len .now)
+    (a .answer-variant .now) (a .answer-key .now) (a .answer-ambiguous .now) (a .was) (there .if1 .left)
     (f .flag-at .result) (f .flag-at .ensures) (test .if2 .taken)
 
 index-from-requires : tie.Need-index-from-requires
@@ -64,8 +64,8 @@ returns-3 c =
     let there = f .before in
     let a = there .before .before .args in
     c .push-root .ensures
-    ∙ start-new (a .asked) (a .floundered .now) (a .answer-next .now) (a .answer-tail .now) (a .answer-len .now) (a .answer-variant .now)
-    (a .answer-key .now) (a .answer-ambiguous .now) (a .was) (there .if1 .left)
+    ∙ start-new (a .asked) (a .floundered .now) (a .answer-next .now) (a .answer-tail .now) (a .answer-len .now)
+    (a .answer-variant .now) (a .answer-key .now) (a .answer-ambiguous .now) (a .was) (there .if1 .left)
     (f .flag-at .result) (f .flag-at .ensures) (sane .if2 .left)
     (i .index-from .result) (i .index-from .ensures) (n .wide-len .result) (n .wide-len .ensures .0) (test .if3 .taken)
 
@@ -86,8 +86,8 @@ returns-4 c =
     let there = f .before in
     let a = there .before .before .args in
     c .ended3 .ensures
-    ∙ start-stored (a .asked) (a .floundered .now) (a .answer-next .now) (a .answer-tail .now) (a .answer-len .now) (a .answer-variant .now)
-    (a .answer-key .now) (a .answer-ambiguous .now) (a .was) (there .if1 .left)
+    ∙ start-stored (a .asked) (a .floundered .now) (a .answer-next .now) (a .answer-tail .now) (a .answer-len .now)
+    (a .answer-variant .now) (a .answer-key .now) (a .answer-ambiguous .now) (a .was) (there .if1 .left)
     (f .flag-at .result) (f .flag-at .ensures) (sane .if2 .left)
     (i .index-from .result) (i .index-from .ensures) (n .wide-len .result) (n .wide-len .ensures .0) (test .if3 .left)
     (s .stored-answer .result) (s .stored-answer .ensures)

@@ -7,7 +7,8 @@ use Rattle.search.proofs.root_answer.stored_answer.Tie as tie
 returns : tie.Need-returns
 returns c =
     let a = c .before .args in
-    stored-far (a .next .now) (a .tail .now) (a .len .now) (a .variant .now) (a .key .now) (a .ambiguous .now) (a .t) (a .index) (c .if1 .taken)
+    stored-far (a .next .now) (a .tail .now) (a .len .now) (a .variant .now) (a .key .now) (a .ambiguous .now) (a .t) (a .index)
+    (c .if1 .taken)
 
 cast-ring-at : tie.Need-cast-ring-at
 cast-ring-at c = search needs
