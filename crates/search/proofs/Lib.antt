@@ -1,1 +1,4 @@
+-- The ways out of the functions of each file over variables (Cases), and what makes the loop of searches end (Falls).
+pub mod RootAnswerCases
+pub mod RootAnswerFalls
 pub mod EnsureRootAnswerCases

@@ -1,4 +1,5 @@
 pub mod Course
 pub mod RootAnswer
+pub mod Falls
 pub mod EnsureRootAnswer
 pub mod Walk

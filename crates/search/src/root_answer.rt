@@ -25,6 +25,13 @@ fn wide(x: u8) -> usize
     x as usize
 }
 
+// A length that is read of a lent array tells its range so.
+fn wide_len(n: u16) -> u64
+    ensures { λ r. ⌜ (r ≡ n) × (r < 65536) ⌝ }
+{
+    n as u64
+}
+
 // The first index from this one on whose answer of the table is not invalid: has no delayed goals; else the first with no stored answer.
 fn first_valid(
     next: &[u8; 256],
@@ -38,7 +45,7 @@ fn first_valid(
         (ring-of (now (next .entry)) (now (tail .entry)) (now (len .entry)) t) ⌝ }
 {
     let mut prev = tail[t as usize];
-    let mut left = len[t as usize];
+    let mut left = wide_len(len[t as usize]);
     let mut i: u64 = 0;
     while left > 0 {
         let p = next[wide(prev)];
@@ -166,8 +173,7 @@ pub fn start(
         index: i,
         ..was
     };
-    let n = answer_len[t as usize] as u64;
-    if i == n {
+    if i == wide_len(answer_len[t as usize]) {
         return push_root(asked, c);
     }
     let stored = stored_answer(
