@@ -131,7 +131,7 @@ module _ (root index first : ℕ) (z : Stores) (o : SoundStores root index first
   complete-is : is-complete (table-held z t .answer-mode) ≡ complete
   complete-is = mode-flag root index first z o t made
 
-  sound-forest : SoundForest (length (f .book)) f
+  pub sound-forest : SoundForest (length (f .book)) f
   sound-forest =
       subst (λ (m : ℕ). SoundForest m f) (sym (book-goals root index first z o)) (searching root index first z o n d .forest)
 

@@ -23,6 +23,7 @@ pub mod ChooseCases
 pub mod ChooseLook
 pub mod ChooseDecides
 pub mod ChooseKept
+pub mod ChooseRoom
 pub mod OnNoStrandsLeftCases
 pub mod OnNoStrandsLeft
 pub mod Turn
@@ -44,3 +45,6 @@ pub mod DoingTables
 pub mod DoingSettled
 pub mod DoingDeeds
 pub mod DoingDecision
+pub mod DoingLeft
+pub mod DoingMade
+pub mod DoingBegun

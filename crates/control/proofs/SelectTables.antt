@@ -82,13 +82,13 @@ module _ {A B : Type 0} (h : A → B) where
 
 -- A table that is built.
 module _ (goal : ℕ) where
-  abbrev building : Goal → Stops Table
+  abbrev pub building : Goal → Stops Table
   building x = elim (x .floundered) [
     | true ↦ go (mark-floundered (new goal (x .coinductive)))
     | false ↦ go (with-strands (new goal (x .coinductive)) (map initial-strand (x .clauses)))
   ]
 
-  abbrev built-of : Stops Table → Table
+  abbrev pub built-of : Stops Table → Table
   built-of r = elim r [ stop n ↦ new goal false | go t ↦ t ]
 
   by-flag : (b : Bool) (t u : Table) → t .table-goal ≡ goal → u .table-goal ≡ goal
@@ -105,7 +105,7 @@ module _ (goal : ℕ) where
   built-goal book = by-goal (getElem? book goal)
 
   module _ (book : Book) (x : Goal) (e : getElem? book goal ≡ some x) where
-    built-is : built book goal ≡ built-of (building x)
+    pub built-is : built book goal ≡ built-of (building x)
     built-is = ap (λ (o : Option Goal). built-of (unwrap o >>= building)) e
 
     flag-by : (b : Bool) (t u : Table) → t .floundered ≡ true → u .floundered ≡ false
