@@ -48,3 +48,4 @@ pub mod DoingDecision
 pub mod DoingLeft
 pub mod DoingMade
 pub mod DoingBegun
+pub mod DoingAble
