@@ -49,3 +49,4 @@ pub mod DoingLeft
 pub mod DoingMade
 pub mod DoingBegun
 pub mod DoingAble
+pub mod DoingTurn
