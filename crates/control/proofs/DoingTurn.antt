@@ -8,7 +8,6 @@ use lib.Dec.{ltb}
 use lib.ListN.{getD}
 use Rattle.definitions.specs.Logic as logic
 use Rattle.definitions.specs.Logic.{SolveState, with-forest}
-use Rattle.definitions.specs.Stack as said
 use Rattle.definitions.specs.Stop.{Stops, stop, go, _>>=_}
 use Rattle.split.specs.Acts as split
 use Rattle.split.specs.Acts.{Act, Origin, takes, with-made}
@@ -26,7 +25,7 @@ use Rattle.control.specs.declared.perform.Flow.{Flow}
 use Rattle.control.specs.declared.perform.Flow.the-variants as ways
 use Rattle.control.specs.declared.select_subgoal.Made.{Made}
 use Rattle.control.specs.Decision.{meaning}
-use Rattle.control.specs.Doing.{lent, with-lent, Sounds, state-above, flows}
+use Rattle.control.specs.Doing.{lent, with-lent, Sounds, flows}
 use Rattle.control.specs.OnNoStrandsLeft.{without-by}
 use Rattle.control.specs.Perform.{has-strand, stops, performed-by}
 use Rattle.control.specs.PerformDeed.{answer-flow, Moving, moving, deed-done}
@@ -34,14 +33,14 @@ use Rattle.control.specs.PerformStrand.{Lent, TurnDone, begun, stands, s
 use Rattle.control.specs.Performing.{put, read-place, chosen, turn-done, turned, Performs}
 use Rattle.control.specs.SelectSubgoal as selecting
 use Rattle.control.specs.SelectSubgoal.{noted-goals}
-use Rattle.control.specs.Stores.{Stores, forest, state, SoundStores}
+use Rattle.control.specs.Stores.{Stores, state, SoundStores}
 use Rattle.control.specs.Turn.{top, next, hand-at, chosen-for, decided-for, idle, KeptDecision, origin, clock-at, strand-means}
 use Rattle.control.specs.Turn.{act-means, turn-means}
+use Rattle.control.proofs.Doing.{state-is}
 use Rattle.control.proofs.DoingAble.{strand-able}
 use Rattle.control.proofs.DoingBegun.{began, read-is, begun-sound, begun-view, begun-idle}
 use Rattle.control.proofs.DoingDecision.{PerformsDeed, deed-performed}
 use Rattle.control.proofs.EnsureRootAnswer.{top-is}
-use Rattle.control.proofs.Stores.{stack-is}
 use Rattle.control.proofs.Turn.{turn-kept}
 
 -- A deed that doesn't stop ends with another flow.
@@ -103,9 +102,6 @@ module _ (root index first : ℕ) (z : Stores) (o : SoundStores root index first
       subst (λ (p : ℕ). KeptDecision (decided-for z (chosen-for z (hand-at z p)))) (read-is root index first z o n d is)
       (turn-kept root index first z o is)
 
-  state-is : state z ≡ state-above n z
-  state-is = ap (λ (es : said.Stack). record { forest = forest z; stack = es }) (stack-is root index first z o n d)
-
   module _ (goes : stops (decided-for z (chosen z) .deed) ≡ false) where
     abbrev done : TurnDone
     done =
@@ -144,7 +140,7 @@ module _ (root index first : ℕ) (z : Stores) (o : SoundStores root index first
     deed-does =
         deed-performs .does
         ∙ ap deed-on (begun-view root index first z o n d is)
-        ∙ ap (λ (s : SolveState). deed-on (made-on s)) (sym state-is)
+        ∙ ap (λ (s : SolveState). deed-on (made-on s)) (sym (state-is z n d))
 
     turn-does : flows (turn-done z .flow) (state (turned z)) ≡ (turn-means z >>= λ act. go (split.perform act (state z)))
     turn-does =
