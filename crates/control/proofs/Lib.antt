@@ -54,3 +54,5 @@ pub mod DoingCaller
 pub mod DoingCallerStrand
 pub mod DoingClears
 pub mod DoingIdle
+pub mod DoingAble
+pub mod DoingTurn
