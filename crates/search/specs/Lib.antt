@@ -3,3 +3,4 @@ pub mod RootAnswer
 pub mod Falls
 pub mod EnsureRootAnswer
 pub mod Walk
+pub mod Means

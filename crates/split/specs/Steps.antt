@@ -1,7 +1,8 @@
 -- A search as steps (logic.rs `root_answer`, `ensure_root_answer`): it is started, stands between two turns, goes on by one turn at each
 -- step, and may be cut short. A step that uses up the limit ends the search in Cut at once, so that a search that stands has a turn left.
-use Prim.Native.Nat.{ℕ, suc}
+use Prim.Native.Nat.{ℕ, zero, suc}
 use mathlib.Core.Bool.{true, false}
+use mathlib.Core.Path.{_≡_}
 use mathlib.Core.Option.{none, some}
 use mathlib.Core.List.{[]}
 use lib.Dec.{eqb, leb}
@@ -12,6 +13,7 @@ use Rattle.definitions.specs.Tables.{Forest, with-mark, table-at, increment-clo
 use Rattle.definitions.specs.Stack.{push-entry}
 use Rattle.definitions.specs.Logic.{Floundered, SolveState, with-forest, Flow, continue, return-ok, return-err}
 use Rattle.definitions.specs.Turn.{turn, Searched, fail, cut, stopped, put-back, ok-ending}
+use Rattle.definitions.specs.Forest.{Peeked, is-invalid, is-exceeded, peeked}
 
 -- A search between two turns: which answer of which table it is for, how many turns it may do and has done, and the clock of its
 -- first push, which no other search has.
@@ -93,3 +95,15 @@ start limit t i f = elim (table-at f t) [
 pub data Ends : Progress → Searched → Type 0 where
   at-once : {r : Searched} → Ends (ended r) r
   after-step : {w : Standing} {r : Searched} → Ends (step w) r → Ends (stands w) r
+
+-- A PEEK AS STEPS (forest.rs `peek_answer`): search after search for an answer of table t, step after step. `more` are the rounds after this
+-- one, `exceeded` the searches so far that ended in QuantumExceeded, and the search that goes on is for the answer at this index.
+pub data Peeks (limit : ℕ) (t : TableIndex) : (more exceeded index : ℕ) → Progress → Peeked → Type 0 where
+  goes-on : {m k i : ℕ} {w : Standing} {p : Peeked} → Peeks limit t m k i (step w) p → Peeks limit t m k i (stands w) p
+  skips : {m k i : ℕ} {r : Searched} {p : Peeked} → is-invalid (r .ending) ≡ true
+      → Peeks limit t m k (suc i) (start limit t (suc i) (r .forest)) p → Peeks limit t m k i (ended r) p
+  next-round : {m k i : ℕ} {r : Searched} {p : Peeked} → is-exceeded (r .ending) ≡ true
+      → Peeks limit t m (suc k) i (start limit t i (r .forest)) p → Peeks limit t (suc m) k i (ended r) p
+  no-round : {k i : ℕ} {r : Searched} → is-exceeded (r .ending) ≡ true → Peeks limit t zero k i (ended r) (peeked i (suc k) r)
+  ends : {m k i : ℕ} {r : Searched} → is-invalid (r .ending) ≡ false → is-exceeded (r .ending) ≡ false
+      → Peeks limit t m k i (ended r) (peeked i k r)
