@@ -2,20 +2,36 @@
 use Prim.Native.Nat.{ℕ, _-_, _%_}
 use mathlib.Core.Bool.{Bool, true, false}
 use mathlib.Core.List.{List}
-use mathlib.Core.Path.{_≡_, sym, ap, _∙_}
+use mathlib.Core.Path.{_≡_, sym, ap, ap₂, _∙_}
 use lib.ListN.{getD}
+use Rattle.definitions.specs.{MAX}
+use Rattle.strands.specs.declared.Answer.{Answer}
 use Rattle.strands.specs.declared.Strand.{Strand}
+use Rattle.stores.specs.declared.places.Places.{Places}
+use Rattle.stores.specs.Numbers.{within, written-at}
+use Rattle.stores.specs.Places.{places}
+use Rattle.stores.specs.Queue.{store}
 use Rattle.stores.specs.Stack.{caller-place}
 use Rattle.control.specs.declared.choose.Chosen.{Chosen}
 use Rattle.control.specs.declared.ensure_root_answer.Next.{Next}
 use Rattle.control.specs.declared.ensure_root_answer.Top.{Top}
 use Rattle.control.specs.declared.on_no_strands_left.Idle.{Idle}
+use Rattle.control.specs.declared.perform.Flow.{Flow}
 use Rattle.control.specs.EnsureRootAnswer.{next-strand}
+use Rattle.control.specs.MakeTables.{tables-of}
 use Rattle.control.specs.OnNoStrandsLeft.{without-strand}
+use Rattle.control.specs.PerformDeed.{stack-of, answers-of}
 use Rattle.control.specs.Performing.{place-by}
+use Rattle.control.specs.PerformStrand.{Lent, lent-of}
+use Rattle.control.specs.UnwindStack.{all-back}
+use Rattle.search.specs.declared.course.Asked.{Asked}
+use Rattle.search.specs.declared.course.Course.{Course}
 use Rattle.search.specs.declared.ensure_root_answer.Looked.{Looked}
 use Rattle.search.specs.declared.ensure_root_answer.Picked.{Picked}
+use Rattle.search.specs.Course.{is-turn}
 use Rattle.search.specs.EnsureRootAnswer.{place-read, looked-as, top-now, looked}
+use Rattle.search.specs.RootAnswer.{one-more, course-at, end-search}
+use Rattle.search.specs.Walk.{Walk, walk, goes-by, goes-on, turned, conclude-by, conclude}
 
 pub read-caller : (p : Next) (active : List ℕ) (depth c : ℕ) → p .found ≡ false → c ≡ caller-place depth active
     → c % 256 ≡ place-read p active depth
@@ -45,3 +61,71 @@ pick-is choose-by hand hand′ eh live live′ el c ec =
     ap (λ (d : Chosen). record { hand = hand; chosen = d }) ec
     ∙ ap (λ (n : ℕ). record { hand = hand; chosen = choose-by hand n }) el
     ∙ ap (λ (h : Strand). record { hand = h; chosen = choose-by h live′ }) eh
+
+-- `goes_on`
+pub goes-turn : (asked : Asked) (c : Course) (b : Bool) → b ≡ is-turn (asked .mode) → b ≡ true → false ≡ goes-on asked c
+goes-turn asked c b is e = ap (λ (t : Bool). goes-by t (c .flow) (one-more (c .done)) (asked .limit)) (sym e ∙ is)
+
+pub goes-flow : (asked : Asked) (c : Course) (b : Bool) → b ≡ is-turn (asked .mode) → b ≡ false → (f : Flow) → c .flow ≡ f → (done : ℕ)
+    → done ≡ one-more (c .done) → goes-by false f done (asked .limit) ≡ goes-on asked c
+goes-flow asked c b is e f ef done ed =
+    ap₂ (λ (t : Bool) (n : ℕ). goes-by t f n (asked .limit)) (sym e ∙ is) ed
+    ∙ ap (λ (g : Flow). goes-by (is-turn (asked .mode)) g (one-more (c .done)) (asked .limit)) (sym ef)
+
+-- `conclude`, by its two tests
+module _ (asked : Asked) (c : Course) (goes : Bool) (is : goes ≡ goes-on asked c) where
+  pub concludes-on : (w : Lent) → goes ≡ true → (done : ℕ) → done ≡ one-more (c .done)
+      → walk (course-at (c .over) (c .ending) (c .index) (c .more) (c .exceeded) done (c .mark) (c .depth) (c .clock) c) w
+      ≡ conclude asked c w
+  concludes-on w e done ed =
+      ap (λ (n : ℕ). walk (course-at (c .over) (c .ending) (c .index) (c .more) (c .exceeded) n (c .mark) (c .depth) (c .clock) c) w) ed
+      ∙ ap (λ (g : Bool). conclude-by g (is-turn (asked .mode)) asked c w) (sym e ∙ is)
+
+  module _ (e : goes ≡ false) (turns : Bool) (it : turns ≡ is-turn (asked .mode)) where
+    at : (b : Bool) → turns ≡ b → (w : Lent) → conclude-by false b asked c w ≡ conclude asked c w
+    at b eb w = ap₂ (λ (g t : Bool). conclude-by g t asked c w) (sym e ∙ is) (sym eb ∙ it)
+
+    pub concludes-turn : (w : Lent) → turns ≡ true → walk (turned c) w ≡ conclude asked c w
+    concludes-turn w eb = at true eb w
+
+    -- the search has ended: the rings and the entries' arrays are as they were put back, and the course is the next one
+    module _ (eb : turns ≡ false) (r : Course) (goal coinductive floundered complete : List ℕ) (strands : List Strand)
+        (time ambiguous variant waits wants next tail len : List ℕ) (answers : List Answer)
+        (answer-variant answer-key answer-ambiguous answer-next answer-tail answer-len : List ℕ)
+        (entry-table entry-clock positive negative active : List ℕ)
+        (er : r ≡ end-search asked floundered answer-next answer-tail answer-len answer-variant answer-key answer-ambiguous c) where
+      abbrev with-arrays : Course → (next tail len entry-table entry-clock positive negative active : List ℕ) → Lent
+      with-arrays d nx tl ln et ec ps ng ac = lent-of (tables-of (d .count) goal coinductive floundered complete)
+          (store strands time ambiguous variant waits wants (places nx tl ln (d .used)))
+          (answers-of answers answer-variant answer-key answer-ambiguous (places answer-next answer-tail answer-len (d .«answer_used»)))
+          (stack-of (d .depth) et ec ps ng ac) (d .clock)
+
+      abbrev f : Course → (next tail len entry-table entry-clock positive negative active : List ℕ) → Walk
+      f d nx tl ln et ec ps ng ac = walk d (with-arrays d nx tl ln et ec ps ng ac)
+
+      abbrev rings : (top : ℕ) → Places
+      rings top = all-back entry-table active (within (c .depth)) (places next tail len top)
+
+      pub concludes-ended : (nx tl ln et ec ps ng ac : List ℕ)
+          → ((top : ℕ) → places nx tl ln top ≡ all-back entry-table active (within (c .depth)) (places next tail len top))
+          → et ≡ written-at 0 (asked .table) entry-table → ec ≡ written-at 0 (r .clock) entry-clock → ps ≡ written-at 0 MAX positive
+          → ng ≡ written-at 0 MAX negative → ac ≡ written-at 0 256 active
+          → walk r (with-arrays r nx tl ln et ec ps ng ac)
+          ≡ conclude asked c (with-arrays c next tail len entry-table entry-clock positive negative active)
+      concludes-ended nx tl ln et ec ps ng ac back e1 e2 e3 e4 e5 =
+          let p : Places = rings (c .used) in
+          let is-p : places nx tl ln (c .used) ≡ p = back (c .used) in
+          ap (λ (l : List ℕ). f r l tl ln et ec ps ng ac) (ap (λ (q : Places). q .next) is-p)
+          ∙ ap (λ (l : List ℕ). f r (p .next) l ln et ec ps ng ac) (ap (λ (q : Places). q .tail) is-p)
+          ∙ ap (λ (l : List ℕ). f r (p .next) (p .tail) l et ec ps ng ac) (ap (λ (q : Places). q .len) is-p)
+          ∙ ap (λ (l : List ℕ). f r (p .next) (p .tail) (p .len) l ec ps ng ac) e1
+          ∙ ap (λ (l : List ℕ). f r (p .next) (p .tail) (p .len) (written-at 0 (asked .table) entry-table) l ps ng ac) e2
+          ∙ ap (λ (l : List ℕ). f r (p .next) (p .tail) (p .len) (written-at 0 (asked .table) entry-table)
+          (written-at 0 (r .clock) entry-clock) l ng ac) e3
+          ∙ ap (λ (l : List ℕ). f r (p .next) (p .tail) (p .len) (written-at 0 (asked .table) entry-table)
+          (written-at 0 (r .clock) entry-clock) (written-at 0 MAX positive) l ac) e4
+          ∙ ap (λ (l : List ℕ). f r (p .next) (p .tail) (p .len) (written-at 0 (asked .table) entry-table)
+          (written-at 0 (r .clock) entry-clock) (written-at 0 MAX positive) (written-at 0 MAX negative) l) e5
+          ∙ ap (λ (d : Course). f d (p .next) (p .tail) (p .len) (written-at 0 (asked .table) entry-table)
+          (written-at 0 (d .clock) entry-clock) (written-at 0 MAX positive) (written-at 0 MAX negative) (written-at 0 256 active)) er
+          ∙ at false eb (with-arrays c next tail len entry-table entry-clock positive negative active)
