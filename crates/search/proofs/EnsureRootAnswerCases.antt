@@ -3,35 +3,41 @@ use Prim.Native.Nat.{ℕ, _-_, _%_}
 use mathlib.Core.Bool.{Bool, true, false}
 use mathlib.Core.List.{List}
 use mathlib.Core.Path.{_≡_, sym, ap, ap₂, _∙_}
+use lib.Dec.{leb}
 use lib.ListN.{getD}
 use Rattle.definitions.specs.{MAX}
+use Rattle.book.specs.declared.Book.{Book}
 use Rattle.strands.specs.declared.Answer.{Answer}
 use Rattle.strands.specs.declared.Strand.{Strand}
 use Rattle.stores.specs.declared.places.Places.{Places}
-use Rattle.stores.specs.Numbers.{within, written-at}
+use Rattle.stores.specs.Numbers.{free, within, written-at}
 use Rattle.stores.specs.Places.{places}
 use Rattle.stores.specs.Queue.{store}
 use Rattle.stores.specs.Stack.{caller-place}
 use Rattle.control.specs.declared.choose.Chosen.{Chosen}
+use Rattle.control.specs.declared.decision.Decision.{Decision}
 use Rattle.control.specs.declared.ensure_root_answer.Next.{Next}
 use Rattle.control.specs.declared.ensure_root_answer.Top.{Top}
 use Rattle.control.specs.declared.on_no_strands_left.Idle.{Idle}
+use Rattle.control.specs.declared.perform.Carried.{Carried}
 use Rattle.control.specs.declared.perform.Flow.{Flow}
+use Rattle.control.specs.Choose.{decide}
 use Rattle.control.specs.EnsureRootAnswer.{next-strand}
 use Rattle.control.specs.MakeTables.{tables-of}
 use Rattle.control.specs.OnNoStrandsLeft.{without-strand}
+use Rattle.control.specs.Perform.{performed}
 use Rattle.control.specs.PerformDeed.{stack-of, answers-of}
-use Rattle.control.specs.Performing.{place-by}
-use Rattle.control.specs.PerformStrand.{Lent, lent-of}
+use Rattle.control.specs.Performing.{put, place-by}
+use Rattle.control.specs.PerformStrand.{Lent, lent-of, TurnDone}
 use Rattle.control.specs.UnwindStack.{all-back}
 use Rattle.search.specs.declared.course.Asked.{Asked}
 use Rattle.search.specs.declared.course.Course.{Course}
 use Rattle.search.specs.declared.ensure_root_answer.Looked.{Looked}
 use Rattle.search.specs.declared.ensure_root_answer.Picked.{Picked}
-use Rattle.search.specs.Course.{is-turn}
+use Rattle.search.specs.Course.{is-turn, carried, carry}
 use Rattle.search.specs.EnsureRootAnswer.{place-read, looked-as, top-now, looked}
 use Rattle.search.specs.RootAnswer.{one-more, course-at, end-search}
-use Rattle.search.specs.Walk.{Walk, walk, goes-by, goes-on, turned, conclude-by, conclude}
+use Rattle.search.specs.Walk.{Walk, numbered, walk, numbers-of, goes-by, goes-on, turned, conclude-by, conclude, pass-with}
 
 pub read-caller : (p : Next) (active : List ℕ) (depth c : ℕ) → p .found ≡ false → c ≡ caller-place depth active
     → c % 256 ≡ place-read p active depth
@@ -129,3 +135,29 @@ module _ (asked : Asked) (c : Course) (goes : Bool) (is : goes ≡ goes-on asked
           ∙ ap (λ (d : Course). f d (p .next) (p .tail) (p .len) (written-at 0 (asked .table) entry-table)
           (written-at 0 (d .clock) entry-clock) (written-at 0 MAX positive) (written-at 0 MAX negative) (written-at 0 256 active)) er
           ∙ at false eb (with-arrays c next tail len entry-table entry-clock positive negative active)
+
+-- `pass`: what was lent by the numbers that the course carries, the turn as it was performed, and what it was concluded to
+module _ (b : Book) (asked : Asked) (c : Course) (l : Looked) (k : Picked) (a : Answer) (lent-by : Carried → Lent) where
+  abbrev w : Lent
+  w = lent-by (carried c)
+
+  abbrev performs : Decision → Carried → TurnDone
+  performs d was =
+      performed (b .«goal_flags») (b .«goal_first») (b .«goal_len») (b .«clause_variant») (b .«clause_flags») (l .next) (l .top)
+      (k .chosen .made) d (l .place) (k .hand) (k .chosen .place) a (l .idle) (lent-by was)
+
+  abbrev decides : (held : ℕ) → Decision
+  decides held = decide (k .chosen) a (l .top .complete) (leb (asked .«clock_limit») (c .clock)) held
+
+  pub pass-is : (was : Carried) → was ≡ carried c → (held : ℕ)
+      → held ≡ lent-by (carried c) .answers .places .top - getD (lent-by (carried c) .answers .places .len) free 0
+      → (d : Decision) → d ≡ decide (k .chosen) a (l .top .complete) (leb (asked .«clock_limit») (c .clock)) held
+      → (t : TurnDone) → t ≡ performed (b .«goal_flags») (b .«goal_first») (b .«goal_len») (b .«clause_variant») (b .«clause_flags»)
+      (l .next) (l .top) (k .chosen .made) d (l .place) (k .hand) (k .chosen .place) a (l .idle) (lent-by was)
+      → (now : Course) → now ≡ carry (t .flow) (numbers-of (t .lent)) c → (v : Walk) → v ≡ conclude asked now (numbered now (put t))
+      → v ≡ pass-with b asked c l k a (lent-by (carried c))
+  pass-is was ew held eh d ed t et now en v ev =
+      ev
+      ∙ ap (λ (x : Course). conclude asked x (numbered x (put t))) en
+      ∙ ap (λ (u : TurnDone). conclude asked (carry (u .flow) (numbers-of (u .lent)) c) (put u))
+      (et ∙ ap₂ performs (ed ∙ ap decides eh) ew)
