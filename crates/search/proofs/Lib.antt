@@ -2,3 +2,5 @@
 pub mod RootAnswerCases
 pub mod RootAnswerFalls
 pub mod EnsureRootAnswerCases
+pub mod Bytes
+pub mod Looping

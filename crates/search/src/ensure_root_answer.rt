@@ -520,13 +520,13 @@ pub fn ensure_root_answer<'a>(
             literal_goal,
             literal_want,
         );
-        let read = k.chosen.place;
+        let chosen = k.chosen;
         let r = pass(
             asked,
             course,
             l,
             k,
-            answers[read as usize],
+            answers[chosen.place as usize],
             goal,
             coinductive,
             floundered,
