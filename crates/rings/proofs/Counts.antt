@@ -75,10 +75,6 @@ module _ {A : Type 0} where
   filter-within f g [] h = refl
   filter-within f g (x ∷ l) h = within-keep f g (g x) (f x) x (filter g l) (filter f l) refl refl (h x) (filter-within f g l h)
 
-  pub map-append : {B : Type 0} (f : A → B) (l m : List A) → map f (l ++ m) ≡ map f l ++ map f m
-  map-append {B} f [] m = refl
-  map-append {B} f (x ∷ l) m = ap (λ (k : List B). f x ∷ k) (map-append f l m)
-
   pub map-cong : {B : Type 0} (f g : A → B) (l : List A) → All (λ x. f x ≡ g x) l → map f l ≡ map g l
   map-cong {B} f g [] a = refl
   map-cong {B} f g (x ∷ l) a = ap₂ (λ (y : B) (m : List B). y ∷ m) (a .0) (map-cong f g l (a .1))
@@ -91,6 +87,9 @@ times-append p (x ∷ l) m =
 
 pub times-self : (p : ℕ) → one (eqb p p) ≡ 1
 times-self p = ap one (eq-eqb p p refl)
+
+pub times-first : (p : ℕ) (l : List ℕ) → 1 ≤ times p (p ∷ l)
+times-first p l = omega (arith, times-self p)
 
 times-keep : (p : ℕ) (b : Bool) (x : ℕ) (l m : List ℕ) (n : ℕ) → times p l + times p m ≡ n
     → times p (keep b x l) + times p (keep (not b) x m) ≡ one (eqb p x) + n
