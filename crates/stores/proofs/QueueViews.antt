@@ -5,7 +5,7 @@ use native.Mathlib.Omega.{arith}
 use mathlib.Core.Path.{_≡_, refl, sym, ap, ap₂, subst, _∙_}
 use mathlib.Core.Bool.{Bool, true, false, not, _&&_}
 use mathlib.Core.Option.{Option, none, some}
-use mathlib.Core.List.{List, [], _∷_, map}
+use mathlib.Core.List.{List, [], _∷_, map, map-append}
 use lib.ListN.{length, getD, set, length-map}
 use lib.Seq.{getD-set-same, getD-set-other}
 use lib.Dec.{eqb, ltb}
@@ -17,7 +17,7 @@ use Rattle.definitions.specs.Strand as said-strand
 use Rattle.definitions.specs.Table.{with-strands, enqueue-strand, take-strands, pop-front, dequeue-next-strand-that}
 use Rattle.definitions.specs.Turn as turns
 use Rattle.rings.specs.Lists.{first-index, times, turned}
-use Rattle.rings.proofs.Counts.{all-map, map-append, map-cong, absent-all}
+use Rattle.rings.proofs.Counts.{all-map, map-cong, absent-all}
 use Rattle.strands.specs.declared.Strand.{Strand}
 use Rattle.strands.specs.View.{seen}
 use Rattle.rings.specs.Rings.{place-if}
