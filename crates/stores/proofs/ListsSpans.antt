@@ -12,11 +12,12 @@ use lib.Seq.{drop-cons}
 use lib.Dec.{ltb}
 use borrow.Author.Tests.{lt-ltb, le-ltb, ltb-true, ltb-false}
 use Rattle.laws.specs.Spans.{span}
+use Rattle.laws.proofs.All.{All, end, more, all-first, all-rest}
 use Rattle.laws.proofs.Maps.{map-take}
 use Rattle.laws.proofs.Spans.{span-ext, span-snoc}
 use Rattle.definitions.specs.Lists.{push, position, rotate-left, total}
-use Rattle.rings.specs.Lists.{stop, first-index, times, turned, All}
-use Rattle.rings.proofs.Counts.{times-self}
+use Rattle.rings.specs.Lists.{stop, first-index, times, turned}
+use Rattle.rings.proofs.Counts.{times-first}
 
 -- where a search ends: at i, or nowhere
 abbrev pub first-if : Bool → ℕ → Option ℕ
@@ -100,7 +101,7 @@ module _ {A : Type 0} where
 
   pub first-cong : (f g : A → Bool) (l : List A) → All (λ x. f x ≡ g x) l → first-index f l ≡ first-index g l
   first-cong f g [] a = refl
-  first-cong f g (x ∷ l) a = ap₂ (λ (b : Bool) (n : ℕ). stop b n) (a .0) (first-cong f g l (a .1))
+  first-cong f g (x ∷ l) a = ap₂ (λ (b : Bool) (n : ℕ). stop b n) (all-first a) (first-cong f g l (all-rest a))
 
   -- the front of a queue turned to j is what stands at j, and what is behind it is the rest
   pub rotate-front : (l : List A) (j : ℕ) (d : A) → j < length l → rotate-left l j ≡ getD l j d ∷ turned j l
@@ -122,5 +123,5 @@ module _ {A B : Type 0} (f : A → B) where
 
 -- a fact of every number that a list has, as "all of it"
 pub all-times : (P : ℕ → Type 0) (l : List ℕ) → ((x : ℕ) → 1 ≤ times x l → P x) → All P l
-all-times P [] h = tt
-all-times P (x ∷ l) h = (h x (omega (arith, times-self x)), all-times P l (λ y k. h y (omega arith)))
+all-times P [] h = end
+all-times P (x ∷ l) h = more (h x (times-first x l)) (all-times P l (λ y k. h y (omega arith)))

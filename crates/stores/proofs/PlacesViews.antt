@@ -49,7 +49,8 @@ module _ (p : Places) (n : ℕ) (held : List ℕ) (q t : ℕ) (sound : SoundPlac
   waits-nowhere u = sound .apart q u (times-first q held)
 
   pub enqueued-own : ring (enqueued t q p) t ≡ ring p t ++ (q ∷ [])
-  enqueued-own = ring-enqueue-own (p .next) (p .tail) (p .len) (p .top) (sound .rings) t q waits-nowhere (sound .used q (times-first q held)) small
+  enqueued-own =
+      ring-enqueue-own (p .next) (p .tail) (p .len) (p .top) (sound .rings) t q waits-nowhere (sound .used q (times-first q held)) small
 
   pub enqueued-other : (u : ℕ) → (u ≡ t → ⊥) → ring (enqueued t q p) u ≡ ring p u
   enqueued-other u d = ring-enqueue-other (p .next) (p .tail) (p .len) (p .top)
@@ -69,7 +70,9 @@ module _ (p : Places) (n : ℕ) (held : List ℕ) (q t : ℕ) (sound : SoundPlac
       → waiting (enqueued t q p) n + length (ring (enqueued t q p) free) ≡ waiting p n + length (ring p free) + 1
       → SoundPlaces (enqueued t q p) n held
   put elsewhere count = record {
-    rings = ring-enqueue-sound (p .next) (p .tail) (p .len) (p .top) (sound .rings) t q waits-nowhere (sound .used q (times-first q held)) small;
+    rings =
+        ring-enqueue-sound (p .next) (p .tail) (p .len) (p .top) (sound .rings) t q waits-nowhere (sound .used q (times-first q held))
+        small;
     few = sound .few;
     empty = λ u h k. enqueued-other u (elsewhere u h k) ∙ sound .empty u h k;
     apart = not-held;

@@ -16,8 +16,9 @@ use Rattle.definitions.specs.Strand as said-strand
 use Rattle.definitions.specs.Table.{Table, with-answers, mark-floundered, answer, next-answer-index}
 use Rattle.rings.specs.Lists.{one, times}
 use Rattle.rings.specs.Rings.{place-if}
+use Rattle.laws.proofs.All.{all-map}
 use Rattle.laws.proofs.Maps.{getElem?-map, getElem?-map-past}
-use Rattle.rings.proofs.Counts.{is-or-not, all-map, map-cong, absent-all, times-append, times-first}
+use Rattle.rings.proofs.Counts.{is-or-not, map-cong, absent-all, times-append, times-first}
 use Rattle.rings.proofs.RingViews.{below-top}
 use Rattle.strands.specs.declared.Answer.{Answer}
 use Rattle.strands.specs.View as view
@@ -126,7 +127,7 @@ module _ (a : Answers) (n t : ℕ) (x : Answer) (h : t < n) (sound : SoundAnswer
 
   kept : (u : ℕ) → u < n → map (answer-at (answer-stored t x a)) (ring (a .places) u) ≡ answers-of a u
   kept u k = map-cong (answer-at (answer-stored t x a)) (answer-at a) (ring (a .places) u)
-      (all-map (λ y d. ap view.answer (away y d)) (ring (a .places) u) (absent-all q (ring (a .places) u) (apart u k)))
+      (all-map (λ y d. ap view.answer (away y d)) (absent-all q (ring (a .places) u) (apart u k)))
 
   pub stored-answer-own : answers-of (answer-stored t x a) t ≡ push (answers-of a t) (view.answer x)
   stored-answer-own =
