@@ -12,6 +12,7 @@ use Rattle.definitions.specs.Book.{Book, Goal, Clause, Literal, Positive, Negat
 use Rattle.definitions.specs.Book.{Command, goal, clause, positive, negative, end, unknown, command, width, is-end}
 use Rattle.definitions.specs.Book.{add-clause, add-literal, goals-name, literals-so-far, byte, u16, bit0, bit1}
 use Rattle.definitions.specs.Book.{apply-command, whole-command, read-from, literal-command, end-command}
+use Rattle.definitions.proofs.Prefix.{go-on}
 use Rattle.definitions.proofs.Refusal.{same-accepted, not-accepted, all-pass}
 use Rattle.definitions.proofs.Book.{added, clause-count-goal, length-add-clause, clause-count-add-clause}
 use Rattle.laws.proofs.Bools.{not-zero}
@@ -80,16 +81,9 @@ end-good after book next e s =
     book next e in
     subst Good (a .1) (record { small = s; named = not-false (goals-name (length book) book) (a .0 .1 .1 .0) })
 
--- what is done with a command's book
-abbrev onward : Command → List ℕ → Refusable Book → Refusable Book
-onward c bs o = elim o [
-  | refused n ↦ refused n
-  | accepted next ↦ elim (is-end c) [ true ↦ accepted next | false ↦ read-from bs (width c) next ]
-]
-
 command-read : (c : Command) (bs : List ℕ) (book r : Book) → Small book
     → ((skip : ℕ) (next : Book) → Small next → read-from bs skip next ≡ accepted r → Good r) → (o : Refusable Book)
-    → whole-command c bs book ≡ o → onward c bs o ≡ accepted r → Good r
+    → whole-command c bs book ≡ o → go-on c bs o ≡ accepted r → Good r
 command-read c bs book r s ih (refused n) k e = absurd (not-accepted e)
 command-read goal bs book r s ih (accepted next) k e =
     ih 1 next (command-small goal bs book next refl (whole-applied goal bs book next k) s) e

@@ -11,30 +11,31 @@ use lib.Dec.{ltb, leb, eqb, leb·zero}
 use borrow.Author.Tests.{ltb-false, leb-false, eqb-true, eqb-false, ne-eqb, not-false}
 use Rattle.definitions.specs.Refusal.{_refuses_}
 use Rattle.definitions.specs.Book as said
-use Rattle.definitions.specs.Book.{goal, clause, positive, negative, end, unknown, command, width, byte, u16, bit0, Positive, Negative, add-clause, add-literal, read-from}
+use Rattle.definitions.specs.Book.{goal, clause, positive, negative, end, unknown, command, width, byte, u16, bit0, Positive, Negative}
+use Rattle.definitions.specs.Book.{add-clause, add-literal, read-from}
 use Rattle.laws.proofs.Lists.{getD-zeros}
 use Rattle.book.specs.declared.Book.{Book}
 use Rattle.book.specs.declared.Reading.{Reading}
 use Rattle.book.specs.declared.decode.Operands.{Operands}
-use Rattle.book.specs.View.{view, signed, Full, Ranged, blank, seen-by, Read}
+use Rattle.book.specs.View.{view, signed, kept, Full, Ranged, blank, seen-by, Read}
 use Rattle.book.specs.Faults.{fault, marked, counts, next-fault, literal-tests, end-tests, largest}
 use Rattle.book.specs.Operands.{kind-by, want-by, OperandsAt}
 use Rattle.book.proofs.Tests.{left-over, others, marked-unknown, marked-known}
 use Rattle.book.proofs.Held.{Held}
 use Rattle.book.proofs.MoreGoals.{with-goal, bare-goal, goal-view, goal-held}
 use Rattle.book.proofs.MoreClauses.{with-clause, bare-clause, clause-view, clause-held, ends as clauses-end}
-use Rattle.book.proofs.MoreLiterals.{with-literal, literal-of, literal-view, literal-held}
+use Rattle.book.proofs.MoreLiterals.{with-literal, literal-view, literal-held}
 use Rattle.book.proofs.Turns.{passes, done, turn-refused, some-left, operands-within, tests-passed, turn-end, turn-on}
 
 -- A literal's kind says its sign and its flag.
 
-pub positive-literal : (f g w : ℕ) → literal-of (f % 2) g w ≡ Positive g w (bit0 f)
+pub positive-literal : (f g w : ℕ) → kept (f % 2) g w ≡ Positive g w (bit0 f)
 positive-literal f g w =
     let n : f % 2 / 2 % 2 ≡ 0 = omega arith in
     let o : f % 2 % 2 ≡ f % 2 = omega arith in
     ap (λ (k : ℕ). signed (eqb k 1) g w (bit0 (f % 2))) n ∙ ap (λ (k : ℕ). Positive g w (eqb k 1)) o
 
-pub negative-literal : (f g w : ℕ) → literal-of (f % 2 + 2) g w ≡ Negative g (bit0 f)
+pub negative-literal : (f g w : ℕ) → kept (f % 2 + 2) g w ≡ Negative g (bit0 f)
 negative-literal f g w =
     let n : (f % 2 + 2) / 2 % 2 ≡ 1 = omega arith in
     let o : (f % 2 + 2) % 2 ≡ f % 2 = omega arith in
@@ -96,7 +97,8 @@ start bs b e = subst (λ (x : Book). SoFar bs x 0 0 0) (sym e) (record { held = 
 
 module _ (bs : List ℕ) (b : Book) (literals named at : ℕ) (s : SoFar bs b literals named at) where
   -- a refusal
-  pub stops : (r : Reading) (k : ℕ) → (k ≡ 0 → ⊥) → k ≡ next-fault (drop at bs) (counts (b .goals) (b .clauses) literals named) → r .number ≡ k
+  pub stops : (r : Reading) (k : ℕ) → (k ≡ 0 → ⊥) → k ≡ next-fault (drop at bs) (counts (b .goals) (b .clauses) literals named)
+      → r .number ≡ k
       → r .book ≡ blank → Read bs r
   stops r k n e q z =
       let m : r .number ≡ 0 → ⊥ = λ y. n (sym q ∙ y) in
@@ -123,7 +125,8 @@ module _ (bs : List ℕ) (b : Book) (literals named at : ℕ) (s : SoFar bs b li
       where
         known : marked (command (byte bs at)) ≡ 255 → ⊥
         known e =
-            let t : _≡_ {A = ℕ} 2 0 = tests-passed b literals named (s .held) bs at (sym fine) unknown (marked-unknown (command (byte bs at)) e) in
+            let t : _≡_ {A = ℕ} 2 0 =
+            tests-passed b literals named (s .held) bs at (sym fine) unknown (marked-unknown (command (byte bs at)) e) in
             omega arith
 
     -- the end command
@@ -133,13 +136,17 @@ module _ (bs : List ℕ) (b : Book) (literals named at : ℕ) (s : SoFar bs b li
 
       some-goals : 0 < b .goals
       some-goals =
-          let p = passes (ltb 0 (length after) refuses 7) (eqb (b .goals) 0 refuses 8 ∷ not (leb named (b .goals)) refuses 6 ∷ []) (omega arith) passed in
+          let p =
+          passes (ltb 0 (length after) refuses 7) (eqb (b .goals) 0 refuses 8 ∷ not (leb named (b .goals)) refuses 6 ∷ []) (omega arith)
+          passed in
           let q = passes (eqb (b .goals) 0 refuses 8) (not (leb named (b .goals)) refuses 6 ∷ []) (omega arith) (p .1) in
           omega (arith, eqb-false (b .goals) 0 (q .0))
 
       all-named : leb named (b .goals) ≡ true
       all-named =
-          let p = passes (ltb 0 (length after) refuses 7) (eqb (b .goals) 0 refuses 8 ∷ not (leb named (b .goals)) refuses 6 ∷ []) (omega arith) passed in
+          let p =
+          passes (ltb 0 (length after) refuses 7) (eqb (b .goals) 0 refuses 8 ∷ not (leb named (b .goals)) refuses 6 ∷ []) (omega arith)
+          passed in
           let q = passes (eqb (b .goals) 0 refuses 8) (not (leb named (b .goals)) refuses 6 ∷ []) (omega arith) (p .1) in
           not-false (leb named (b .goals)) (passes (not (leb named (b .goals)) refuses 6) [] (omega arith) (q .1) .0)
 
@@ -202,7 +209,8 @@ module _ (bs : List ℕ) (b : Book) (literals named at : ℕ) (s : SoFar bs b li
             omega (arith, ltb-false 3 (byte after 0) (p .0), goal-flags)
 
         goal-seen : view (with-goal b (o .flags)) ≡ done goal after (view b)
-        goal-seen = goal-view b (o .flags) literals named (s .held) goal-room goal-known ∙ ap (λ (f : ℕ). view b ++ (bare-goal f ∷ [])) goal-flags
+        goal-seen =
+            goal-view b (o .flags) literals named (s .held) goal-room goal-known ∙ ap (λ (f : ℕ). view b ++ (bare-goal f ∷ [])) goal-flags
 
         pub goal-again : SoFar bs (with-goal b (o .flags)) literals named (o .next)
         goal-again = record {
@@ -216,7 +224,8 @@ module _ (bs : List ℕ) (b : Book) (literals named at : ℕ) (s : SoFar bs b li
         pub clause-room : (0 < b .goals) × (b .clauses < 256)
         clause-room =
             let t = tests-passed b literals named (s .held) bs at (sym fine) clause (code 0x43 is) in
-            let p = passes (eqb (b .goals) 0 refuses 3) (ltb 3 (byte after 2) refuses 4 ∷ leb 256 (b .clauses) refuses 5 ∷ []) (omega arith) t in
+            let p =
+            passes (eqb (b .goals) 0 refuses 3) (ltb 3 (byte after 2) refuses 4 ∷ leb 256 (b .clauses) refuses 5 ∷ []) (omega arith) t in
             let q = passes (ltb 3 (byte after 2) refuses 4) (leb 256 (b .clauses) refuses 5 ∷ []) (omega arith) (p .1) in (
               omega (arith, eqb-false (b .goals) 0 (p .0)),
               leb-false 256 (b .clauses) (passes (leb 256 (b .clauses) refuses 5) [] (omega arith) (q .1) .0),
@@ -228,13 +237,20 @@ module _ (bs : List ℕ) (b : Book) (literals named at : ℕ) (s : SoFar bs b li
         clause-known : o .flags ≤ 3
         clause-known =
             let t = tests-passed b literals named (s .held) bs at (sym fine) clause (code 0x43 is) in
-            let p = passes (eqb (b .goals) 0 refuses 3) (ltb 3 (byte after 2) refuses 4 ∷ leb 256 (b .clauses) refuses 5 ∷ []) (omega arith) t in
+            let p =
+            passes (eqb (b .goals) 0 refuses 3) (ltb 3 (byte after 2) refuses 4 ∷ leb 256 (b .clauses) refuses 5 ∷ []) (omega arith) t in
             let q = passes (ltb 3 (byte after 2) refuses 4) (leb 256 (b .clauses) refuses 5 ∷ []) (omega arith) (p .1) in
             omega (arith, ltb-false 3 (byte after 2) (q .0), clause-flags)
 
         module _ (g : ℕ) (last : b .goals ≡ suc g) where
           pub own-clauses : getD (b .«goal_len») g 0 < 256
-          own-clauses = omega (arith, clauses-end b g (o .number) (o .flags) literals named (s .held) last (clause-room .1) (ops .number-fits) clause-known, clause-room .1)
+          own-clauses =
+              omega (
+                arith,
+                clauses-end b g (o .number) (o .flags) literals named (s .held) last (clause-room .1) (ops .number-fits)
+                    clause-known,
+                clause-room .1,
+              )
 
           clause-seen : view (with-clause b g (o .number) (o .flags)) ≡ done clause after (view b)
           clause-seen =
@@ -246,7 +262,9 @@ module _ (bs : List ℕ) (b : Book) (literals named at : ℕ) (s : SoFar bs b li
           pub clause-again : SoFar bs (with-clause b g (o .number) (o .flags)) 0 named (o .next)
           clause-again = record {
             held = clause-held b g (o .number) (o .flags) literals named (s .held) last (clause-room .1) (ops .number-fits) clause-known;
-            rest = turn-on b literals named (s .held) bs at (sym fine) clause (code 0x43 is) refl (with-clause b g (o .number) (o .flags)) clause-seen (o .next)
+            rest =
+                turn-on b literals named (s .held) bs at (sym fine) clause (code 0x43 is) refl (with-clause b g (o .number) (o .flags))
+                clause-seen (o .next)
                 (ops .next-is ∙ ap (λ (y : ℕ). at + marked (command y) + 1) is) ∙ s .rest;
           }
 
@@ -285,16 +303,18 @@ module _ (bs : List ℕ) (b : Book) (literals named at : ℕ) (s : SoFar bs b li
           number-after : o .number ≡ u16 after 0
           number-after = ops .number-is ∙ sym (u16-after 0 (at + 1) (omega arith))
 
-          seen : view grown ≡ add-literal (literal-of (o .kind) (o .number) (o .want)) (view b)
-          seen = literal-view b c literals (o .kind) (o .number) (o .want) named (s .held) last (literal-room .1) kind-known (ops .want-fits)
+          seen : view grown ≡ add-literal (kept (o .kind) (o .number) (o .want)) (view b)
+          seen =
+              literal-view b c literals (o .kind) (o .number) (o .want) named (s .held) last (literal-room .1) kind-known (ops .want-fits)
 
           seen-positive : x ≡ 0x50 → view grown ≡ done positive after (view b)
           seen-positive e =
               let f = byte bs (at + 5) in
               let k : o .kind ≡ f % 2 = ops .kind-is ∙ ap (λ (y : ℕ). kind-by (eqb y 0x4E) (byte bs (at + marked (command y)))) e in
-              let w : o .want ≡ u16 after 2 = ops .want-is ∙ ap (λ (y : ℕ). want-by (eqb y 0x50) (u16 bs (at + 3))) e ∙ sym (u16-after 2 (at + 3) (omega arith)) in
+              let w : o .want ≡ u16 after 2 =
+              ops .want-is ∙ ap (λ (y : ℕ). want-by (eqb y 0x50) (u16 bs (at + 3))) e ∙ sym (u16-after 2 (at + 3) (omega arith)) in
               seen ∙ ap (λ (l : said.Literal). add-literal l (view b))
-              (ap (λ (n : ℕ). literal-of n (o .number) (o .want)) k
+              (ap (λ (n : ℕ). kept n (o .number) (o .want)) k
               ∙ positive-literal f (o .number) (o .want)
               ∙ ap (λ (n : ℕ). Positive n (o .want) (bit0 f)) number-after
               ∙ ap (λ (n : ℕ). Positive (u16 after 0) n (bit0 f)) w
@@ -305,7 +325,7 @@ module _ (bs : List ℕ) (b : Book) (literals named at : ℕ) (s : SoFar bs b li
               let f = byte bs (at + 3) in
               let k : o .kind ≡ f % 2 + 2 = ops .kind-is ∙ ap (λ (y : ℕ). kind-by (eqb y 0x4E) (byte bs (at + marked (command y)))) e in
               seen ∙ ap (λ (l : said.Literal). add-literal l (view b))
-              (ap (λ (n : ℕ). literal-of n (o .number) (o .want)) k
+              (ap (λ (n : ℕ). kept n (o .number) (o .want)) k
               ∙ negative-literal f (o .number) (o .want)
               ∙ ap (λ (n : ℕ). Negative n (bit0 f)) number-after
               ∙ ap (λ (n : ℕ). Negative (u16 after 0) (bit0 n)) (sym (byte-after 2 (at + 3) (omega arith))))
@@ -320,6 +340,8 @@ module _ (bs : List ℕ) (b : Book) (literals named at : ℕ) (s : SoFar bs b li
 
           pub literal-again : SoFar bs grown (literals + 1) (largest named (o .number + 1)) (o .next)
           literal-again = record {
-            held = literal-held b c literals (o .kind) (o .number) (o .want) named (s .held) last (literal-room .1) kind-known (ops .want-fits);
+            held =
+                literal-held b c literals (o .kind) (o .number) (o .want) named (s .held) last (literal-room .1) kind-known
+                (ops .want-fits);
             rest = goes-on which ∙ s .rest;
           }

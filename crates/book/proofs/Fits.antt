@@ -17,7 +17,8 @@ pub table-of : (l : Literal) → not (bit0 (l .kind)) ≡ gets-table (meant l)
 table-of l = table-signed (bit1 (l .kind)) (l .goal) (l .want) (bit0 (l .kind))
 
 -- a want against a variant, where neither is 0
-pub fits-last : (l : Literal) (variant : ℕ) → bit1 (l .kind) ≡ false → (l .want ≡ 0 → ⊥) → (variant ≡ 0 → ⊥) → eqb variant (l .want) ≡ answer-fits (meant l) variant
+pub fits-last : (l : Literal) (variant : ℕ) → bit1 (l .kind) ≡ false → (l .want ≡ 0 → ⊥) → (variant ≡ 0 → ⊥)
+    → eqb variant (l .want) ≡ answer-fits (meant l) variant
 fits-last l variant s w v =
     sym (ap (λ (t : Bool). answer-fits (signed t (l .goal) (l .want) (bit0 (l .kind))) variant) s
     ∙ ap (λ (t : Bool). t || eqb variant 0 || eqb variant (l .want)) (ne-eqb (l .want) 0 w)

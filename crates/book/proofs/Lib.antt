@@ -1,5 +1,4 @@
 pub mod Tests
-pub mod Spans
 pub mod Names
 pub mod Tilings
 pub mod Held

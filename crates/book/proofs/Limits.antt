@@ -25,9 +25,10 @@ use Rattle.laws.proofs.Spans.{length-span}
 use Rattle.laws.specs.Spans.{span}
 use Rattle.book.specs.declared.Book.{Book}
 use Rattle.book.specs.View.{signed, literal-viewed, clause-viewed, goal-viewed, view, Sound}
-use Rattle.book.proofs.Looks.{goals-are, clauses-are}
+use Rattle.book.proofs.Held.{goals-counted, clauses-counted}
 
-signed-within : (n : ℕ) (t : Bool) (goal want : ℕ) (o : Bool) → want < 65536 → goal-of (signed t goal want o) < n → LiteralWithin n (signed t goal want o)
+signed-within : (n : ℕ) (t : Bool) (goal want : ℕ) (o : Bool) → want < 65536 → goal-of (signed t goal want o) < n
+    → LiteralWithin n (signed t goal want o)
 signed-within n true goal want o w h = h
 signed-within n false goal want o w h = (h, w)
 
@@ -37,7 +38,9 @@ module _ (b : Book) (s : Sound b) (n : ℕ) where
   literals-within i (suc k) e =
       let first = ltb (goal-of (literal-viewed b i)) n in
       let rest = literals-name n (span (literal-viewed b) (suc i) k) in (
-        signed-within n (bit1 (getD (b .«literal_kind») i 0)) (getD (b .«literal_goal») i 0) (getD (b .«literal_want») i 0) (bit0 (getD (b .«literal_kind») i 0)) (s .ranged .wants i) (ltb-true (goal-of (literal-viewed b i)) n (both-true first rest e .0)),
+        signed-within n (bit1 (getD (b .«literal_kind») i 0)) (getD (b .«literal_goal») i 0) (getD (b .«literal_want») i 0)
+            (bit0 (getD (b .«literal_kind») i 0)) (s .ranged .wants i)
+            (ltb-true (goal-of (literal-viewed b i)) n (both-true first rest e .0)),
         literals-within (suc i) k (both-true first rest e .1),
       )
 
@@ -48,7 +51,8 @@ module _ (b : Book) (s : Sound b) (n : ℕ) where
       let rest = clauses-name n (span (clause-viewed b) (suc c) k) in (
         record {
           variant-fits = s .ranged .variants c;
-          few-literals = subst (λ (m : ℕ). m ≤ 8) (sym (length-span (literal-viewed b) (8 * c) (getD (b .«clause_len») c 0))) (s .few-literals c);
+          few-literals =
+              subst (λ (m : ℕ). m ≤ 8) (sym (length-span (literal-viewed b) (8 * c) (getD (b .«clause_len») c 0))) (s .few-literals c);
           literals-fit = literals-within (8 * c) (getD (b .«clause_len») c 0) (both-true first rest e .0);
         },
         clauses-within (suc c) k (both-true first rest e .1),
@@ -65,8 +69,8 @@ module _ (b : Book) (s : Sound b) (n : ℕ) where
 
 pub sound-within : (b : Book) → Sound b → Within (view b)
 sound-within b s = record {
-  some-goal = omega (arith, s .some-goal, goals-are b s);
-  few-goals = omega (arith, s .few-goals, goals-are b s);
-  few-clauses = omega (arith, s .few-clauses, clauses-are b s);
-  clauses-fit = subst (λ (n : ℕ). GoalsWithin n (view b)) (sym (goals-are b s)) (goals-within b s (b .goals) 0 (b .goals) (s .named));
+  some-goal = omega (arith, s .some-goal, goals-counted b);
+  few-goals = omega (arith, s .few-goals, goals-counted b);
+  few-clauses = omega (arith, s .few-clauses, clauses-counted b (s .tiles));
+  clauses-fit = subst (λ (n : ℕ). GoalsWithin n (view b)) (sym (goals-counted b)) (goals-within b s (b .goals) 0 (b .goals) (s .named));
 }

@@ -8,7 +8,7 @@ use lib.ListN.{length, getD}
 use lib.Dec.{ltb}
 use borrow.Author.Tests.{lt-ltb, ltb-true, ltb-false}
 use Rattle.definitions.specs.Book as said
-use Rattle.definitions.specs.Book.{Clause, Goal, goal-of, literals-name, clauses-name, goals-name, bit0, bit1, clause-count}
+use Rattle.definitions.specs.Book.{Clause, Goal, goal-of, literals-name, clauses-name, goals-name, bit0, bit1}
 use Rattle.laws.proofs.Bools.{both-true}
 use Rattle.laws.proofs.Spans.{length-span, getD-span}
 use Rattle.laws.specs.Spans.{span}
@@ -17,13 +17,14 @@ use Rattle.book.specs.declared.Literal.{Literal}
 use Rattle.book.specs.View.{kept, meant, literal-viewed, clause-viewed, goal-in, goal-viewed, view, Tiles, Sound}
 use Rattle.book.specs.Access.{entry, entry-by, literal-there, literal-read, literal-by}
 use Rattle.book.proofs.MoreLiterals.{goal-of-signed}
-use Rattle.book.proofs.Tilings.{tiles-count, tiles-within}
+use Rattle.book.proofs.Held.{goal-within}
 
 -- an entry within the size is the array's
 pub entry-in : (size : ℕ) (l : List ℕ) (i : ℕ) → i < size → entry size l i ≡ getD l i 0
 entry-in size l i h = ap (λ (t : Bool). entry-by t (getD l i 0)) (lt-ltb i size h)
 
-pub literal-in : (kind goal want : List ℕ) (c j : ℕ) → c < 256 → j < 8 → literal-read kind goal want c j ≡ literal-there kind goal want (8 * c + j)
+pub literal-in : (kind goal want : List ℕ) (c j : ℕ) → c < 256 → j < 8
+    → literal-read kind goal want c j ≡ literal-there kind goal want (8 * c + j)
 literal-in kind goal want c j h k =
     ap (λ (t : Bool). literal-by t (ltb j 8) (literal-there kind goal want (8 * c + j))) (lt-ltb c 256 h)
     ∙ ap (λ (t : Bool). literal-by true t (literal-there kind goal want (8 * c + j))) (lt-ltb j 8 k)
@@ -35,23 +36,27 @@ module _ (n : ℕ) where
   named-literal f s zero j e h = absurd (omega arith)
   named-literal f s (suc k) zero e h =
       let z : s ≡ s + 0 = omega arith in
-      subst (λ (i : ℕ). goal-of (f i) < n) z (ltb-true (goal-of (f s)) n (both-true (ltb (goal-of (f s)) n) (literals-name n (span f (suc s) k)) e .0))
+      subst (λ (i : ℕ). goal-of (f i) < n) z (ltb-true (goal-of (f s)) n
+      (both-true (ltb (goal-of (f s)) n) (literals-name n (span f (suc s) k)) e .0))
   named-literal f s (suc k) (suc j) e h =
       let z : suc s + j ≡ s + suc j = omega arith in
       subst (λ (i : ℕ). goal-of (f i) < n) z
       (named-literal f (suc s) k j (both-true (ltb (goal-of (f s)) n) (literals-name n (span f (suc s) k)) e .1) (omega arith))
 
-  named-clause : (f : ℕ → Clause) (s k c : ℕ) → clauses-name n (span f s k) ≡ true → s ≤ c → c < s + k → literals-name n (f c .literals) ≡ true
+  named-clause : (f : ℕ → Clause) (s k c : ℕ) → clauses-name n (span f s k) ≡ true → s ≤ c → c < s + k
+      → literals-name n (f c .literals) ≡ true
   named-clause f s zero c e l h = absurd (omega arith)
   named-clause f s (suc k) c e l h =
       by (ltb s c) refl
-      (λ p. named-clause f (suc s) k c (both-true (literals-name n (f s .literals)) (clauses-name n (span f (suc s) k)) e .1) (omega arith) (omega arith))
+      (λ p. named-clause f (suc s) k c (both-true (literals-name n (f s .literals)) (clauses-name n (span f (suc s) k)) e .1) (omega arith)
+      (omega arith))
     where
       by : (t : Bool) → ltb s c ≡ t → (s < c → literals-name n (f c .literals) ≡ true) → literals-name n (f c .literals) ≡ true
       by true q behind = behind (ltb-true s c q)
       by false q behind =
           let p : s ≡ c = omega (arith, ltb-false s c q) in
-          subst (λ (i : ℕ). literals-name n (f i .literals) ≡ true) p (both-true (literals-name n (f s .literals)) (clauses-name n (span f (suc s) k)) e .0)
+          subst (λ (i : ℕ). literals-name n (f i .literals) ≡ true) p
+          (both-true (literals-name n (f s .literals)) (clauses-name n (span f (suc s) k)) e .0)
 
   named-tiles : (f : ℕ → Clause) (flags first len : List ℕ) (k g at end c : ℕ) → Tiles first len g k at end
       → goals-name n (span (goal-in f flags first len) g k) ≡ true → at ≤ c → c < end → literals-name n (f c .literals) ≡ true
@@ -59,26 +64,22 @@ module _ (n : ℕ) where
   named-tiles f flags first len (suc k) g at end c t e l h =
       by (ltb c (at + getD len g 0)) refl
       (λ p. named-tiles f flags first len k (suc g) (at + getD len g 0) end c (t .1)
-      (both-true (clauses-name n (span f (getD first g 0) (getD len g 0))) (goals-name n (span (goal-in f flags first len) (suc g) k)) e .1) p h)
+      (both-true (clauses-name n (span f (getD first g 0) (getD len g 0))) (goals-name n (span (goal-in f flags first len) (suc g) k)) e .1)
+      p h)
     where
-      by : (b : Bool) → ltb c (at + getD len g 0) ≡ b → (at + getD len g 0 ≤ c → literals-name n (f c .literals) ≡ true) → literals-name n (f c .literals) ≡ true
+      by : (b : Bool) → ltb c (at + getD len g 0) ≡ b → (at + getD len g 0 ≤ c → literals-name n (f c .literals) ≡ true)
+          → literals-name n (f c .literals) ≡ true
       by true q behind =
           let p : getD first g 0 ≡ at = t .0 in
           named-clause f (getD first g 0) (getD len g 0) c
-          (both-true (clauses-name n (span f (getD first g 0) (getD len g 0))) (goals-name n (span (goal-in f flags first len) (suc g) k)) e .0)
+          (both-true (clauses-name n (span f (getD first g 0) (getD len g 0))) (goals-name n (span (goal-in f flags first len) (suc g) k))
+          e .0)
           (omega arith) (omega (arith, ltb-true c (at + getD len g 0) q))
       by false q behind = behind (ltb-false c (at + getD len g 0) q)
 
 -- The book.
 
 module _ (b : Book) (s : Sound b) where
-  pub goals-are : length (view b) ≡ b .goals
-  goals-are = length-span (goal-viewed b) 0 (b .goals)
-
-  pub clauses-are : clause-count (view b) ≡ b .clauses
-  clauses-are =
-      omega (arith, tiles-count (clause-viewed b) (b .«goal_flags») (b .«goal_first») (b .«goal_len») (b .goals) 0 0 (b .clauses) (s .tiles))
-
   module _ (g : ℕ) (d : Goal) (h : g < b .goals) where
     pub goal-is : getD (view b) g d ≡ goal-viewed b g
     goal-is =
@@ -99,17 +100,16 @@ module _ (b : Book) (s : Sound b) where
     pub clauses-of-are : entry 64 (b .«goal_len») g ≡ length (getD (view b) g d .clauses)
     clauses-of-are =
         entry-in 64 (b .«goal_len») g (omega (arith, s .few-goals))
-        ∙ sym (ap (λ (x : Goal). length (x .clauses)) goal-is ∙ length-span (clause-viewed b) (getD (b .«goal_first») g 0) (getD (b .«goal_len») g 0))
+        ∙ sym (ap (λ (x : Goal). length (x .clauses)) goal-is ∙ length-span (clause-viewed b) (getD (b .«goal_first») g 0)
+        (getD (b .«goal_len») g 0))
 
     -- a goal's clauses are among the book's
     pub clauses-within : getD (b .«goal_first») g 0 + getD (b .«goal_len») g 0 ≤ b .clauses
-    clauses-within =
-        let z : 0 + g ≡ g = omega arith in
-        subst (λ (i : ℕ). getD (b .«goal_first») i 0 + getD (b .«goal_len») i 0 ≤ b .clauses) z
-        (tiles-within (clause-viewed b) (b .«goal_flags») (b .«goal_first») (b .«goal_len») (b .goals) 0 0 (b .clauses) g (s .tiles) h)
+    clauses-within = goal-within b (b .goals) g (s .tiles) h
 
     -- clause i of a goal is the book's clause at its first place and i
-    pub clause-is : (i : ℕ) (e : Clause) → i < getD (b .«goal_len») g 0 → getD (getD (view b) g d .clauses) i e ≡ clause-viewed b (getD (b .«goal_first») g 0 + i)
+    pub clause-is : (i : ℕ) (e : Clause) → i < getD (b .«goal_len») g 0
+        → getD (getD (view b) g d .clauses) i e ≡ clause-viewed b (getD (b .«goal_first») g 0 + i)
     clause-is i e l =
         ap (λ (x : Goal). getD (x .clauses) i e) goal-is
         ∙ getD-span (clause-viewed b) (getD (b .«goal_first») g 0) (getD (b .«goal_len») g 0) i e l
@@ -126,25 +126,33 @@ module _ (b : Book) (s : Sound b) where
 
     pub literals-are : entry 256 (b .«clause_len») c ≡ length (clause-viewed b c .literals)
     literals-are =
-        entry-in 256 (b .«clause_len») c (omega (arith, s .few-clauses)) ∙ sym (length-span (literal-viewed b) (8 * c) (getD (b .«clause_len») c 0))
+        entry-in 256 (b .«clause_len») c (omega (arith, s .few-clauses))
+        ∙ sym (length-span (literal-viewed b) (8 * c) (getD (b .«clause_len») c 0))
 
     module _ (j : ℕ) (l : j < getD (b .«clause_len») c 0) where
       goal-named : getD (b .«literal_goal») (8 * c + j) 0 < b .goals
       goal-named =
           let in-clause : literals-name (b .goals) (clause-viewed b c .literals) ≡ true =
-          named-tiles (b .goals) (clause-viewed b) (b .«goal_flags») (b .«goal_first») (b .«goal_len») (b .goals) 0 0 (b .clauses) c (s .tiles) (s .named) (omega arith) h in
-          let named : goal-of (literal-viewed b (8 * c + j)) < b .goals = named-literal (b .goals) (literal-viewed b) (8 * c) (getD (b .«clause_len») c 0) j in-clause l in
+          named-tiles (b .goals) (clause-viewed b) (b .«goal_flags») (b .«goal_first») (b .«goal_len») (b .goals) 0 0 (b .clauses) c
+          (s .tiles) (s .named) (omega arith) h in
+          let named : goal-of (literal-viewed b (8 * c + j)) < b .goals =
+          named-literal (b .goals) (literal-viewed b) (8 * c) (getD (b .«clause_len») c 0) j in-clause l in
           subst (λ (n : ℕ). n < b .goals)
-          (goal-of-signed (bit1 (getD (b .«literal_kind») (8 * c + j) 0)) (getD (b .«literal_goal») (8 * c + j) 0) (getD (b .«literal_want») (8 * c + j) 0) (bit0 (getD (b .«literal_kind») (8 * c + j) 0))) named
+          (goal-of-signed (bit1 (getD (b .«literal_kind») (8 * c + j) 0)) (getD (b .«literal_goal») (8 * c + j) 0)
+          (getD (b .«literal_want») (8 * c + j) 0) (bit0 (getD (b .«literal_kind») (8 * c + j) 0))) named
 
       -- it fits the byte that it is kept in
       goal-fits : getD (b .«literal_goal») (8 * c + j) 0 % 256 ≡ getD (b .«literal_goal») (8 * c + j) 0
       goal-fits = omega (arith, goal-named, s .few-goals)
 
-      here : literal-read (b .«literal_kind») (b .«literal_goal») (b .«literal_want») c j ≡ literal-there (b .«literal_kind») (b .«literal_goal») (b .«literal_want») (8 * c + j)
-      here = literal-in (b .«literal_kind») (b .«literal_goal») (b .«literal_want») c j (omega (arith, s .few-clauses)) (omega (arith, s .few-literals c))
+      here : literal-read (b .«literal_kind») (b .«literal_goal») (b .«literal_want») c j
+          ≡ literal-there (b .«literal_kind») (b .«literal_goal») (b .«literal_want») (8 * c + j)
+      here =
+          literal-in (b .«literal_kind») (b .«literal_goal») (b .«literal_want») c j (omega (arith, s .few-clauses))
+          (omega (arith, s .few-literals c))
 
-      pub literal-is : (d : said.Literal) → meant (literal-read (b .«literal_kind») (b .«literal_goal») (b .«literal_want») c j) ≡ getD (clause-viewed b c .literals) j d
+      pub literal-is : (d : said.Literal)
+          → meant (literal-read (b .«literal_kind») (b .«literal_goal») (b .«literal_want») c j) ≡ getD (clause-viewed b c .literals) j d
       literal-is d =
           ap meant here
           ∙ ap (λ (n : ℕ). kept (getD (b .«literal_kind») (8 * c + j) 0) n (getD (b .«literal_want») (8 * c + j) 0)) goal-fits

@@ -15,8 +15,8 @@ use Rattle.laws.specs.Spans.{span}
 use Rattle.book.specs.declared.Book.{Book}
 use Rattle.book.specs.View.{literal-viewed, clause-made, clause-viewed, goal-made, goal-viewed, view, Tiles, Full}
 use Rattle.book.proofs.Names.{names-clause}
-use Rattle.book.proofs.Tilings.{tiles-within, tiles-last}
-use Rattle.book.proofs.Held.{tiles-clause, Held}
+use Rattle.book.proofs.Tilings.{tiles-last}
+use Rattle.book.proofs.Held.{tiles-clause, Held, goal-within}
 
 abbrev pub with-clause : Book → (g variant flags : ℕ) → Book
 with-clause b g variant flags = record {
@@ -36,7 +36,8 @@ with-clause b g variant flags = record {
 abbrev pub bare-clause : (variant flags : ℕ) → Clause
 bare-clause variant flags = record { variant = variant; cannot-prove = bit0 flags; outsized = bit1 flags; literals = [] }
 
-module _ (b : Book) (g variant flags literals named : ℕ) (h : Held b literals named) (last : b .goals ≡ suc g) (room : b .clauses < 256) (fits : variant < 65536) (known : flags ≤ 3) where
+module _ (b : Book) (g variant flags literals named : ℕ) (h : Held b literals named) (last : b .goals ≡ suc g) (room : b .clauses < 256)
+    (fits : variant < 65536) (known : flags ≤ 3) where
   abbrev next : Book
   next = with-clause b g variant flags
 
@@ -48,9 +49,11 @@ module _ (b : Book) (g variant flags literals named : ℕ) (h : Held b literals 
 
   clause-before : (c : ℕ) → c < b .clauses → clause-viewed next c ≡ clause-viewed b c
   clause-before c l =
-      ap (λ (x : ℕ). clause-made (literal-viewed b) c x (getD (set (b .«clause_flags») (b .clauses) flags) c 0) (getD (set (b .«clause_len») (b .clauses) 0) c 0))
+      ap (λ (x : ℕ). clause-made (literal-viewed b) c x (getD (set (b .«clause_flags») (b .clauses) flags) c 0)
+      (getD (set (b .«clause_len») (b .clauses) 0) c 0))
       (getD-set-below (b .«clause_variant») (b .clauses) c variant 0 l)
-      ∙ ap (λ (x : ℕ). clause-made (literal-viewed b) c (getD (b .«clause_variant») c 0) x (getD (set (b .«clause_len») (b .clauses) 0) c 0))
+      ∙ ap (λ (x : ℕ). clause-made (literal-viewed b) c (getD (b .«clause_variant») c 0) x
+      (getD (set (b .«clause_len») (b .clauses) 0) c 0))
       (getD-set-below (b .«clause_flags») (b .clauses) c flags 0 l)
       ∙ ap (λ (x : ℕ). clause-made (literal-viewed b) c (getD (b .«clause_variant») c 0) (getD (b .«clause_flags») c 0) x)
       (getD-set-below (b .«clause_len») (b .clauses) c 0 0 l)
@@ -73,12 +76,6 @@ module _ (b : Book) (g variant flags literals named : ℕ) (h : Held b literals 
   tiles : Tiles (b .«goal_first») (b .«goal_len») 0 (suc g) 0 (b .clauses)
   tiles = subst (λ (n : ℕ). Tiles (b .«goal_first») (b .«goal_len») 0 n 0 (b .clauses)) last (h .tiles)
 
-  bounds : (i : ℕ) → i < suc g → getD (b .«goal_first») i 0 + getD (b .«goal_len») i 0 ≤ b .clauses
-  bounds i l =
-      let z : 0 + i ≡ i = omega arith in
-      subst (λ (k : ℕ). getD (b .«goal_first») k 0 + getD (b .«goal_len») k 0 ≤ b .clauses) z
-      (tiles-within (clause-viewed b) (b .«goal_flags») (b .«goal_first») (b .«goal_len») (suc g) 0 0 (b .clauses) i tiles l)
-
   -- the last goal's clauses end where all end
   pub ends : getD (b .«goal_first») g 0 + getD (b .«goal_len») g 0 ≡ b .clauses
   ends =
@@ -88,8 +85,10 @@ module _ (b : Book) (g variant flags literals named : ℕ) (h : Held b literals 
 
   goal-before : (i : ℕ) → i < g → goal-viewed next i ≡ goal-viewed b i
   goal-before i l =
-      ap (λ (x : ℕ). goal-made (clause-viewed next) (getD (b .«goal_flags») i 0) (getD (b .«goal_first») i 0) x) (getD-set-below (b .«goal_len») g i (getD (b .«goal_len») g 0 + 1) 0 l)
-      ∙ ap (λ (cs : List Clause). with-clauses (goal-viewed b i) cs) (old (getD (b .«goal_first») i 0) (getD (b .«goal_len») i 0) (bounds i (omega arith)))
+      ap (λ (x : ℕ). goal-made (clause-viewed next) (getD (b .«goal_flags») i 0) (getD (b .«goal_first») i 0) x)
+      (getD-set-below (b .«goal_len») g i (getD (b .«goal_len») g 0 + 1) 0 l)
+      ∙ ap (λ (cs : List Clause). with-clauses (goal-viewed b i) cs)
+      (old (getD (b .«goal_first») i 0) (getD (b .«goal_len») i 0) (goal-within b (suc g) i tiles (omega arith)))
 
   goal-grown : goal-viewed next g ≡ with-clauses (goal-viewed b g) (goal-viewed b g .clauses ++ (bare-clause variant flags ∷ []))
   goal-grown =
@@ -100,20 +99,22 @@ module _ (b : Book) (g variant flags literals named : ℕ) (h : Held b literals 
       (span-snoc (clause-viewed next) first len
       ∙ ap (λ (i : ℕ). span (clause-viewed next) first len ++ (clause-viewed next i ∷ [])) ends
       ∙ ap (λ (x : Clause). span (clause-viewed next) first len ++ (x ∷ [])) clause-new
-      ∙ ap (λ (cs : List Clause). cs ++ (bare-clause variant flags ∷ [])) (old first len (bounds g (omega arith))))
+      ∙ ap (λ (cs : List Clause). cs ++ (bare-clause variant flags ∷ [])) (old first len (goal-within b (suc g) g tiles (omega arith))))
 
   pub clause-view : view next ≡ add-clause (bare-clause variant flags) (view b)
   clause-view =
       let z : 0 + g ≡ g = omega arith in
       let before : view b ≡ span (goal-viewed b) 0 g ++ (goal-viewed b g ∷ []) =
-      ap (span (goal-viewed b) 0) last ∙ span-snoc (goal-viewed b) 0 g ∙ ap (λ (i : ℕ). span (goal-viewed b) 0 g ++ (goal-viewed b i ∷ [])) z in
+      ap (span (goal-viewed b) 0) last ∙ span-snoc (goal-viewed b) 0 g
+      ∙ ap (λ (i : ℕ). span (goal-viewed b) 0 g ++ (goal-viewed b i ∷ [])) z in
       ap (span (goal-viewed next) 0) last
       ∙ span-snoc (goal-viewed next) 0 g
       ∙ ap (λ (i : ℕ). span (goal-viewed next) 0 g ++ (goal-viewed next i ∷ [])) z
       ∙ ap (λ (x : Goal). span (goal-viewed next) 0 g ++ (x ∷ [])) goal-grown
       ∙ ap (λ (gs : said.Book). gs ++ (with-clauses (goal-viewed b g) (goal-viewed b g .clauses ++ (bare-clause variant flags ∷ [])) ∷ []))
       (span-ext (goal-viewed next) (goal-viewed b) 0 g (λ i x y. goal-before i (omega arith)))
-      ∙ sym (ap (add-clause (bare-clause variant flags)) before ∙ add-clause-last (bare-clause variant flags) (span (goal-viewed b) 0 g) (goal-viewed b g))
+      ∙ sym (ap (add-clause (bare-clause variant flags)) before ∙ add-clause-last (bare-clause variant flags) (span (goal-viewed b) 0 g)
+      (goal-viewed b g))
 
   clause-full : Full next
   clause-full =

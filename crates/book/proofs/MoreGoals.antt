@@ -37,7 +37,8 @@ bare-goal flags = record { coinductive = bit0 flags; floundered = bit1 flags; cl
 module _ (b : Book) (flags literals named : ℕ) (h : Held b literals named) (room : b .goals < 64) (known : flags ≤ 3) where
   goal-before : (i : ℕ) → i < b .goals → goal-viewed (with-goal b flags) i ≡ goal-viewed b i
   goal-before i l =
-      ap (λ (x : ℕ). goal-made (clause-viewed b) x (getD (set (b .«goal_first») (b .goals) (b .clauses)) i 0) (getD (set (b .«goal_len») (b .goals) 0) i 0))
+      ap (λ (x : ℕ). goal-made (clause-viewed b) x (getD (set (b .«goal_first») (b .goals) (b .clauses)) i 0)
+      (getD (set (b .«goal_len») (b .goals) 0) i 0))
       (getD-set-below (b .«goal_flags») (b .goals) i flags 0 l)
       ∙ ap (λ (x : ℕ). goal-made (clause-viewed b) (getD (b .«goal_flags») i 0) x (getD (set (b .«goal_len») (b .goals) 0) i 0))
       (getD-set-below (b .«goal_first») (b .goals) i (b .clauses) 0 l)
@@ -47,7 +48,8 @@ module _ (b : Book) (flags literals named : ℕ) (h : Held b literals named) (ro
   goal-new : goal-viewed (with-goal b flags) (b .goals) ≡ bare-goal flags
   goal-new =
       let s = h .full in
-      ap (λ (x : ℕ). goal-made (clause-viewed b) x (getD (set (b .«goal_first») (b .goals) (b .clauses)) (b .goals) 0) (getD (set (b .«goal_len») (b .goals) 0) (b .goals) 0))
+      ap (λ (x : ℕ). goal-made (clause-viewed b) x (getD (set (b .«goal_first») (b .goals) (b .clauses)) (b .goals) 0)
+      (getD (set (b .«goal_len») (b .goals) 0) (b .goals) 0))
       (getD-set-same (b .«goal_flags») (b .goals) flags 0 (omega (arith, s .goal-flags)))
       ∙ ap (λ (x : ℕ). goal-made (clause-viewed b) flags (getD (set (b .«goal_first») (b .goals) (b .clauses)) (b .goals) 0) x)
       (getD-set-same (b .«goal_len») (b .goals) 0 0 (omega (arith, s .goal-len)))
@@ -59,7 +61,8 @@ module _ (b : Book) (flags literals named : ℕ) (h : Held b literals named) (ro
       ∙ span-snoc (goal-viewed (with-goal b flags)) 0 (b .goals)
       ∙ ap (λ (i : ℕ). span (goal-viewed (with-goal b flags)) 0 (b .goals) ++ (goal-viewed (with-goal b flags) i ∷ [])) z
       ∙ ap (λ (x : Goal). span (goal-viewed (with-goal b flags)) 0 (b .goals) ++ (x ∷ [])) goal-new
-      ∙ ap (λ (l : said.Book). l ++ (bare-goal flags ∷ [])) (span-ext (goal-viewed (with-goal b flags)) (goal-viewed b) 0 (b .goals) (λ i x y. goal-before i (omega arith)))
+      ∙ ap (λ (l : said.Book). l ++ (bare-goal flags ∷ []))
+      (span-ext (goal-viewed (with-goal b flags)) (goal-viewed b) 0 (b .goals) (λ i x y. goal-before i (omega arith)))
 
   goal-full : Full (with-goal b flags)
   goal-full =
@@ -80,11 +83,16 @@ module _ (b : Book) (flags literals named : ℕ) (h : Held b literals named) (ro
   goal-tiles =
       let s = h .full in
       let z : b .goals ≡ 0 + b .goals = omega arith in
-      subst (λ (n : ℕ). Tiles (set (b .«goal_first») (b .goals) (b .clauses)) (set (b .«goal_len») (b .goals) 0) 0 n 0 (b .clauses)) (sym (add-one (b .goals)))
-      (tiles-goal (b .«goal_first») (b .«goal_len») (set (b .«goal_first») (b .goals) (b .clauses)) (set (b .«goal_len») (b .goals) 0) (b .goals) 0 0 (b .clauses) (h .tiles)
-      (λ i l. getD-set-below (b .«goal_first») (b .goals) i (b .clauses) 0 (omega arith)) (λ i l. getD-set-below (b .«goal_len») (b .goals) i 0 0 (omega arith))
-      (subst (λ (i : ℕ). getD (set (b .«goal_first») (b .goals) (b .clauses)) i 0 ≡ b .clauses) z (getD-set-same (b .«goal_first») (b .goals) (b .clauses) 0 (omega (arith, s .goal-first))))
-      (subst (λ (i : ℕ). getD (set (b .«goal_len») (b .goals) 0) i 0 ≡ 0) z (getD-set-same (b .«goal_len») (b .goals) 0 0 (omega (arith, s .goal-len)))))
+      subst (λ (n : ℕ). Tiles (set (b .«goal_first») (b .goals) (b .clauses)) (set (b .«goal_len») (b .goals) 0) 0 n 0 (b .clauses))
+      (sym (add-one (b .goals)))
+      (tiles-goal (b .«goal_first») (b .«goal_len») (set (b .«goal_first») (b .goals) (b .clauses)) (set (b .«goal_len») (b .goals) 0)
+      (b .goals) 0 0 (b .clauses) (h .tiles)
+      (λ i l. getD-set-below (b .«goal_first») (b .goals) i (b .clauses) 0 (omega arith))
+      (λ i l. getD-set-below (b .«goal_len») (b .goals) i 0 0 (omega arith))
+      (subst (λ (i : ℕ). getD (set (b .«goal_first») (b .goals) (b .clauses)) i 0 ≡ b .clauses) z
+      (getD-set-same (b .«goal_first») (b .goals) (b .clauses) 0 (omega (arith, s .goal-first))))
+      (subst (λ (i : ℕ). getD (set (b .«goal_len») (b .goals) 0) i 0 ≡ 0) z
+      (getD-set-same (b .«goal_len») (b .goals) 0 0 (omega (arith, s .goal-len)))))
 
   pub goal-held : Held (with-goal b flags) literals named
   goal-held = record {

@@ -15,11 +15,11 @@ use Rattle.laws.proofs.Lists.{getD-set-below, every-set}
 use Rattle.laws.proofs.Spans.{span-snoc, span-ext}
 use Rattle.laws.specs.Spans.{span}
 use Rattle.book.specs.declared.Book.{Book}
-use Rattle.book.specs.View.{signed, literal-viewed, clause-made, clause-viewed, view, Tiles, Full}
+use Rattle.book.specs.View.{signed, kept, literal-viewed, clause-made, clause-viewed, view, Tiles, Full}
 use Rattle.book.specs.Faults.{largest}
 use Rattle.book.proofs.Names.{names-literal, names-more}
 use Rattle.book.proofs.Tilings.{tiles-add}
-use Rattle.book.proofs.Held.{Held, held-count}
+use Rattle.book.proofs.Held.{Held, clauses-counted}
 
 abbrev pub with-literal : Book → (c j kind goal want : ℕ) → Book
 with-literal b c j kind goal want = record {
@@ -36,20 +36,17 @@ with-literal b c j kind goal want = record {
   «literal_want» = set (b .«literal_want») (8 * c + j) want;
 }
 
--- the literal that a kind and two numbers say
-abbrev pub literal-of : (kind goal want : ℕ) → said.Literal
-literal-of kind goal want = signed (bit1 kind) goal want (bit0 kind)
-
 pub goal-of-signed : (t : Bool) (goal want : ℕ) (o : Bool) → goal-of (signed t goal want o) ≡ goal
 goal-of-signed true goal want o = refl
 goal-of-signed false goal want o = refl
 
-module _ (b : Book) (c j kind goal want named : ℕ) (h : Held b j named) (last : b .clauses ≡ suc c) (room : j < 8) (known : kind ≤ 3) (fits : want < 65536) where
+module _ (b : Book) (c j kind goal want named : ℕ) (h : Held b j named) (last : b .clauses ≡ suc c) (room : j < 8) (known : kind ≤ 3)
+    (fits : want < 65536) where
   abbrev next : Book
   next = with-literal b c j kind goal want
 
   abbrev added : said.Literal
-  added = literal-of kind goal want
+  added = kept kind goal want
 
   has : getD (b .«clause_len») c 0 ≡ j
   has = h .last c last
@@ -60,19 +57,22 @@ module _ (b : Book) (c j kind goal want named : ℕ) (h : Held b j named) (last 
   literal-before : (i : ℕ) → i < 8 * c + j → literal-viewed next i ≡ literal-viewed b i
   literal-before i l =
       let p = 8 * c + j in
-      ap (λ (k : ℕ). literal-of k (getD (set (b .«literal_goal») p goal) i 0) (getD (set (b .«literal_want») p want) i 0)) (getD-set-below (b .«literal_kind») p i kind 0 l)
-      ∙ ap (λ (k : ℕ). literal-of (getD (b .«literal_kind») i 0) k (getD (set (b .«literal_want») p want) i 0)) (getD-set-below (b .«literal_goal») p i goal 0 l)
-      ∙ ap (λ (k : ℕ). literal-of (getD (b .«literal_kind») i 0) (getD (b .«literal_goal») i 0) k) (getD-set-below (b .«literal_want») p i want 0 l)
+      ap (λ (k : ℕ). kept k (getD (set (b .«literal_goal») p goal) i 0) (getD (set (b .«literal_want») p want) i 0))
+      (getD-set-below (b .«literal_kind») p i kind 0 l)
+      ∙ ap (λ (k : ℕ). kept (getD (b .«literal_kind») i 0) k (getD (set (b .«literal_want») p want) i 0))
+      (getD-set-below (b .«literal_goal») p i goal 0 l)
+      ∙ ap (λ (k : ℕ). kept (getD (b .«literal_kind») i 0) (getD (b .«literal_goal») i 0) k)
+      (getD-set-below (b .«literal_want») p i want 0 l)
 
   literal-new : literal-viewed next (8 * c + j) ≡ added
   literal-new =
       let s = h .full in
       let p = 8 * c + j in
-      ap (λ (k : ℕ). literal-of k (getD (set (b .«literal_goal») p goal) p 0) (getD (set (b .«literal_want») p want) p 0))
+      ap (λ (k : ℕ). kept k (getD (set (b .«literal_goal») p goal) p 0) (getD (set (b .«literal_want») p want) p 0))
       (getD-set-same (b .«literal_kind») p kind 0 (omega (arith, s .literal-kind, h .few-clauses)))
-      ∙ ap (λ (k : ℕ). literal-of kind k (getD (set (b .«literal_want») p want) p 0))
+      ∙ ap (λ (k : ℕ). kept kind k (getD (set (b .«literal_want») p want) p 0))
       (getD-set-same (b .«literal_goal») p goal 0 (omega (arith, s .literal-goal, h .few-clauses)))
-      ∙ ap (λ (k : ℕ). literal-of kind goal k)
+      ∙ ap (λ (k : ℕ). kept kind goal k)
       (getD-set-same (b .«literal_want») p want 0 (omega (arith, s .literal-want, h .few-clauses)))
 
   old : (s n : ℕ) → s + n ≤ 8 * c + j → span (literal-viewed next) s n ≡ span (literal-viewed b) s n
@@ -80,12 +80,15 @@ module _ (b : Book) (c j kind goal want named : ℕ) (h : Held b j named) (last 
 
   clause-before : (i : ℕ) → i < c → clause-viewed b i ≡ clause-viewed next i
   clause-before i l =
-      sym (ap (λ (x : ℕ). clause-made (literal-viewed next) i (getD (b .«clause_variant») i 0) (getD (b .«clause_flags») i 0) x) (getD-set-below (b .«clause_len») c i (j + 1) 0 l)
-      ∙ ap (λ (ls : List said.Literal). with-literals (clause-viewed b i) ls) (old (8 * i) (getD (b .«clause_len») i 0) (omega (arith, h .few-literals i))))
+      sym (ap (λ (x : ℕ). clause-made (literal-viewed next) i (getD (b .«clause_variant») i 0) (getD (b .«clause_flags») i 0) x)
+      (getD-set-below (b .«clause_len») c i (j + 1) 0 l)
+      ∙ ap (λ (ls : List said.Literal). with-literals (clause-viewed b i) ls)
+      (old (8 * i) (getD (b .«clause_len») i 0) (omega (arith, h .few-literals i))))
 
   clause-more : with-literals (clause-viewed b c) (clause-viewed b c .literals ++ (added ∷ [])) ≡ clause-viewed next c
   clause-more =
-      sym (ap (λ (x : ℕ). clause-made (literal-viewed next) c (getD (b .«clause_variant») c 0) (getD (b .«clause_flags») c 0) x) (has-now ∙ add-one j)
+      sym (ap (λ (x : ℕ). clause-made (literal-viewed next) c (getD (b .«clause_variant») c 0) (getD (b .«clause_flags») c 0) x)
+      (has-now ∙ add-one j)
       ∙ ap (λ (ls : List said.Literal). with-literals (clause-viewed b c) ls)
       (span-snoc (literal-viewed next) (8 * c) j
       ∙ ap (λ (l : said.Literal). span (literal-viewed next) (8 * c) j ++ (l ∷ [])) literal-new
@@ -94,7 +97,8 @@ module _ (b : Book) (c j kind goal want named : ℕ) (h : Held b j named) (last 
 
   pub literal-view : view next ≡ add-literal added (view b)
   literal-view =
-      sym (tiles-add (clause-viewed b) (clause-viewed next) added c clause-more clause-before (b .«goal_flags») (b .«goal_first») (b .«goal_len») (b .goals) 0 0
+      sym (tiles-add (clause-viewed b) (clause-viewed next) added c clause-more clause-before (b .«goal_flags») (b .«goal_first»)
+      (b .«goal_len») (b .goals) 0 0
       (subst (Tiles (b .«goal_first») (b .«goal_len») 0 (b .goals) 0) last (h .tiles)) (omega arith))
 
   literal-full : Full next
@@ -114,7 +118,7 @@ module _ (b : Book) (c j kind goal want named : ℕ) (h : Held b j named) (last 
 
   literal-names : (n : ℕ) → goals-name n (view next) ≡ leb (largest named (goal + 1)) n
   literal-names n =
-      let some : 0 < clause-count (view b) = omega (arith, held-count b j named h) in
+      let some : 0 < clause-count (view b) = omega (arith, clauses-counted b (h .tiles)) in
       ap (goals-name n) literal-view
       ∙ names-literal n added (view b) some
       ∙ ap (λ (t : Bool). and-then t (ltb (goal-of added) n)) (h .naming n)

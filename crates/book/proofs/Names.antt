@@ -7,11 +7,13 @@ use mathlib.Core.List.{List, [], _∷_, _++_}
 use lib.ListN.{length}
 use lib.Dec.{ltb, leb, eqb}
 use borrow.Author.Tests.{le-leb, lt-leb, ltb-true, ltb-false, leb-true, leb-false, eqb-true}
-use Rattle.definitions.specs.Book.{Literal, Clause, Goal, Book, clause-count, add-clause, add-to-last, add-literal, with-clauses, goal-of, literals-name, clauses-name, goals-name}
+use Rattle.definitions.specs.Book.{Literal, Clause, Goal, Book, clause-count, add-clause, add-to-last, add-literal, with-clauses, goal-of}
+use Rattle.definitions.specs.Book.{literals-name, clauses-name, goals-name}
 use Rattle.laws.proofs.Bools.{and-then, and-then-true, and-then-assoc, and-then-swap, not-zero}
 use Rattle.book.specs.Faults.{largest, larger-by}
 
-literals-append : (n : ℕ) (ls : List Literal) (l : Literal) → literals-name n (ls ++ (l ∷ [])) ≡ and-then (literals-name n ls) (ltb (goal-of l) n)
+literals-append : (n : ℕ) (ls : List Literal) (l : Literal)
+    → literals-name n (ls ++ (l ∷ [])) ≡ and-then (literals-name n ls) (ltb (goal-of l) n)
 literals-append n [] l = and-then-true (ltb (goal-of l) n)
 literals-append n (x ∷ ls) l =
     ap (and-then (ltb (goal-of x) n)) (literals-append n ls l)

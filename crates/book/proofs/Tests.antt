@@ -103,7 +103,8 @@ module _ (bs : List ℕ) (at : ℕ) (n : Counts) where
     pub fault-unknown : w ≡ 255 → 2 ≡ next-fault (drop at bs) n
     fault-unknown u =
         let s : fault (whole-tests unknown (drop (suc at) bs) n) ≡ 2 =
-        ap (λ (t : Bool). elim t [ true ↦ 1 | false ↦ fault (command-tests unknown (drop (suc at) bs) n) ]) (le-ltb (length (drop (suc at) bs)) 0 (omega arith)) in
+        ap (λ (t : Bool). elim t [ true ↦ 1 | false ↦ fault (command-tests unknown (drop (suc at) bs) n) ])
+        (le-ltb (length (drop (suc at) bs)) 0 (omega arith)) in
         sym (here-by unknown (marked-unknown (command b) (sym ew ∙ u)) ∙ s)
 
     pub fault-short : (w ≡ 255 → ⊥) → length bs - (at + 1) < w → 1 ≡ next-fault (drop at bs) n
@@ -111,7 +112,8 @@ module _ (bs : List ℕ) (at : ℕ) (n : Counts) where
         let d : length (drop (suc at) bs) ≡ length bs - suc at = length-drop (suc at) bs in
         let m : marked (command b) ≡ width (command b) = marked-known (command b) (λ x. k (ew ∙ x)) in
         let s : fault (whole-tests (command b) (drop (suc at) bs) n) ≡ 1 =
-        ap (λ (t : Bool). elim t [ true ↦ 1 | false ↦ fault (command-tests (command b) (drop (suc at) bs) n) ]) (lt-ltb (length (drop (suc at) bs)) (width (command b)) (omega arith)) in
+        ap (λ (t : Bool). elim t [ true ↦ 1 | false ↦ fault (command-tests (command b) (drop (suc at) bs) n) ])
+        (lt-ltb (length (drop (suc at) bs)) (width (command b)) (omega arith)) in
         sym (here-by (command b) refl ∙ s)
 
     whole : (c : Command) → command b ≡ c → marked c ≡ width c → w ≤ length bs - (at + 1)
@@ -120,7 +122,8 @@ module _ (bs : List ℕ) (at : ℕ) (n : Counts) where
         let d : length (drop (suc at) bs) ≡ length bs - suc at = length-drop (suc at) bs in
         let v : w ≡ marked c = ew ∙ ap marked e in
         let s : fault (whole-tests c (drop (suc at) bs) n) ≡ fault (command-tests c (drop (suc at) bs) n) =
-        ap (λ (t : Bool). elim t [ true ↦ 1 | false ↦ fault (command-tests c (drop (suc at) bs) n) ]) (le-ltb (length (drop (suc at) bs)) (width c) (omega arith)) in
+        ap (λ (t : Bool). elim t [ true ↦ 1 | false ↦ fault (command-tests c (drop (suc at) bs) n) ])
+        (le-ltb (length (drop (suc at) bs)) (width c) (omega arith)) in
         here-by c e ∙ s
 
     -- a command's flags are the last of its operands
@@ -141,7 +144,8 @@ module _ (bs : List ℕ) (at : ℕ) (n : Counts) where
       pub fault-clause : b ≡ 0x43 → fault (clause-tests flags (n .goals) (n .clauses)) ≡ next-fault (drop at bs) n
       fault-clause e =
           let v : w ≡ 3 = ew ∙ ap (λ (x : ℕ). marked (command x)) e in
-          ap (λ (f : ℕ). fault (clause-tests f (n .goals) (n .clauses))) (flags-at 2 (omega arith)) ∙ sym (whole clause (ap command e) refl l)
+          ap (λ (f : ℕ). fault (clause-tests f (n .goals) (n .clauses))) (flags-at 2 (omega arith))
+          ∙ sym (whole clause (ap command e) refl l)
 
       pub fault-end : b ≡ 0x45 → fault (end-tests (length bs - (at + 1)) (n .goals) (n .named)) ≡ next-fault (drop at bs) n
       fault-end e =
@@ -149,7 +153,8 @@ module _ (bs : List ℕ) (at : ℕ) (n : Counts) where
           let s : length bs - (at + 1) ≡ length (drop (suc at) bs) = omega arith in
           ap (λ (x : ℕ). fault (end-tests x (n .goals) (n .named))) s ∙ sym (whole end (ap command e) refl l)
 
-      literal-by : (command b ≡ positive) ⊎ (command b ≡ negative) → fault (literal-tests flags (n .clauses) (n .literals)) ≡ next-fault (drop at bs) n
+      literal-by : (command b ≡ positive) ⊎ (command b ≡ negative)
+          → fault (literal-tests flags (n .clauses) (n .literals)) ≡ next-fault (drop at bs) n
       literal-by (inl e) =
           let v : w ≡ 5 = ew ∙ ap marked e in
           ap (λ (f : ℕ). fault (literal-tests f (n .clauses) (n .literals))) (flags-at 4 (omega arith)) ∙ sym (whole positive e refl l)

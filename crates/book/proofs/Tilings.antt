@@ -7,7 +7,8 @@ use mathlib.Core.List.{List, [], _∷_, _++_}
 use lib.ListN.{length, getD}
 use lib.Dec.{eqb}
 use borrow.Author.Tests.{eqb-true, eqb-false}
-use Rattle.definitions.specs.Book.{Literal, Clause, Goal, Book, clause-count, add-to-last, add-literal, with-clauses, with-literals, last-literals, literals-so-far}
+use Rattle.definitions.specs.Book.{Literal, Clause, Goal, Book, clause-count, add-to-last, add-literal, with-clauses, with-literals}
+use Rattle.definitions.specs.Book.{last-literals, literals-so-far}
 use Rattle.laws.proofs.Spans.{length-span, span-ext}
 use Rattle.laws.specs.Spans.{span}
 use Rattle.book.specs.View.{goal-in, Tiles}
@@ -32,14 +33,16 @@ module _ (f : ℕ → Clause) (flags first len : List ℕ) where
   tiles-count zero g at end t = omega arith
   tiles-count (suc n) g at end t =
       let a : length (span f (getD first g 0) (getD len g 0)) ≡ getD len g 0 = length-span f (getD first g 0) (getD len g 0) in
-      let r : (at + getD len g 0) + clause-count (span (goal-in f flags first len) (suc g) n) ≡ end = tiles-count n (suc g) (at + getD len g 0) end (t .1) in
+      let r : (at + getD len g 0) + clause-count (span (goal-in f flags first len) (suc g) n) ≡ end =
+      tiles-count n (suc g) (at + getD len g 0) end (t .1) in
       omega arith
 
   -- each goal's clauses stand before the end
   pub tiles-within : (n g at end i : ℕ) → Tiles first len g n at end → i < n → getD first (g + i) 0 + getD len (g + i) 0 ≤ end
   tiles-within zero g at end i t h = absurd (omega arith)
   tiles-within (suc n) g at end zero t h =
-      let r : (at + getD len g 0) + clause-count (span (goal-in f flags first len) (suc g) n) ≡ end = tiles-count n (suc g) (at + getD len g 0) end (t .1) in
+      let r : (at + getD len g 0) + clause-count (span (goal-in f flags first len) (suc g) n) ≡ end =
+      tiles-count n (suc g) (at + getD len g 0) end (t .1) in
       let e : g ≡ g + 0 = omega arith in
       let p : getD first g 0 ≡ at = t .0 in
       let q : getD first g 0 + getD len g 0 ≤ end = omega arith in
@@ -66,15 +69,20 @@ module _ (f : ℕ → Clause) (flags first len : List ℕ) where
   literals-by : (n g at e : ℕ) (t : Bool) → Tiles first len g (suc n) at (suc e) → at ≤ e
       → eqb (clause-count (span (goal-in f flags first len) (suc g) n)) 0 ≡ t
       → (at + getD len g 0 ≤ e → literals-so-far (span (goal-in f flags first len) (suc g) n) ≡ length (f e .literals))
-      → elim t [ true ↦ last-literals (span f (getD first g 0) (getD len g 0)) | false ↦ literals-so-far (span (goal-in f flags first len) (suc g) n) ]
+      → elim t [
+        | true ↦ last-literals (span f (getD first g 0) (getD len g 0))
+        | false ↦ literals-so-far (span (goal-in f flags first len) (suc g) n)
+      ]
       ≡ length (f e .literals)
   literals-by n g at e true t h q ih =
-      let r : (at + getD len g 0) + clause-count (span (goal-in f flags first len) (suc g) n) ≡ suc e = tiles-count n (suc g) (at + getD len g 0) (suc e) (t .1) in
+      let r : (at + getD len g 0) + clause-count (span (goal-in f flags first len) (suc g) n) ≡ suc e =
+      tiles-count n (suc g) (at + getD len g 0) (suc e) (t .1) in
       let z : clause-count (span (goal-in f flags first len) (suc g) n) ≡ 0 = eqb-true _ 0 q in
       let p : getD first g 0 ≡ at = t .0 in
       last-literals-to f (getD first g 0) (getD len g 0) e (omega arith) (omega arith)
   literals-by n g at e false t h q ih =
-      let r : (at + getD len g 0) + clause-count (span (goal-in f flags first len) (suc g) n) ≡ suc e = tiles-count n (suc g) (at + getD len g 0) (suc e) (t .1) in
+      let r : (at + getD len g 0) + clause-count (span (goal-in f flags first len) (suc g) n) ≡ suc e =
+      tiles-count n (suc g) (at + getD len g 0) (suc e) (t .1) in
       ih (omega (arith, eqb-false (clause-count (span (goal-in f flags first len) (suc g) n)) 0 q))
 
   pub tiles-literals : (n g at e : ℕ) → Tiles first len g n at (suc e) → at ≤ e
@@ -105,7 +113,8 @@ module _ (f h : ℕ → Clause) (l : Literal) (e : ℕ) (more : with-literals (f
         ap (λ (cs : List Clause). with-clauses (goal-in f flags first len g) cs)
         (span-ext f h (getD first g 0) (getD len g 0) (λ i x y. same i (omega arith)))
 
-    no-clauses : (n g : ℕ) → clause-count (span (goal-in f flags first len) g n) ≡ 0 → span (goal-in f flags first len) g n ≡ span (goal-in h flags first len) g n
+    no-clauses : (n g : ℕ) → clause-count (span (goal-in f flags first len) g n) ≡ 0
+        → span (goal-in f flags first len) g n ≡ span (goal-in h flags first len) g n
     no-clauses zero g q = refl
     no-clauses (suc n) g q =
         let a : length (span f (getD first g 0) (getD len g 0)) ≡ getD len g 0 = length-span f (getD first g 0) (getD len g 0) in
@@ -117,18 +126,21 @@ module _ (f h : ℕ → Clause) (l : Literal) (e : ℕ) (more : with-literals (f
         → eqb (clause-count (span (goal-in f flags first len) (suc g) n)) 0 ≡ t
         → (at + getD len g 0 ≤ e → add-literal l (span (goal-in f flags first len) (suc g) n) ≡ span (goal-in h flags first len) (suc g) n)
         → elim t [
-          | true ↦ with-clauses (goal-in f flags first len g) (add-to-last l (span f (getD first g 0) (getD len g 0))) ∷ span (goal-in f flags first len) (suc g) n
+          | true ↦ with-clauses (goal-in f flags first len g) (add-to-last l (span f (getD first g 0) (getD len g 0))) ∷ span
+              (goal-in f flags first len) (suc g) n
           | false ↦ goal-in f flags first len g ∷ add-literal l (span (goal-in f flags first len) (suc g) n)
         ] ≡ span (goal-in h flags first len) g (suc n)
     add-by n g at true t p q ih =
-        let r : (at + getD len g 0) + clause-count (span (goal-in f flags first len) (suc g) n) ≡ suc e = tiles-count f flags first len n (suc g) (at + getD len g 0) (suc e) (t .1) in
+        let r : (at + getD len g 0) + clause-count (span (goal-in f flags first len) (suc g) n) ≡ suc e =
+        tiles-count f flags first len n (suc g) (at + getD len g 0) (suc e) (t .1) in
         let z : clause-count (span (goal-in f flags first len) (suc g) n) ≡ 0 = eqb-true _ 0 q in
         let s : getD first g 0 ≡ at = t .0 in
         ap (λ (cs : List Clause). with-clauses (goal-in f flags first len g) cs ∷ span (goal-in f flags first len) (suc g) n)
         (last-to (getD first g 0) (getD len g 0) (omega arith) (omega arith))
         ∙ ap (λ (gs : Book). goal-in h flags first len g ∷ gs) (no-clauses n (suc g) z)
     add-by n g at false t p q ih =
-        let r : (at + getD len g 0) + clause-count (span (goal-in f flags first len) (suc g) n) ≡ suc e = tiles-count f flags first len n (suc g) (at + getD len g 0) (suc e) (t .1) in
+        let r : (at + getD len g 0) + clause-count (span (goal-in f flags first len) (suc g) n) ≡ suc e =
+        tiles-count f flags first len n (suc g) (at + getD len g 0) (suc e) (t .1) in
         let s : getD first g 0 ≡ at = t .0 in
         let b : at + getD len g 0 ≤ e = omega (arith, eqb-false (clause-count (span (goal-in f flags first len) (suc g) n)) 0 q) in
         ap (λ (x : Goal). x ∷ add-literal l (span (goal-in f flags first len) (suc g) n)) (goal-same g (omega arith))

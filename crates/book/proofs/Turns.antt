@@ -10,14 +10,17 @@ use lib.Dec.{ltb, eqb}
 use borrow.Author.Tests.{ltb-false}
 use Rattle.definitions.specs.Refusal.{Refusable, refused, accepted, Test, _refuses_, unless}
 use Rattle.definitions.specs.Book as said
-use Rattle.definitions.specs.Book.{Command, goal, clause, positive, negative, end, unknown, command, width, byte, u16, bit0, Positive, Negative, add-clause, add-literal, clause-count, literals-so-far, apply-command, whole-command, is-end, read-from}
+use Rattle.definitions.specs.Book.{Command, goal, clause, positive, negative, end, unknown, command, width, byte, u16, bit0, Positive}
+use Rattle.definitions.specs.Book.{Negative, add-clause, add-literal, clause-count, literals-so-far, apply-command, whole-command, is-end}
+use Rattle.definitions.specs.Book.{read-from}
 use Rattle.definitions.proofs.Book.{literals-none}
 use Rattle.laws.proofs.Spans.{length-span}
 use Rattle.book.specs.declared.Book.{Book}
-use Rattle.book.specs.View.{clause-viewed, literal-viewed, goal-viewed, view, Tiles}
-use Rattle.book.specs.Faults.{fault, Counts, counts, command-tests, whole-tests, next-fault, end-tests, literal-tests, goal-tests, clause-tests}
+use Rattle.book.specs.View.{clause-viewed, literal-viewed, view, Tiles}
+use Rattle.book.specs.Faults.{fault, Counts, counts, command-tests, whole-tests, next-fault, end-tests, literal-tests, goal-tests}
+use Rattle.book.specs.Faults.{clause-tests}
 use Rattle.book.proofs.Tilings.{tiles-literals}
-use Rattle.book.proofs.Held.{Held, held-count}
+use Rattle.book.proofs.Held.{Held, goals-counted, clauses-counted}
 use Rattle.book.proofs.MoreGoals.{bare-goal}
 use Rattle.book.proofs.MoreClauses.{bare-clause}
 
@@ -79,11 +82,8 @@ module _ (b : Book) (literals named : ℕ) (h : Held b literals named) where
   abbrev pub now-counts : Counts
   now-counts = counts (b .goals) (b .clauses) literals named
 
-  goals-counted : length (view b) ≡ b .goals
-  goals-counted = length-span (goal-viewed b) 0 (b .goals)
-
   literals-counted-by : (n : ℕ) → b .clauses ≡ n → literals-so-far (view b) ≡ literals
-  literals-counted-by zero e = literals-none (view b) (held-count b literals named h ∙ e) ∙ sym (h .none e)
+  literals-counted-by zero e = literals-none (view b) (clauses-counted b (h .tiles) ∙ e) ∙ sym (h .none e)
   literals-counted-by (suc c) e =
       tiles-literals (clause-viewed b) (b .«goal_flags») (b .«goal_first») (b .«goal_len») (b .goals) 0 0 c
       (subst (Tiles (b .«goal_first») (b .«goal_len») 0 (b .goals) 0) e (h .tiles)) (omega arith)
@@ -93,26 +93,31 @@ module _ (b : Book) (literals named : ℕ) (h : Held b literals named) where
   literals-counted = literals-counted-by (b .clauses) refl
 
   literal-counted : (flags : ℕ) (next : said.Book)
-      → unless (literal-tests flags (clause-count (view b)) (literals-so-far (view b))) next ≡ unless (literal-tests flags (b .clauses) literals) next
+      → unless (literal-tests flags (clause-count (view b)) (literals-so-far (view b))) next
+      ≡ unless (literal-tests flags (b .clauses) literals) next
   literal-counted flags next =
-      ap (λ (n : ℕ). unless (literal-tests flags n (literals-so-far (view b))) next) (held-count b literals named h)
+      ap (λ (n : ℕ). unless (literal-tests flags n (literals-so-far (view b))) next) (clauses-counted b (h .tiles))
       ∙ ap (λ (n : ℕ). unless (literal-tests flags (b .clauses) n) next) literals-counted
 
   -- the definition's tests are those of the counts
-  apply-tests : (c : Command) (after : List ℕ) → apply-command c after (view b) ≡ unless (command-tests c after now-counts) (done c after (view b))
-  apply-tests goal after = ap (λ (n : ℕ). unless (goal-tests (byte after 0) n) (done goal after (view b))) goals-counted
+  apply-tests : (c : Command) (after : List ℕ)
+      → apply-command c after (view b) ≡ unless (command-tests c after now-counts) (done c after (view b))
+  apply-tests goal after = ap (λ (n : ℕ). unless (goal-tests (byte after 0) n) (done goal after (view b))) (goals-counted b)
   apply-tests clause after =
-      ap (λ (n : ℕ). unless (clause-tests (byte after 2) n (clause-count (view b))) (done clause after (view b))) goals-counted
-      ∙ ap (λ (n : ℕ). unless (clause-tests (byte after 2) (b .goals) n) (done clause after (view b))) (held-count b literals named h)
+      ap (λ (n : ℕ). unless (clause-tests (byte after 2) n (clause-count (view b))) (done clause after (view b))) (goals-counted b)
+      ∙ ap (λ (n : ℕ). unless (clause-tests (byte after 2) (b .goals) n) (done clause after (view b))) (clauses-counted b (h .tiles))
   apply-tests positive after = literal-counted (byte after 4) (done positive after (view b))
   apply-tests negative after = literal-counted (byte after 2) (done negative after (view b))
   apply-tests end after =
-      ap (λ (t : Bool). unless (ltb 0 (length after) refuses 7 ∷ eqb (length (view b)) 0 refuses 8 ∷ not t refuses 6 ∷ []) (view b)) (h .naming (length (view b)))
-      ∙ ap (λ (n : ℕ). unless (end-tests (length after) n named) (view b)) goals-counted
+      ap (λ (t : Bool). unless (ltb 0 (length after) refuses 7 ∷ eqb (length (view b)) 0 refuses 8 ∷ not t refuses 6 ∷ []) (view b))
+      (h .naming (length (view b)))
+      ∙ ap (λ (n : ℕ). unless (end-tests (length after) n named) (view b)) (goals-counted b)
   apply-tests unknown after = refl
 
-  whole-is : (c : Command) (after : List ℕ) → whole-command c after (view b) ≡ unless (whole-tests c after now-counts) (done c after (view b))
-  whole-is c after = ap (λ (r : Refusable said.Book). elim (ltb (length after) (width c)) [ true ↦ refused 1 | false ↦ r ]) (apply-tests c after)
+  whole-is : (c : Command) (after : List ℕ)
+      → whole-command c after (view b) ≡ unless (whole-tests c after now-counts) (done c after (view b))
+  whole-is c after =
+      ap (λ (r : Refusable said.Book). elim (ltb (length after) (width c)) [ true ↦ refused 1 | false ↦ r ]) (apply-tests c after)
 
   -- what reading does with what a command gives
   abbrev goes-on : Command → List ℕ → Refusable said.Book → Refusable said.Book
@@ -151,7 +156,9 @@ module _ (b : Book) (literals named : ℕ) (h : Held b literals named) where
 
         operands-there : width c ≤ length (drop (suc at) bs)
         operands-there =
-            let p = passes (ltb (length (drop (suc at) bs)) (width c) refuses 1) (command-tests c (drop (suc at) bs) now-counts) (omega arith) fault-is in
+            let p =
+            passes (ltb (length (drop (suc at) bs)) (width c) refuses 1) (command-tests c (drop (suc at) bs) now-counts) (omega arith)
+            fault-is in
             ltb-false (length (drop (suc at) bs)) (width c) (p .0)
 
         pub operands-within : at + width c < length bs
@@ -159,22 +166,30 @@ module _ (b : Book) (literals named : ℕ) (h : Held b literals named) where
 
         pub tests-passed : fault (command-tests c (drop (suc at) bs) now-counts) ≡ 0
         tests-passed =
-            passes (ltb (length (drop (suc at) bs)) (width c) refuses 1) (command-tests c (drop (suc at) bs) now-counts) (omega arith) fault-is .1
+            passes (ltb (length (drop (suc at) bs)) (width c) refuses 1) (command-tests c (drop (suc at) bs) now-counts) (omega arith)
+            fault-is .1
 
         turn-done : read-from (drop at bs) 0 (view b)
-            ≡ elim (is-end c) [ true ↦ accepted (done c (drop (suc at) bs) (view b)) | false ↦ read-from (drop (suc at) bs) (width c) (done c (drop (suc at) bs) (view b)) ]
+            ≡ elim (is-end c) [
+              | true ↦ accepted (done c (drop (suc at) bs) (view b))
+              | false ↦ read-from (drop (suc at) bs) (width c) (done c (drop (suc at) bs) (view b))
+            ]
         turn-done =
             ap (λ (xs : List ℕ). read-from xs 0 (view b)) (drop-cons bs at 0 some-left)
             ∙ ap (λ (x : Command). goes-on x (drop (suc at) bs) (whole-command x (drop (suc at) bs) (view b))) is
             ∙ ap (goes-on c (drop (suc at) bs))
             (whole-is c (drop (suc at) bs)
-            ∙ unless-passed (whole-tests c (drop (suc at) bs) now-counts) (done c (drop (suc at) bs) (view b)) (numbered c (drop (suc at) bs) now-counts) fault-is)
+            ∙ unless-passed (whole-tests c (drop (suc at) bs) now-counts) (done c (drop (suc at) bs) (view b))
+            (numbered c (drop (suc at) bs) now-counts) fault-is)
 
         -- the end command ends the reading
         pub turn-end : is-end c ≡ true → read-from (drop at bs) 0 (view b) ≡ accepted (done c (drop (suc at) bs) (view b))
         turn-end e =
             turn-done
-            ∙ ap (λ (t : Bool). elim t [ true ↦ accepted (done c (drop (suc at) bs) (view b)) | false ↦ read-from (drop (suc at) bs) (width c) (done c (drop (suc at) bs) (view b)) ]) e
+            ∙ ap (λ (t : Bool). elim t [
+              | true ↦ accepted (done c (drop (suc at) bs) (view b))
+              | false ↦ read-from (drop (suc at) bs) (width c) (done c (drop (suc at) bs) (view b))
+            ]) e
 
         -- another leaves the rest to be read, with the book that it makes
         pub turn-on : is-end c ≡ false → (to : Book) → view to ≡ done c (drop (suc at) bs) (view b) → (next : ℕ) → next ≡ at + width c + 1
@@ -182,7 +197,11 @@ module _ (b : Book) (literals named : ℕ) (h : Held b literals named) where
         turn-on e to v next q =
             let p : suc at + width c ≡ next = omega arith in
             sym (turn-done
-            ∙ ap (λ (t : Bool). elim t [ true ↦ accepted (done c (drop (suc at) bs) (view b)) | false ↦ read-from (drop (suc at) bs) (width c) (done c (drop (suc at) bs) (view b)) ]) e
+            ∙ ap (λ (t : Bool). elim t [
+              | true ↦ accepted (done c (drop (suc at) bs) (view b))
+              | false ↦ read-from (drop (suc at) bs) (width c) (done c (drop (suc at) bs) (view b))
+            ]) e
             ∙ skip (drop (suc at) bs) (width c) (done c (drop (suc at) bs) (view b)) operands-there
-            ∙ ap (λ (xs : List ℕ). read-from xs 0 (done c (drop (suc at) bs) (view b))) (drop-drop (width c) (suc at) bs ∙ ap (λ (i : ℕ). drop i bs) p)
+            ∙ ap (λ (xs : List ℕ). read-from xs 0 (done c (drop (suc at) bs) (view b)))
+            (drop-drop (width c) (suc at) bs ∙ ap (λ (i : ℕ). drop i bs) p)
             ∙ ap (read-from (drop next bs) 0) (sym v))

@@ -1,4 +1,5 @@
-// A rule book (document 01, "A book"): read from bytes into arrays of numbers, looked up by goal, clause and literal, and fitted to answers.
+// A rule book (document 01, "A book"): read from bytes into arrays of numbers, looked up by goal, clause and literal, and fitted to
+// answers.
 pub mod access;
 mod decode;
 mod faults;

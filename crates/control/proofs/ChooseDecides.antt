@@ -21,14 +21,12 @@ use Rattle.definitions.specs.Tables as forests
 use Rattle.definitions.specs.Turn.{other-than}
 use Rattle.asserts.proofs.Sound as asserts
 use Rattle.asserts.proofs.Sound.{SoundStrand, SoundForest, Selects}
-use Rattle.laws.proofs.All as laws
-use Rattle.laws.proofs.All.{all-first, all-rest}
+use Rattle.laws.proofs.All.{All, end, more, all-first, all-rest}
 use Rattle.laws.proofs.Totals.{total-one}
 use Rattle.split.specs.Acts as split
 use Rattle.split.specs.Acts.{Act, Origin, takes}
 use Rattle.split.specs.Decide.{or, no-table, table-of, Picked, decide-subgoal, decide-selected, decide-no-remaining, decide-deed}
 use Rattle.split.proofs.Reading.{there-still, same-clock}
-use Rattle.rings.specs.Lists.{All}
 use Rattle.rings.proofs.RingViews.{below-top}
 use Rattle.strands.specs.declared.Answer.{Answer}
 use Rattle.strands.specs.declared.Selected.the-variants.{Subgoal}
@@ -95,8 +93,8 @@ module _ (time : TimeStamp) (clocks : ℕ → TimeStamp) (s : Strand) (a b : Ans
   look-alike false false t height complete live late = refl
 
 -- the goals of a book that has at most 64, without one of them
-others-few : (m goal : ℕ) (ds : List ℕ) → m ≤ 64 → laws.All (λ g. g < m) ds → All (λ g. g < 64) (other-than goal ds)
-others-few m goal [] few w = tt
+others-few : (m goal : ℕ) (ds : List ℕ) → m ≤ 64 → All (λ g. g < m) ds → All (λ g. g < 64) (other-than goal ds)
+others-few m goal [] few w = end
 others-few m goal (g ∷ ds) few w =
     let less = all-first w in
     at (eqb g goal) (other-than goal ds) (omega arith) (others-few m goal ds few (all-rest w))
@@ -104,7 +102,7 @@ others-few m goal (g ∷ ds) few w =
     at : (b : Bool) (l : List ℕ) → g < 64 → All (λ h. h < 64) l
         → All (λ h. h < 64) (elim b as (λ (c : Bool). List ℕ) [ true ↦ l | false ↦ g ∷ l ])
     at true l p r = r
-    at false l p r = (p, r)
+    at false l p r = more p r
 
 module _ (root index first : ℕ) (z : Stores) (o : SoundStores root index first z) (n : ℕ) (d : z .stack .depth ≡ suc n) where
   abbrev fresh : FirstStrands

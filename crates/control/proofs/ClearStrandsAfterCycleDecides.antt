@@ -19,7 +19,7 @@ use Rattle.definitions.specs.Tables.{Forest, queued}
 use Rattle.split.specs.Decide.{or, no-table, table-of, strands-left, decide-each, decide-clear}
 use Rattle.rings.specs.Lists.{times}
 use Rattle.rings.proofs.Counts.{true-false, times-append, times-self}
-use Rattle.book.specs.View.{span}
+use Rattle.laws.specs.Spans.{span}
 use Rattle.stores.specs.declared.places.Places.{Places}
 use Rattle.stores.specs.Numbers.{free}
 use Rattle.stores.specs.Places.{ring}

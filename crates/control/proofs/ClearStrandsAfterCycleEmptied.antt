@@ -14,7 +14,7 @@ use Rattle.definitions.specs.Table.{Table, with-strands, take-strands}
 use Rattle.definitions.specs.Tables.{Forest, with-tables}
 use Rattle.split.specs.Acts.{changed, emptied}
 use Rattle.split.specs.Decide.{strands-left}
-use Rattle.book.specs.View.{span}
+use Rattle.laws.specs.Spans.{span}
 use Rattle.stores.specs.declared.places.Places.{Places}
 use Rattle.stores.specs.Places.{ring}
 use Rattle.stores.proofs.ListsSpans.{span-at, span-past, span-same, span-set}

@@ -36,8 +36,18 @@ use Rattle.stores.proofs.StackCallers.{active-held, activate-places, deactivate
 use Rattle.stores.proofs.StackViews.{entries-same, entered-away, activate-view, activate-sound}
 use Rattle.stores.proofs.TablesViews.{table-there}
 use Rattle.control.specs.Doing.{with-strands, with-stack, Sounds, state-above}
-use Rattle.control.specs.Stores.{Stores, first-strands, forest, entries-of, state, held-places}
-use Rattle.control.proofs.Stores.{table-held, top-entry, entries-below}
+use Rattle.control.specs.Stores.{Stores, SoundStores, first-strands, forest, entries-of, state, held-places}
+use Rattle.control.proofs.Stores.{table-held, top-entry, entries-below, entries-made}
+
+-- sound stores are sound with nothing in hand
+pub sounds-of : (root index first : ℕ) (z : Stores) → SoundStores root index first z → (n : ℕ) → z .stack .depth ≡ suc n → Sounds [] z
+sounds-of root index first z o n d = record {
+  tables = o .tables;
+  strands = o .strands;
+  answers = o .answers;
+  stack = o .stack;
+  made = λ i h. entries-made root index first z o n d i (omega arith);
+}
 
 pub state-is : (z : Stores) (n : ℕ) → z .stack .depth ≡ suc n → state z ≡ state-above n z
 state-is z n d =
@@ -174,11 +184,14 @@ module _ (z : Stores) (n : ℕ) (d : z .stack .depth ≡ suc n) where
   abbrev k : Stack
   k = z .stack
 
-  one-at-least : 1 ≤ k .depth
+  pub one-at-least : 1 ≤ z .stack .depth
   one-at-least = omega arith
 
-  last-is : k .depth - 1 ≡ n
+  pub last-is : z .stack .depth - 1 ≡ n
   last-is = omega arith
+
+  pub top-idle : getD (z .stack .active) n 0 ≡ 256 → getD (z .stack .active) (z .stack .depth - 1) 0 ≡ 256
+  top-idle no-strand = ap (λ (i : ℕ). getD (k .active) i 0) last-is ∙ no-strand
 
   -- A place in hand goes to the top's entry, which has none.
   module _ (q : ℕ) (o : Sounds (q ∷ []) z) (no-strand : getD (k .active) n 0 ≡ 256) where
@@ -188,14 +201,11 @@ module _ (z : Stores) (n : ℕ) (d : z .stack .depth ≡ suc n) where
     other : q ≡ 256 → ⊥
     other e = omega (arith, few)
 
-    idle : getD (k .active) (k .depth - 1) 0 ≡ 256
-    idle = ap (λ (i : ℕ). getD (k .active) i 0) last-is ∙ no-strand
-
     pub active-sound : Sounds [] (with-stack (activated q (z .stack)) z)
     active-sound = record {
       tables = o .tables;
       strands = subst (SoundStrands shows (z .strands) (z .tables .count))
-          (sym (activate-places k (o .stack) one-at-least q other idle)) (o .strands);
+          (sym (activate-places k (o .stack) one-at-least q other (top-idle no-strand))) (o .strands);
       answers = o .answers;
       stack = activate-sound shows k (z .strands) (o .stack) one-at-least q (omega (arith, few));
       made = o .made;

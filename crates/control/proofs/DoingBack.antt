@@ -24,7 +24,6 @@ use Rattle.stores.specs.Numbers.{flag-number}
 use Rattle.stores.specs.Places.{ring}
 use Rattle.stores.specs.Queue.{store, strands-of}
 use Rattle.stores.specs.Sound.{Written, InUse, SoundStrands}
-use Rattle.stores.specs.Stack.{caller-place}
 use Rattle.stores.specs.View.{FirstStrands, is-fresh, strand-by, strand-at, unread-strand, unread-answer}
 use Rattle.stores.proofs.ListsSpans.{all-times}
 use Rattle.stores.proofs.QueueViews.{tables-kept}
@@ -43,13 +42,14 @@ use Rattle.control.specs.OnNoStrandsLeft.{caller-waits-on-not, no-strand
 use Rattle.control.specs.OnNoStrandsLeft.{without-by}
 use Rattle.control.specs.Perform.{has-strand, stops, stop-flow, left-so, performed-by}
 use Rattle.control.specs.PerformDeed.{answers-of}
-use Rattle.control.specs.Performing.{put, place-by, read-place, chosen, turn-done, Performs}
+use Rattle.control.specs.Performing.{put, read-place, chosen, turn-done, Performs}
 use Rattle.control.specs.PerformStrand.{Lent, lent-of, TurnDone}
 use Rattle.control.specs.SelectSubgoal.{noted-goals}
 use Rattle.control.specs.Stores.{Stores, first-strands, forest, state, held-places}
 use Rattle.control.specs.Turn.{top, next, hand-at, chosen-for, decided-for, idle}
 use Rattle.control.specs.Turn.{origin, clock-at, strand-means, act-means, turn-means}
 use Rattle.control.proofs.Doing.{forest-is}
+use Rattle.control.proofs.DoingBegun.{read-found}
 
 -- the strands, with another list
 abbrev pub with-list : List Strand → Strands → Strands
@@ -219,9 +219,6 @@ module _ (z : Stores) (o : Sounds [] z) (has : has-strand (idle z) ≡ true) (ha
   found : next z .found ≡ true
   found = sym (strand-found z) ∙ has
 
-  place-is : read-place z ≡ next z .place
-  place-is = ap (λ (b : Bool). place-by b (next z .place) (caller-place (z .stack .depth) (z .stack .active))) found
-
   nothing : idle z ≡ idles.Nothing
   nothing =
       ap (λ (b : Bool). without-by (z .strands .places .len) (z .strands .waits) (z .stack .positive) (z .stack .negative)
@@ -229,7 +226,7 @@ module _ (z : Stores) (o : Sounds [] z) (has : has-strand (idle z) ≡ true) (ha
 
   means : turn-means z ≡ strand-means z (next z) (chosen z)
   means =
-      ap (act-means z) nothing ∙ ap (λ (p : ℕ). strand-means z (next z) (chosen-for z (hand-at z p))) (sym place-is)
+      ap (act-means z) nothing ∙ ap (λ (p : ℕ). strand-means z (next z) (chosen-for z (hand-at z p))) (sym (read-found z found))
 
   abbrev decision : Decision
   decision = decided-for z (chosen z)

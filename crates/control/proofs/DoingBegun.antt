@@ -54,6 +54,10 @@ began z =
 abbrev made-on : Made → Stores → Stores
 made-on made z = with-tabling (all-made made z) z
 
+-- the strand that is read is the one that the turn goes on with
+pub read-found : (z : Stores) → next z .found ≡ true → read-place z ≡ next z .place
+read-found z is = ap (λ (b : Bool). place-by b (next z .place) (caller-place (z .stack .depth) (z .stack .active))) is
+
 module _ (root index first : ℕ) (z : Stores) (o : SoundStores root index first z) (n : ℕ) (d : z .stack .depth ≡ suc n)
     (is : next z .found ≡ true) where
   abbrev q : ℕ
@@ -62,9 +66,8 @@ module _ (root index first : ℕ) (z : Stores) (o : SoundStores root index first
   abbrev hand : List ℕ
   hand = q ∷ []
 
-  -- the strand that is read is the one that the turn goes on with
   pub read-is : next z .place ≡ read-place z
-  read-is = sym (ap (λ (b : Bool). place-by b q (caller-place (z .stack .depth) (z .stack .active))) is)
+  read-is = sym (read-found z is)
 
   abbrev s : Strand
   s = hand-at z q

@@ -29,9 +29,9 @@ use Rattle.control.specs.Performing.{read-place, Performs}
 use Rattle.control.specs.Stores.{Stores, first-strands, forest, state, held-places, SoundStores}
 use Rattle.control.specs.Turn.{idle}
 use Rattle.control.specs.UnwindStack.{enqueued-if, enqueued-back, all-back}
-use Rattle.control.proofs.Doing.{state-is, forest-is, entries-moved}
+use Rattle.control.proofs.Doing.{sounds-of, state-is, forest-is, entries-moved}
 use Rattle.control.proofs.DoingBack.{hand-was}
-use Rattle.control.proofs.DoingNoStrand.{no-stop, left, read-back, sounds, no-strand, root-known}
+use Rattle.control.proofs.DoingNoStrand.{no-stop, left, read-back, no-strand, root-known}
 use Rattle.control.proofs.DoingNoStrand.{over-with, over-sound, caller-below}
 use Rattle.control.proofs.DoingStack.{Back, unwinds}
 use Rattle.control.proofs.OnNoStrandsLeft.{under, is-there}
@@ -79,9 +79,9 @@ module _ (root index first : ℕ) (z : Stores) (o : SoundStores root index first
       abbrev freed : Strands
       freed = given q (z .strands)
 
-      unwound : Back z (sounds root index first z o n d .made) (o .stack .places) m freed
+      unwound : Back z (sounds-of root index first z o n d .made) (o .stack .places) m freed
       unwound =
-          unwinds z (sounds root index first z o n d .made) (o .stack .places) m (omega arith) freed
+          unwinds z (sounds-of root index first z o n d .made) (o .stack .places) m (omega arith) freed
           (given-strand-sound fresh (z .strands) (z .tables .count) (active-places ac m) q strands-held)
 
       failed-is : caller-failed tb ac (z .stack .depth) (z .strands .places) ≡ all-back tb ac m (enqueued free q (z .strands .places))

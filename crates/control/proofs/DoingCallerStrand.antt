@@ -51,10 +51,10 @@ use Rattle.control.specs.PerformStrand.{Lent, lent-of}
 use Rattle.control.specs.Stores.{Stores, first-strands, forest, state, SoundStores}
 use Rattle.control.specs.Turn.{next, hand-at, not-proved, idle, act-means}
 use Rattle.control.specs.UnwindStack.{enqueued-if, enqueued-back}
-use Rattle.control.proofs.Doing.{state-is, idle-sound, idle-view, active-sound, active-view}
+use Rattle.control.proofs.Doing.{sounds-of, state-is, idle-sound, idle-view, active-sound, active-view}
 use Rattle.control.proofs.Doing.{queued-sound, queued-view, written-sounds, written-view, written-shown}
 use Rattle.control.proofs.DoingBack.{hand-was, put-so, performs-as}
-use Rattle.control.proofs.DoingNoStrand.{no-stop, left, after, done, done-is, read-back, sounds, not-found, no-strand, root-known}
+use Rattle.control.proofs.DoingNoStrand.{no-stop, left, after, done, done-is, read-back, not-found, no-strand, root-known}
 use Rattle.control.proofs.DoingNoStrand.{caller-below}
 use Rattle.control.proofs.DoingStack.{popped-sound, popped-view, cycled-sound, cycled-view}
 use Rattle.control.proofs.EnsureRootAnswer.{Known, in-hand-is, in-hand-sound}
@@ -92,11 +92,11 @@ module _ (root index first : ℕ) (z : Stores) (o : SoundStores root index first
     top-popped = with-stack (popped (z .stack)) z
 
     popped-fine : Sounds [] top-popped
-    popped-fine = popped-sound z n d [] (sounds root index first z o n d) idle-top
+    popped-fine = popped-sound z n d [] (sounds-of root index first z o n d) idle-top
 
     popped-shows : state-above m top-popped ≡ splits.popped (state z)
     popped-shows =
-        sym (state-is top-popped m few-below) ∙ popped-view z n d [] (sounds root index first z o n d) idle-top
+        sym (state-is top-popped m few-below) ∙ popped-view z n d [] (sounds-of root index first z o n d) idle-top
         ∙ sym (ap splits.popped (state-is z n d))
 
     abbrev in-hand : Stores

@@ -48,9 +48,9 @@ use Rattle.control.specs.Turn.{top, idle}
 use Rattle.control.specs.UnwindStack.{all-back}
 use Rattle.control.proofs.ClearStrandsAfterCycleDecides.{clear-decides}
 use Rattle.control.proofs.ClearStrandsAfterCycleEmptied.{emptied-view}
-use Rattle.control.proofs.Doing.{state-is, entries-moved}
+use Rattle.control.proofs.Doing.{sounds-of, state-is, entries-moved}
 use Rattle.control.proofs.DoingBack.{hand-was}
-use Rattle.control.proofs.DoingNoStrand.{no-stop, read-back, sounds, top-table-is, no-strand, over-with, over-sound}
+use Rattle.control.proofs.DoingNoStrand.{no-stop, read-back, top-table-is, no-strand, over-with, over-sound}
 use Rattle.control.proofs.DoingStack.{Back, unwinds, popped-off, below-is}
 use Rattle.control.proofs.Stores.{table-held, few-made, counted, table-found, table-made, searching}
 
@@ -155,7 +155,7 @@ module _ (root index first : ℕ) (z : Stores) (o : SoundStores root index first
     -- and the search is over
     module _ (idle-top : getD (z .stack .active) n 0 ≡ 256) where
       abbrev fine : Sounds [] z
-      fine = sounds root index first z o n d
+      fine = sounds-of root index first z o n d
 
       below : within (z .stack .depth - 1) ≡ n
       below = below-is z n d fine idle-top
@@ -201,7 +201,7 @@ module _ (root index first : ℕ) (z : Stores) (o : SoundStores root index first
         subst (λ (b : Bool). Came b c (stop k)) (sym (e .1)) (record {
           does = ap stop (sym (e .0));
           undone = λ i is. refl;
-          sound = sounds root index first z o n d;
+          sound = sounds-of root index first z o n d;
         })
     came c (go gone) e =
         subst (λ (b : Bool). Came b c (go gone)) (sym (e .0)) (record {

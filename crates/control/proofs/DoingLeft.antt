@@ -39,10 +39,10 @@ use Rattle.control.specs.PerformStrand.{lent-of}
 use Rattle.control.specs.Doing.{with-lent, Sounds, state-above}
 use Rattle.control.specs.Stores.{Stores, first-strands, in-use, forest, held-places, SoundStores}
 use Rattle.control.specs.Turn.{top, next, origin-by, origin}
-use Rattle.control.proofs.Doing.{idle-sound, idle-view}
+use Rattle.control.proofs.Doing.{sounds-of, idle-sound, idle-view}
 use Rattle.control.proofs.DoingTables.{same-entries, top-table-view}
 use Rattle.control.proofs.EnsureRootAnswer.{top-is}
-use Rattle.control.proofs.Stores.{table-held, top-entry, table-made, entries-made}
+use Rattle.control.proofs.Stores.{table-held, top-entry, table-made}
 
 -- THE STORES with a strand of table t taken from where it was
 abbrev pub left-by : Next → (t : ℕ) → Stores → Stores
@@ -120,15 +120,6 @@ module _ (z : Stores) (n : ℕ) (o : Sounds [] z) (t-made : getD (z .stack .tabl
       )
 
 -- FOR SOUND STORES
-pub sounds-of : (root index first : ℕ) (z : Stores) → SoundStores root index first z → (n : ℕ) → z .stack .depth ≡ suc n → Sounds [] z
-sounds-of root index first z o n d = record {
-  tables = o .tables;
-  strands = o .strands;
-  answers = o .answers;
-  stack = o .stack;
-  made = λ i h. entries-made root index first z o n d i (omega arith);
-}
-
 -- what is known once the strand at p's place is taken
 pub record Leaves (z : Stores) (n : ℕ) (p : Next) (t : ℕ) (from : Origin) : Type 0 where
   pub sound : Sounds (p .place ∷ []) (left-by p t z)

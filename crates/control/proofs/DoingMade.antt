@@ -16,23 +16,22 @@ use Rattle.definitions.specs.Table.{Table, new, with-strands, mark-floundered}
 use Rattle.definitions.specs.Tables.{Forest}
 use Rattle.definitions.specs.Tables as forests
 use Rattle.laws.proofs.All.{All}
-use Rattle.laws.proofs.Spans.{length-span}
+use Rattle.laws.proofs.Spans.{length-span, map-span}
+use Rattle.laws.specs.Spans.{span}
 use Rattle.laws.proofs.Totals.{total-append}
-use Rattle.rings.specs.Lists.{times}
 use Rattle.rings.proofs.Counts.{times-append}
 use Rattle.split.specs.Acts.{built, with-made}
 use Rattle.book.specs.Access.{entry}
 use Rattle.book.specs.View as books
-use Rattle.book.specs.View.{span}
 use Rattle.book.specs.declared.Book.{Book}
 use Rattle.book.proofs.Looks.{entry-in, clauses-within}
 use Rattle.stores.specs.Numbers.{within}
 use Rattle.stores.specs.Queue.{clauses-from, fresh-each}
 use Rattle.stores.specs.Sound.{waiting, SoundStrands, SoundAnswers}
 use Rattle.stores.specs.Tables.{inserted}
-use Rattle.stores.specs.View.{FirstStrands, strand-at, held-table, tables, entries}
+use Rattle.stores.specs.View.{FirstStrands, held-table, tables, entries}
 use Rattle.stores.proofs.ListsSpans.{span-at}
-use Rattle.stores.proofs.QueueStores.{queued-is}
+use Rattle.stores.proofs.QueueStores.{HeldStill, queued-is}
 use Rattle.stores.proofs.StackCallers.{entered-holds}
 use Rattle.stores.proofs.TablesBuilding as building
 use Rattle.stores.proofs.TablesBuilding.{Built}
@@ -43,7 +42,7 @@ use Rattle.control.specs.PerformStrand.{lent-of}
 use Rattle.control.specs.Doing.{with-lent, Sounds, state-above}
 use Rattle.control.specs.Stores.{Stores, first-strands, forest, held-places}
 use Rattle.control.proofs.ChooseRoom.{strands-for}
-use Rattle.control.proofs.SelectTables.{map-span, built-of, built-is, tables-noted, noted-each}
+use Rattle.control.proofs.SelectTables.{built-of, built-is, tables-noted, noted-each}
 
 -- the stores with these tables and strands
 abbrev pub with-tabling : Tabling → Stores → Stores
@@ -167,8 +166,7 @@ module _ (z : Stores) (sound : books.Sound (z .book)) (hand : List ℕ) (o : Sou
 pub record Tabled (hand : List ℕ) (z : Stores) (m : Tabling) (more : List Table) : Type 0 where
   pub sound : Sounds hand (with-tabling m z)
   pub means : tables (first-strands (z .book)) (m .tables) (m .strands) (z .answers) ≡ forest z .tables ++ more
-  pub holds : (q : ℕ) → 1 ≤ times q (hand ++ held-places z)
-      → strand-at (first-strands (z .book)) (m .strands) q ≡ strand-at (first-strands (z .book)) (z .strands) q
+  pub holds : HeldStill (first-strands (z .book)) (z .strands) (m .strands) (hand ++ held-places z)
 
 module _ (z : Stores) (hand : List ℕ) where
   built-tabled : Sounds hand z → (m : Tabling) (t : Table)
@@ -318,12 +316,10 @@ module _ (made : Made) (hand : List ℕ) (z : Stores) (sound : books.Sound (z .b
   made-sound = all-tabled .sound
 
   -- what is in hand or in an entry shows what it did
-  pub made-holds : (q : ℕ) → 1 ≤ times q (hand ++ held-places z)
-      → strand-at (first-strands (z .book)) (all-made made z .strands) q ≡ strand-at (first-strands (z .book)) (z .strands) q
+  pub made-holds : HeldStill (first-strands (z .book)) (z .strands) (all-made made z .strands) (hand ++ held-places z)
   made-holds = all-tabled .holds
 
-  pub made-hand : (q : ℕ) → 1 ≤ times q hand
-      → strand-at (first-strands (z .book)) (all-made made z .strands) q ≡ strand-at (first-strands (z .book)) (z .strands) q
+  pub made-hand : HeldStill (first-strands (z .book)) (z .strands) (all-made made z .strands) hand
   made-hand q h = made-holds q (omega (arith, times-append q hand (held-places z)))
 
   -- so many strands wait then

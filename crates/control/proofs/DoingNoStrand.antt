@@ -39,12 +39,11 @@ use Rattle.control.specs.PerformStrand.{lent-of, TurnDone}
 use Rattle.control.specs.Stores.{Stores, first-strands, state, SoundStores}
 use Rattle.control.specs.Turn.{top, next, hand-at, decided-for, idle, act-means}
 use Rattle.control.specs.UnwindStack.{all-back}
-use Rattle.control.proofs.Doing.{state-is}
+use Rattle.control.proofs.Doing.{sounds-of, state-is}
 use Rattle.control.proofs.DoingBack.{hand-was, so-sound, so-view, performs-as, strand-found}
 use Rattle.control.proofs.DoingStack.{gone-sound, gone-view}
 use Rattle.control.proofs.DoingTables.{moded-sounds, mode-changed}
 use Rattle.control.proofs.EnsureRootAnswer.{top-is}
-use Rattle.control.proofs.Stores.{entries-made}
 
 -- what is known of an act: whether the top is the root
 abbrev pub RootIf : Idle → (root : Bool) → Type 0
@@ -149,15 +148,8 @@ module _ (z : Stores) where
         (so-sound (left i .flow) (read-place z) (left i .strand) (chosen z .place) (idle-left (lent z) (left i)) z was [] sound)
 
 module _ (root index first : ℕ) (z : Stores) (o : SoundStores root index first z) (n : ℕ) (d : z .stack .depth ≡ suc n) where
-  -- sound stores are sound with nothing in hand
-  pub sounds : Sounds [] z
-  sounds = record {
-    tables = o .tables;
-    strands = o .strands;
-    answers = o .answers;
-    stack = o .stack;
-    made = λ i h. entries-made root index first z o n d i (omega arith);
-  }
+  sounds : Sounds [] z
+  sounds = sounds-of root index first z o n d
 
   abbrev t : ℕ
   t = getD (z .stack .table) n 0

@@ -40,7 +40,7 @@ use Rattle.control.specs.PerformStrand.{lent-of}
 use Rattle.control.specs.UnwindStack.{enqueued-if, enqueued-back, all-back}
 use Rattle.control.specs.Doing.{with-lent, with-strands, with-stack, Sounds, state-above}
 use Rattle.control.specs.Stores.{Stores, first-strands, forest, entries-of, state, held-places}
-use Rattle.control.proofs.Doing.{forest-is, changed-is, top-changed}
+use Rattle.control.proofs.Doing.{forest-is, changed-is, top-changed, one-at-least, last-is, top-idle}
 use Rattle.control.proofs.Stores.{table-held, top-entry, entries-below}
 
 -- A CYCLE
@@ -56,12 +56,6 @@ module _ (z : Stores) (n : ℕ) (d : z .stack .depth ≡ suc n) where
   abbrev k : Stack
   k = z .stack
 
-  one-at-least : 1 ≤ k .depth
-  one-at-least = omega arith
-
-  last-is : k .depth - 1 ≡ n
-  last-is = omega arith
-
   -- the top takes the minimums of a cycle that it meets through this literal
   module _ (hand : List ℕ) (o : Sounds hand z) (l : books.Literal) (m : Minimums) where
     abbrev after : Stack
@@ -75,7 +69,7 @@ module _ (z : Stores) (n : ℕ) (d : z .stack .depth ≡ suc n) where
       tables = o .tables;
       strands = o .strands;
       answers = o .answers;
-      stack = minimize-sound fresh k (z .strands) (o .stack) one-at-least (taken .positive) (taken .negative);
+      stack = minimize-sound fresh k (z .strands) (o .stack) (one-at-least z n d) (taken .positive) (taken .negative);
       made = o .made;
     }
 
@@ -84,22 +78,19 @@ module _ (z : Stores) (n : ℕ) (d : z .stack .depth ≡ suc n) where
     cycled-view =
         ap (λ (es : said.Stack). record { forest = forest z; stack = es })
         (top-changed fresh k after (z .strands) n d d (λ e. with-minimums e taken)
-        (minimize-view fresh k (z .strands) (o .stack) one-at-least (taken .positive) (taken .negative))
+        (minimize-view fresh k (z .strands) (o .stack) (one-at-least z n d) (taken .positive) (taken .negative))
         ∙ ap (λ (i : ℕ). with-minimums (top-entry z n)
         (cycle-by (is-negative l) (minimums-at (getD (k .positive) i 0) (getD (k .negative) i 0)) m (getD (k .clock) i 0))
-        ∷ entries-below z n) last-is
+        ∷ entries-below z n) (last-is z n d)
         ∙ ap (λ (e : said.StackEntry). e ∷ entries-below z n) (sym (cycle-is l m (top-entry z n))))
 
   -- A POP of an entry that holds nothing
   module _ (hand : List ℕ) (o : Sounds hand z) (no-strand : getD (k .active) n 0 ≡ 256) where
-    idle : getD (k .active) (k .depth - 1) 0 ≡ 256
-    idle = ap (λ (i : ℕ). getD (k .active) i 0) last-is ∙ no-strand
-
     pub popped-sound : Sounds hand (with-stack (popped (z .stack)) z)
     popped-sound = record {
       tables = o .tables;
       strands = subst (λ (l : List ℕ). SoundStrands fresh (z .strands) (z .tables .count) (hand ++ l))
-          (pop-places k one-at-least idle) (o .strands);
+          (pop-places k (one-at-least z n d) (top-idle z n d no-strand)) (o .strands);
       answers = o .answers;
       stack = pop-sound fresh k (z .strands) (o .stack);
       made = λ i h. o .made i (omega arith);
@@ -108,7 +99,7 @@ module _ (z : Stores) (n : ℕ) (d : z .stack .depth ≡ suc n) where
     pub popped-view : state (with-stack (popped (z .stack)) z) ≡ split.popped (state-above n z)
     popped-view =
         ap (λ (es : said.Stack). record { forest = forest z; stack = es })
-        (ap (entries fresh (popped k) (z .strands)) last-is
+        (ap (entries fresh (popped k) (z .strands)) (last-is z n d)
         ∙ entries-same fresh k (popped k) (z .strands) (z .strands) n (λ i h. refl))
 
 -- A PUSH, at the clock's next time
@@ -143,7 +134,8 @@ module _ (z : Stores) (t : ℕ) (o : Sounds [] z) (there : t < z .tables .count)
   table-at false e i h = o .made i h
 
   pub pushed-sound : Sounds []
-      (with-lent (lent-of (z .tables) (z .strands) (z .answers) (pushed t (incremented (z .clock)) MAX (z .stack)) (incremented (z .clock))) z)
+      (with-lent (lent-of (z .tables) (z .strands) (z .answers) (pushed t (incremented (z .clock)) MAX (z .stack)) (incremented (z .clock)))
+      z)
   pushed-sound = record {
     tables = o .tables;
     strands = subst (SoundStrands shows (z .strands) (z .tables .count))
@@ -275,7 +267,7 @@ module _ (z : Stores) (n : ℕ) (d : z .stack .depth ≡ suc n) (o : Sounds [] z
 
   pub popped-off : active-places ac′ (z .stack .depth) ≡ active-places ac′ n
   popped-off =
-      pop-places (z .stack) (omega arith) (ap (λ (i : ℕ). getD ac′ i 0) (last-is z n d) ∙ no-strand)
+      pop-places (z .stack) (omega arith) (top-idle z n d no-strand)
       ∙ ap (active-places ac′) (last-is z n d)
 
   unwound : Back z (o .made) (o .stack .places) n (z .strands)

@@ -19,7 +19,6 @@ use Rattle.definitions.specs.Table.{Table, take-strands, mark-floundered, with-
 use Rattle.definitions.specs.Tables.{Forest}
 use Rattle.definitions.specs.Tables as forests
 use Rattle.laws.proofs.Lists.{set-here}
-use Rattle.rings.specs.Lists.{times}
 use Rattle.rings.proofs.Counts.{times-append}
 use Rattle.split.specs.Acts as split
 use Rattle.strands.specs.declared.Answer.{Answer}
@@ -35,13 +34,14 @@ use Rattle.stores.specs.Queue.{with-places, cleared, stored}
 use Rattle.stores.specs.Sound.{SoundStrands, SoundAnswers, GoodAnswer}
 use Rattle.stores.specs.Table.{with-answer-places, cleared-answers, marked, answer-stored}
 use Rattle.stores.specs.Tables.{moded}
-use Rattle.stores.specs.View.{FirstStrands, strand-at, tables, entries}
+use Rattle.stores.specs.View.{FirstStrands, tables, entries}
 use Rattle.stores.proofs.QueueSound.{cleared-sound}
-use Rattle.stores.proofs.QueueStores.{stored-grown, stored-view, stored-sound}
+use Rattle.stores.proofs.QueueStores.{HeldStill, stored-grown, stored-view, stored-sound}
 use Rattle.stores.proofs.QueueViews.{cleared-view}
 use Rattle.stores.proofs.StackCallers.{entered-holds}
 use Rattle.stores.proofs.StackViews.{entries-same}
-use Rattle.stores.proofs.TableViews.{stored-answer-own, stored-answer-sound, stored-answer-view, cleared-answers-sound, marked-sound, marked-view}
+use Rattle.stores.proofs.TableViews.{stored-answer-own, stored-answer-sound, stored-answer-view, cleared-answers-sound, marked-sound}
+use Rattle.stores.proofs.TableViews.{marked-view}
 use Rattle.stores.proofs.TablesViews.{table-there, moded-sound, moded-view}
 use Rattle.control.specs.PerformDeed.{emptied-unless, emptied, emptied-if}
 use Rattle.control.specs.PerformStrand.{lent-of}
@@ -199,15 +199,13 @@ module _ (z : Stores) (n : ℕ) (d : z .stack .depth ≡ suc n) (hand : List ℕ
       made = o .made;
     }
 
-    held-still : (u : ℕ) → 1 ≤ times u (held-places z) → strand-at shows copied u ≡ strand-at shows (z .strands) u
+    held-still : HeldStill shows (z .strands) copied (held-places z)
     held-still u h =
         stored-grown shows (z .strands) (z .tables .count) (hand ++ held-places z) top made (o .strands) room time x good .holds u
         (omega (arith, times-append u hand (held-places z)))
 
     -- what is in hand shows what it did
-    pub copied-hand : (u : ℕ) → 1 ≤ times u hand
-        → strand-at (first-strands (z .book)) (stored (getD (z .stack .table) n 0) time x (z .strands)) u
-        ≡ strand-at (first-strands (z .book)) (z .strands) u
+    pub copied-hand : HeldStill (first-strands (z .book)) (z .strands) (stored (getD (z .stack .table) n 0) time x (z .strands)) hand
     copied-hand u h =
         stored-grown shows (z .strands) (z .tables .count) (hand ++ held-places z) top made (o .strands) room time x good .holds u
         (omega (arith, times-append u hand (held-places z)))

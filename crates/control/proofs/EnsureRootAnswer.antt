@@ -15,6 +15,7 @@ use Rattle.definitions.specs.Strand as held
 use Rattle.definitions.specs.Turn as turns
 use Rattle.asserts.proofs.Sound.{SoundStrand, Active}
 use Rattle.laws.proofs.All.{all-at}
+use Rattle.laws.proofs.Maps.{getElem?-map}
 use Rattle.split.specs.Acts.{Origin, was-active, was-queued}
 use Rattle.split.specs.Decide.{or, no-strand, table-of, decide-strand}
 use Rattle.strands.specs.declared.Strand.{Strand}
@@ -26,7 +27,7 @@ use Rattle.stores.specs.Queue.{eligible, test-at, any-strand, strands-of, spot-
 use Rattle.stores.specs.Sound.{InUse}
 use Rattle.stores.specs.View.{FirstStrands, strand-at, active-strand-at, is-fresh, unread-strand, mode}
 use Rattle.stores.proofs.ListsAlike.{times-at}
-use Rattle.stores.proofs.ListsSpans.{first-if, map-elem}
+use Rattle.stores.proofs.ListsSpans.{first-if}
 use Rattle.stores.proofs.QueueCases.{spot-is}
 use Rattle.stores.proofs.QueueViews.{first-eligible}
 use Rattle.stores.proofs.StackCallers.{active-held}
@@ -130,7 +131,7 @@ module _ (root index first : ℕ) (z : Stores) (o : SoundStores root index first
       → from-queue (first-if b first-one) ≡ taken-by b (shown (getD queue first-one 0)) (was-queued first-one)
   from-queue-is true e =
       ap (λ (x : Option held.Strand). some (or no-strand x, was-queued first-one))
-      (map-elem shown queue first-one 0 (ltb-true first-one (length queue) e))
+      (getElem?-map shown queue first-one 0 (ltb-true first-one (length queue) e))
   from-queue-is false e = refl
 
   abbrev active-by : (none-active : Bool) → Option held.Strand
@@ -186,7 +187,7 @@ module _ (root index first : ℕ) (z : Stores) (o : SoundStores root index first
       let table = all-at t (searching root index first z o n d .forest .sound-tables) (table-found root index first z o t made) in
       subst Known (sym (ap (λ (x : Spot). x .place) is)) (record {
         in-use = o .strands .queued t (getD queue first-one 0) made (times-at queue first-one there);
-        sound = all-at first-one (table .sound-strands) (map-elem shown queue first-one 0 there);
+        sound = all-at first-one (table .sound-strands) (getElem?-map shown queue first-one 0 there);
       })
 
   pub known : next z .found ≡ true → Known (next z .place)

@@ -1,10 +1,10 @@
 -- The first strand of a clause, made from the arrays of a book, means the clause's initial strand: where the place is fresh that is the
 -- strand in hand.
-use Prim.Native.Nat.{ℕ, zero, suc, _+_, _*_, _%_, _≤_, _<_}
+use Prim.Native.Nat.{ℕ, _+_, _*_, _%_, _≤_, _<_}
 use native.Mathlib.Omega.{arith}
 use mathlib.Core.Bool.{Bool, true, false}
-use mathlib.Core.List.{List, _∷_, map}
-use mathlib.Core.Path.{_≡_, refl, sym, ap, ap₂, subst, _∙_}
+use mathlib.Core.List.{List, map}
+use mathlib.Core.Path.{_≡_, refl, sym, ap, ap₂, _∙_}
 use lib.Dec.{ltb}
 use lib.ListN.{length, take, getD, List·getD-eq-default}
 use borrow.Author.Tests.{ltb-true, ltb-false}
@@ -13,8 +13,8 @@ use Rattle.definitions.specs.Book as said
 use Rattle.definitions.specs.Logic.{initial-strand}
 use Rattle.definitions.specs.Strand as held
 use Rattle.asserts.proofs.Sound.{Named}
-use Rattle.laws.proofs.All.{All, all-first, all-rest}
-use Rattle.laws.specs.Spans.{span}
+use Rattle.laws.proofs.All.{All}
+use Rattle.laws.proofs.Spans.{take-span, span-moved, all-span, map-span}
 use Rattle.book.specs.Access.{literal-read}
 use Rattle.book.specs.View as books
 use Rattle.book.specs.View.{kept, meant, literal-viewed, clause-viewed}
@@ -29,36 +29,6 @@ use Rattle.strands.proofs.MakeViews.{blank-sound, initial-view, initial-sound}
 use Rattle.stores.specs.View.{strand-by}
 use Rattle.control.specs.EnsureRootAnswer.{clause-literals, first-by, in-hand-by}
 use Rattle.control.specs.Stores.{first-strands}
-use Rattle.control.proofs.SelectTables.{map-span}
-
--- Laws of spans.
-
-module _ {A : Type 0} where
-  take-span : (f : ℕ → A) (s m n : ℕ) → n ≤ m → take n (span f s m) ≡ span f s n
-  take-span f s zero zero h = refl
-  take-span f s (suc m) zero h = refl
-  take-span f s zero (suc n) h = absurd (omega arith)
-  take-span f s (suc m) (suc n) h = ap (λ (l : List A). f s ∷ l) (take-span f (suc s) m n (omega arith))
-
-  -- two spans that agree place by place
-  span-moved : (f g : ℕ → A) (s r n : ℕ) → ((j : ℕ) → j < n → f (s + j) ≡ g (r + j)) → span f s n ≡ span g r n
-  span-moved f g s r zero e = refl
-  span-moved f g s r (suc n) e =
-      let p : s + 0 ≡ s = omega arith in
-      let q : r + 0 ≡ r = omega arith in
-      ap₂ (λ (x : A) (l : List A). x ∷ l) (ap f (sym p) ∙ e 0 (omega arith) ∙ ap g q)
-      (span-moved f g (suc s) (suc r) n
-      (λ j h.
-      let i : suc s + j ≡ s + suc j = omega arith in
-      let k : r + suc j ≡ suc r + j = omega arith in
-      ap f i ∙ e (suc j) (omega arith) ∙ ap g k))
-
-  all-span : {P : A → Type 0} (f : ℕ → A) (s n j : ℕ) → All P (span f s n) → j < n → P (f (s + j))
-  all-span f s zero j a h = absurd (omega arith)
-  all-span {P} f s (suc n) zero a h = let p : s ≡ s + 0 = omega arith in subst (λ (i : ℕ). P (f i)) p (all-first a)
-  all-span {P} f s (suc n) (suc j) a h =
-      let p : suc s + j ≡ s + suc j = omega arith in
-      subst (λ (i : ℕ). P (f i)) p (all-span f (suc s) n j (all-rest a) (omega arith))
 
 module _ (b : Book) (sound : books.Sound b) (goals : ℕ) (few : goals ≤ 64) where
   abbrev read : (c j : ℕ) → Literal

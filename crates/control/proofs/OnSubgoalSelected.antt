@@ -24,6 +24,7 @@ use Rattle.split.specs.Decide.{or, no-selected, literal-at, table-of, with-lite
 use Rattle.split.specs.Decide.{decide-coinductive, all-coinductive, decide-awaiting, decide-selected}
 use Rattle.book.specs.View.{meant}
 use Rattle.book.specs.declared.Literal.{Literal}
+use Rattle.definitions.proofs.Lists.{take-empty}
 use Rattle.strands.specs.declared.Answer.{Answer}
 use Rattle.strands.specs.declared.Selected.the-variants.{Nothing}
 use Rattle.strands.specs.declared.Strand.{Strand}
@@ -37,7 +38,6 @@ use Rattle.strands.specs.View.{Sound, SoundAnswer, Kept, seen, clause, answer, 
 use Rattle.strands.proofs.DelayViews.{delay-view, delay-kept}
 use Rattle.strands.proofs.FieldViews.{kept-on, kept-seen, next-answer-view, selected-sound}
 use Rattle.strands.proofs.FlounderViews.{flounder-kept}
-use Rattle.strands.proofs.Lists.{take-empty}
 use Rattle.strands.proofs.MergeViews.{take-view, take-kept}
 use Rattle.control.specs.declared.decision.Decision.{Decision}
 use Rattle.control.specs.declared.on_subgoal_selected.Look.the-variants as looks

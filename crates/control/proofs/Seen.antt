@@ -6,7 +6,6 @@ use mathlib.Core.Path.{_≡_, refl, ap, _∙_}
 use lib.ListN.{length, getElem?}
 use Rattle.definitions.specs as said
 use Rattle.definitions.specs.Book as books
-use Rattle.definitions.specs.Lists.{push, remove}
 use Rattle.definitions.specs.Slg.{next-subgoal-index}
 use Rattle.definitions.specs.Stop.{go, _>>=_, unwrap}
 use Rattle.definitions.specs.Strand as held
@@ -18,7 +17,7 @@ use Rattle.strands.specs.declared.literals.Found.{Found}
 use Rattle.strands.specs.Floundering.{flounder}
 use Rattle.strands.specs.Literals.{literal-of, subgoal-at, without-last, last-removed}
 use Rattle.strands.specs.View.{Sound, clause}
-use Rattle.strands.proofs.FlounderViews.{flounder-view}
+use Rattle.strands.proofs.FlounderViews.{aside, flounder-view}
 use Rattle.strands.proofs.LiteralCases.{count-is}
 use Rattle.strands.proofs.LiteralViews.{subgoal-at-view, last-removed-view}
 use Rattle.control.specs.Decision.{last-literal}
@@ -45,11 +44,6 @@ module _ (s : Strand) (o : Sound s) where
       omega arith
 
 -- The last literal set aside: the definitions unwrap it, and deciding reads it with a default.
-
-abbrev aside : said.ExClause → ℕ → books.Literal → said.ExClause
-aside x i l =
-    held.with-floundered x (remove (x .subgoals) i)
-    (push (x .floundered-subgoals) (record { floundered-literal = l; floundered-time = x .answer-time }))
 
 aside-found : (x y : said.ExClause) (i : ℕ) (found : Option books.Literal) → (unwrap found >>= λ l. go (aside x i l)) ≡ go y
     → y ≡ aside x i (or no-literal found)

@@ -25,7 +25,10 @@ use Rattle.control.specs.declared.select_subgoal.Made.{Made}
 use Rattle.control.specs.declared.select_subgoal.Selection.the-variants as selection
 use Rattle.control.specs.declared.select_subgoal.Selection.{Selection}
 use Rattle.control.specs.declared.select_subgoal.Choice.{Choice}
-use Rattle.control.specs.SelectSubgoal.{chosen, noted-count, note-if, note, made-at, noted-at, table-by, table-number, floundered-by, table-floundered, strands-by, live-with, leaves, selects, propagated-by, propagated, made-by, made-for, found-by, found-for, taken-by, literal-taken, reconsidered-by, reconsidered, held-by, held-against, goes-on, idle-by, passed-by, passed, select-from}
+use Rattle.control.specs.SelectSubgoal.{chosen, noted-count, note-if, note, made-at, noted-at, table-by, table-number, floundered-by}
+use Rattle.control.specs.SelectSubgoal.{table-floundered, strands-by, live-with, leaves, selects, propagated-by, propagated, made-by}
+use Rattle.control.specs.SelectSubgoal.{made-for, found-by, found-for, taken-by, literal-taken, reconsidered-by, reconsidered}
+use Rattle.control.specs.SelectSubgoal.{held-by, held-against, goes-on, idle-by, passed-by, passed, select-from}
 
 -- Noting.
 module _ (g : ℕ) (m : Made) where

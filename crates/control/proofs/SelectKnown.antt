@@ -29,7 +29,8 @@ use Rattle.control.specs.declared.select_subgoal.Made.{Made}
 use Rattle.control.specs.declared.select_subgoal.Selection.the-variants as selection
 use Rattle.control.specs.declared.select_subgoal.Selection.{Selection}
 use Rattle.control.specs.declared.select_subgoal.Choice.{Choice}
-use Rattle.control.specs.SelectSubgoal.{note-if, leaves, noted-down, noted-goals, noted-view, picks, TablesMean, with-noted, FlounderedGoal, Noted, Awaits, clause-of, literals, Outcome, Ended}
+use Rattle.control.specs.SelectSubgoal.{note-if, leaves, noted-down, noted-goals, noted-view, picks, TablesMean, with-noted}
+use Rattle.control.specs.SelectSubgoal.{FlounderedGoal, Noted, Awaits, clause-of, literals, Outcome, Ended}
 
 -- One more goal noted.
 

@@ -32,20 +32,17 @@ use Rattle.stores.proofs.ListsSpans.{first-if}
 use Rattle.control.specs.declared.select_subgoal.Made.{Made}
 use Rattle.control.specs.declared.select_subgoal.Selection.the-variants as selection
 use Rattle.control.specs.declared.select_subgoal.Choice.{Choice}
-use Rattle.control.specs.SelectSubgoal.{chosen, noted-count, note-if, note, table-number, live-with, leaves, selects, made-by, found-by, found-for, taken-by, noted-goals, noted-view, FlounderedGoal, New, RestFloundered, Noted, clause-of, literals}
+use Rattle.control.specs.SelectSubgoal.{chosen, noted-count, note-if, note, table-number, live-with, leaves, selects, made-by}
+use Rattle.control.specs.SelectSubgoal.{found-by, found-for, taken-by, noted-goals, noted-view, FlounderedGoal, New, RestFloundered}
+use Rattle.control.specs.SelectSubgoal.{Noted, clause-of, literals}
 use Rattle.control.proofs.Seen.{chosen-means}
-use Rattle.control.proofs.SelectKnown.{noted-more, busy, Waits, Going, After, Setting, Leads, leads-from, seen-in, made-in, seen-as, ends, chose}
-use Rattle.control.proofs.SelectPasses.{floundered-keeps, floundered-is}
+use Rattle.control.proofs.SelectKnown.{noted-more, Going, After, Setting, Leads, leads-from, seen-in, made-in, seen-as}
+use Rattle.control.proofs.SelectKnown.{ends, chose}
+use Rattle.control.proofs.SelectPasses.{floundered-keeps, floundered-is, noted-floundered, none-busy}
 use Rattle.control.proofs.SelectTables.{length-noted, noted-there, new-strands, table-found, table-next}
 
 module _ (z : Setting) (c : Choice) (g : Going (z .forest) (z .start) c) where
   module _ (is : c .strand .selected ≡ Nothing) where
-    all : All (FlounderedGoal (z .forest)) (noted-goals (c .made))
-    all = subst (Waits (z .forest) (z .start) c) is (g .waits)
-
-    none-busy : busy (c .strand .selected) ≡ 0
-    none-busy = ap busy is
-
     -- A literal is there: the last one is taken.
     module _ (some-left : 0 < literals c) where
       abbrev i : ℕ
@@ -72,7 +69,7 @@ module _ (z : Setting) (c : Choice) (g : Going (z .forest) (z .start) c) where
           subst (λ (n : ℕ). n < length (z .forest .book)) e (all-at i (g .named .subgoals-named) (l .1))
 
       few-noted : c .made .count < 8
-      few-noted = let b = none-busy in let r = g .room in omega arith
+      few-noted = let b = none-busy z c g is in let r = g .room in omega arith
 
       -- the table is there
       selects-keeps : (t : ℕ) → t < length (z .forest .tables) + c .made .count
@@ -82,10 +79,10 @@ module _ (z : Setting) (c : Choice) (g : Going (z .forest) (z .start) c) where
           sound = selected-sound (c .strand) (Subgoal i t 0) (g .sound);
           named = g .named;
           noted = g .noted;
-          room = let b = none-busy in let r = g .room in omega arith;
-          waits = (record { last = last; there = h; came = inr refl }, λ e. all);
+          room = let b = none-busy z c g is in let r = g .room in omega arith;
+          waits = (record { last = last; there = h; came = inr refl }, λ e. noted-floundered z c g is);
         },
-        let b = none-busy in omega arith,
+        let b = none-busy z c g is in omega arith,
       )
 
       -- the table is to be made
@@ -107,7 +104,7 @@ module _ (z : Setting) (c : Choice) (g : Going (z .forest) (z .start) c) where
         few = let h = few-noted in omega arith;
         named = subst (All (λ h. h < length (z .forest .book))) (sym more-goals) (more goal-named (g .noted .named));
         new = subst (New (z .forest)) (sym more-goals) (fresh, g .noted .new);
-        rest-floundered = subst (RestFloundered (z .forest)) (sym more-goals) all;
+        rest-floundered = subst (RestFloundered (z .forest)) (sym more-goals) (noted-floundered z c g is);
       }
 
       new-table : number ≡ length (z .forest .tables) + c .made .count
@@ -124,13 +121,13 @@ module _ (z : Setting) (c : Choice) (g : Going (z .forest) (z .start) c) where
           sound = selected-sound (c .strand) (Subgoal i number 0) (g .sound);
           named = g .named;
           noted = new-noted fresh;
-          room = let b = none-busy in let r = g .room in omega arith;
+          room = let b = none-busy z c g is in let r = g .room in omega arith;
           waits = (
             record { last = last; there = omega arith; came = inr refl },
-            λ d. subst (All (FlounderedGoal (z .forest))) (sym more-goals) (more (sym (new-table e) ∙ d) all),
+            λ d. subst (All (FlounderedGoal (z .forest))) (sym more-goals) (more (sym (new-table e) ∙ d) (noted-floundered z c g is)),
           );
         },
-        let b = none-busy in omega arith,
+        let b = none-busy z c g is in omega arith,
       )
 
       abbrev makes : (over : Bool) → (live table : ℕ) → Stops (Option ℕ × View)
@@ -211,8 +208,9 @@ module _ (z : Setting) (c : Choice) (g : Going (z .forest) (z .start) c) where
         means = λ p. ap
             (λ (k : Selected). decide-from p (z .forest) (noted-view c)
             (seen-as z (with-literal-floundered (clause-of c) i) (selected k))) is
-            ∙ ap (decide-from p (z .forest) (noted-view c)) (floundered-is z c g (c .strand) refl (g .sound) is some-left all i last);
-        keeps = floundered-keeps z c g (c .strand) refl (g .sound) is some-left all;
+            ∙ ap (decide-from p (z .forest) (noted-view c))
+            (floundered-is z c g (c .strand) refl (g .sound) is some-left (noted-floundered z c g is) i last);
+        keeps = floundered-keeps z c g (c .strand) refl (g .sound) is some-left (noted-floundered z c g is);
       }
 
       pub takes : Leads z (λ p. decide-table (z .forest) (noted-view c) (literal-at (clause-of c) i) >>= chose z c p) c

@@ -29,9 +29,11 @@ use Rattle.strands.proofs.FieldViews.{selected-sound, ambiguous-sound}
 use Rattle.strands.proofs.FlounderViews.{flounder-kept, flounder-sound, reconsider-kept, reconsider-sound, reconsider-view}
 use Rattle.control.specs.declared.select_subgoal.Selection.the-variants as selection
 use Rattle.control.specs.declared.select_subgoal.Choice.{Choice}
-use Rattle.control.specs.SelectSubgoal.{chosen, table-floundered, leaves, propagated-by, reconsidered-by, held-by, held-against, noted-goals, noted-view, FlounderedGoal, clause-of, literals}
+use Rattle.control.specs.SelectSubgoal.{chosen, table-floundered, leaves, propagated-by, reconsidered-by, held-by, held-against}
+use Rattle.control.specs.SelectSubgoal.{noted-goals, noted-view, FlounderedGoal, clause-of, literals}
 use Rattle.control.proofs.Seen.{chosen-means, flounder-clause}
-use Rattle.control.proofs.SelectKnown.{busy, Waits, Going, After, room-less, falls-less, falls-back, room-back, busy-once, Setting, Leads, leads-from, seen-in, made-in, seen-as, ends, stuck, held-as, looked, none-left}
+use Rattle.control.proofs.SelectKnown.{busy, Waits, Going, After, room-less, falls-less, falls-back, room-back, busy-once, Setting}
+use Rattle.control.proofs.SelectKnown.{Leads, leads-from, seen-in, made-in, seen-as, ends, stuck, held-as, looked, none-left}
 use Rattle.control.proofs.SelectStrands.{counted, flounder-keeps, reconsider-keeps}
 use Rattle.control.proofs.SelectTables.{table-flag}
 
@@ -124,10 +126,10 @@ module _ (z : Setting) (c : Choice) (g : Going (z .forest) (z .start) c) where
 
   -- NOTHING IS SELECTED.
   module _ (is : c .strand .selected ≡ Nothing) where
-    all : All (FlounderedGoal (z .forest)) (noted-goals (c .made))
-    all = subst (Waits (z .forest) (z .start) c) is (g .waits)
+    pub noted-floundered : All (FlounderedGoal (z .forest)) (noted-goals (c .made))
+    noted-floundered = subst (Waits (z .forest) (z .start) c) is (g .waits)
 
-    none-busy : busy (c .strand .selected) ≡ 0
+    pub none-busy : busy (c .strand .selected) ≡ 0
     none-busy = ap busy is
 
     -- No literal is left.
@@ -173,7 +175,7 @@ module _ (z : Setting) (c : Choice) (g : Going (z .forest) (z .start) c) where
               named = returned .clause;
               noted = g .noted;
               room = room-back (c .made .count) _ _ _ _ _ _ (returned .returned) (returned .none-late) none-busy (g .room);
-              waits = subst (Waits (z .forest) (z .start) (leaves selection.Again back c)) (sym back-idle) all;
+              waits = subst (Waits (z .forest) (z .start) (leaves selection.Again back c)) (sym back-idle) noted-floundered;
             },
             falls-back _ _ _ _ _ _ none-there some-back (returned .returned) (returned .none-late) none-busy b,
           );

@@ -1,8 +1,8 @@
 -- There is room for the tables that are to be made: no two tables are for one goal, so that there are as many as the book has goals at
 -- most.
-use Prim.Native.Nat.{ℕ, zero, suc, _+_, _≤_, _<_}
+use Prim.Native.Nat.{ℕ, _+_, _≤_, _<_}
 use native.Mathlib.Omega.{arith}
-use mathlib.Core.Path.{_≡_, refl, sym, ap, subst, _∙_}
+use mathlib.Core.Path.{_≡_, sym, ap, subst, _∙_}
 use mathlib.Core.Bool.{true≢false}
 use mathlib.Core.List.{List, [], _∷_, _++_, map}
 use mathlib.Core.Logic.{_⊎_, inl, inr}
@@ -13,9 +13,9 @@ use borrow.Author.Tests.{eq-eqb}
 use Rattle.definitions.specs.Table.{Table}
 use Rattle.definitions.specs.Tables.{Tables, Forest, index-of}
 use Rattle.laws.proofs.Distinct.{few-distinct}
-use Rattle.laws.proofs.Options.{no-such, same-some}
 use Rattle.laws.proofs.All.{All, all-first, all-rest, all-at, all-map}
 use Rattle.laws.proofs.Lists.{at-push}
+use Rattle.laws.proofs.Maps.{at-map}
 use Rattle.definitions.proofs.Lists.{all-push, position-none}
 use Rattle.asserts.proofs.Sound.{TablesApart, SoundForest}
 use Rattle.split.specs.Acts.{built, with-made}
@@ -55,22 +55,15 @@ module _ (f : Forest) where
       all-push (made-named n made (all-rest named) all)
       (subst (λ (h : ℕ). h < n) (sym (built-goal g (with-made f made .book))) (all-first named))
 
--- a place of a mapped list
-at-mapped : {A B : Type 0} (h : A → B) (l : List A) (i : ℕ) (b : B) → getElem? (map h l) i ≡ some b
-    → (a : A) × (getElem? l i ≡ some a) × (h a ≡ b)
-at-mapped h [] i b e = absurd (no-such e)
-at-mapped h (a ∷ l) zero b e = (a, refl, same-some e)
-at-mapped h (a ∷ l) (suc i) b e = at-mapped h l i b e
-
 few-tables : (n : ℕ) (ts : Tables) → TablesApart ts → All (λ t. t .table-goal < n) ts → length ts ≤ n
 few-tables n ts apart named =
     let few = few-distinct n (map (λ t. t .table-goal) ts)
     (λ i j g a b.
-    let u = at-mapped (λ t. t .table-goal) ts i g a in
-    let v = at-mapped (λ t. t .table-goal) ts j g b in
+    let u = at-map (λ t. t .table-goal) ts i g a in
+    let v = at-map (λ t. t .table-goal) ts j g b in
     apart i j (u .0) (v .0) (u .1) (v .1) (u .2 ∙ sym (v .2)))
     (λ i g a.
-    let u = at-mapped (λ t. t .table-goal) ts i g a in
+    let u = at-map (λ t. t .table-goal) ts i g a in
     subst (λ (h : ℕ). h < n) (u .2) (all-at i named (u .1))) in
     let same = length-map ts (λ t. t .table-goal) in
     omega arith

@@ -26,7 +26,8 @@ use Rattle.strands.proofs.LiteralCases.{count-is}
 use Rattle.control.specs.declared.select_subgoal.Selection.the-variants as selection
 use Rattle.control.specs.declared.select_subgoal.Selection.{Selection}
 use Rattle.control.specs.declared.select_subgoal.Choice.{Choice}
-use Rattle.control.specs.SelectSubgoal.{goes-on, passes-for, begun, idle-by, passed-by, passed, select-from, select-subgoal, choice-means-by, choice-means, TablesMean, Noted, clause-of, Ended}
+use Rattle.control.specs.SelectSubgoal.{goes-on, passes-for, begun, idle-by, passed-by, passed, select-from, select-subgoal}
+use Rattle.control.specs.SelectSubgoal.{choice-means-by, choice-means, TablesMean, Noted, clause-of, Ended}
 use Rattle.control.proofs.SelectKnown.{busy, Waits, Going, needs, After, Setting, from, goes, Leads, idle-as, step}
 use Rattle.control.proofs.SelectPasses.{by-none, holds}
 use Rattle.control.proofs.SelectLiteral.{takes}

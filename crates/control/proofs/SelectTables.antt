@@ -21,15 +21,17 @@ use Rattle.split.specs.Decide.{or, no-table, table-of}
 use Rattle.split.proofs.Reading.{there-still, same-book}
 use Rattle.laws.proofs.Lists.{at-place}
 use Rattle.laws.proofs.All.{All, all-first, all-rest}
-use Rattle.book.specs.Access.{entry-by, entry}
-use Rattle.book.specs.View.{span}
-use Rattle.book.proofs.Spans.{span-length, span-ext}
+use Rattle.laws.proofs.Spans.{length-span, span-ext, map-span}
+use Rattle.laws.specs.Spans.{span}
+use Rattle.book.specs.Access.{entry}
+use Rattle.book.proofs.Looks.{entry-in}
 use Rattle.stores.specs.Numbers.{within, first-at, flag-at}
 use Rattle.stores.proofs.ListsSpans.{first-if, span-at, span-push}
 use Rattle.stores.proofs.NumbersCases.{flag-near}
 use Rattle.stores.proofs.NumbersSearch.{first-bound, position-from}
 use Rattle.control.specs.declared.select_subgoal.Made.{Made}
-use Rattle.control.specs.SelectSubgoal.{noted-count, table-by, table-number, floundered-by, table-floundered, strands-by, noted-down, noted-goals, TablesMean}
+use Rattle.control.specs.SelectSubgoal.{noted-count, table-by, table-number, floundered-by, table-floundered, strands-by, noted-down}
+use Rattle.control.specs.SelectSubgoal.{noted-goals, TablesMean}
 
 -- Laws of the search in a list.
 
@@ -62,10 +64,6 @@ module _ {A : Type 0} (test : A → Bool) where
       ap (λ (o : Option ℕ). elim (test (h x)) [ true ↦ some 0 | false ↦ elim o [ none ↦ none | some i ↦ some (suc i) ] ]) (position-map h l)
 
 module _ {A B : Type 0} (h : A → B) where
-  pub map-span : (g : ℕ → A) (s n : ℕ) → map h (span g s n) ≡ span (λ i. h (g i)) s n
-  map-span g s zero = refl
-  map-span g s (suc n) = ap (λ (l : List B). h (g s) ∷ l) (map-span g (suc s) n)
-
   -- a list by what stands at each place
   map-places : (g : ℕ → B) (s : ℕ) (l : List A) → ((i : ℕ) (a : A) → getElem? l i ≡ some a → h a ≡ g (s + i))
       → map h l ≡ span g s (length l)
@@ -146,7 +144,7 @@ module _ (f : Forest) (l : List ℕ) where
   pub length-noted : (n : ℕ) → length (with-made f (noted-down n l) .tables) ≡ length (f .tables) + n
   length-noted n =
       ap length (tables-noted n) ∙ length-append (f .tables) (span table-for 0 n)
-      ∙ ap (λ (k : ℕ). length (f .tables) + k) (span-length table-for 0 n)
+      ∙ ap (λ (k : ℕ). length (f .tables) + k) (length-span table-for 0 n)
 
   pub noted-there : (n j t : ℕ) → t ≡ length (f .tables) + j → j < n → table-of (with-made f (noted-down n l)) t ≡ table-for j
   noted-there n j t e h =
@@ -166,7 +164,7 @@ noted-each {P} (suc n) j l a h = at (ltb j n) refl (noted-each n j l (all-rest a
 module _ (goal floundered : List ℕ) (count : ℕ) (goal-flags goal-len : List ℕ) (f : Forest)
     (mean : TablesMean goal floundered count goal-flags goal-len f) where
   in-book : (g : ℕ) → g < length (f .book) → (l : List ℕ) → entry 64 l g ≡ getD l g 0
-  in-book g h l = ap (λ (b : Bool). entry-by b (getD l g 0)) (lt-ltb g 64 (omega (arith, mean .few-goals)))
+  in-book g h l = entry-in 64 l g (omega (arith, mean .few-goals))
 
   module _ (g : ℕ) (h : g < length (f .book)) where
     -- a new table has its goal's flag
@@ -280,7 +278,7 @@ module _ (goal floundered : List ℕ) (count : ℕ) (goal-flags goal-len : List 
           ∙ ap (position (λ x. eqb x g)) goals-are
           ∙ position-append (λ x. eqb x g) (span (λ i. getD goal i 0) 0 count) (span (λ j. getD (m .goals) j 0) 0 (m .count))
           ∙ ap (λ (n : ℕ). joined (position (λ x. eqb x g) (span (λ i. getD goal i 0) 0 count)) n
-          (position (λ x. eqb x g) (span (λ j. getD (m .goals) j 0) 0 (m .count)))) (span-length (λ i. getD goal i 0) 0 count)
+          (position (λ x. eqb x g) (span (λ j. getD (m .goals) j 0) 0 (m .count)))) (length-span (λ i. getD goal i 0) 0 count)
           ∙ ap₂ (λ (o p : Option ℕ). joined o count p) (position-is goal count) (position-is (m .goals) (m .count))
           ∙ found-by (first goal count) (first (m .goals) (m .count)) count (m .count) (bound goal count) (bound (m .goals) (m .count))
           ∙ ap (λ (t : ℕ). first-if (ltb t (count + m .count)) t) (sym number-is)

@@ -23,7 +23,9 @@ use strands::literals::no_floundered;
 use strands::literals::no_subgoals;
 use strands::within;
 ghost use mathlib.Core.Path.{_≡_};
-ghost use Rattle.control.specs.SelectSubgoal.{chosen, note, noted-at, table-number, table-floundered, live-with, selects, propagated, made-for, found-for, literal-taken, held-against, reconsidered, goes-on, passed, passes-for, select-subgoal};
+ghost use Rattle.control.specs.SelectSubgoal.{chosen, note, noted-at, table-number, table-floundered, live-with, selects};
+ghost use Rattle.control.specs.SelectSubgoal.{propagated, made-for, found-for, literal-taken, held-against, reconsidered};
+ghost use Rattle.control.specs.SelectSubgoal.{goes-on, passed, passes-for, select-subgoal};
 
 // The goals that tables are to be made for, in the order of making: each literal of a strand makes at most one.
 pub struct Made {

@@ -20,7 +20,8 @@ use Rattle.definitions.specs.Book.{add-clause, add-literal, literals-so-
 use Rattle.definitions.specs.Book.{literal-command, apply-command, whole-command, read-from, read, largest-book, read-ahead}
 use Rattle.definitions.specs.Book.{flag, write-literals, write-clauses, write-goals, write, ClausesWithin, GoalsWithin, Within}
 use Rattle.definitions.proofs.RoundTrip.{whole-apply}
-use Rattle.definitions.proofs.Book.{clause-count-goal, literals-so-far-goal, length-add-clause, clause-count-add-clause, Added, added}
+use Rattle.definitions.proofs.Book.{clause-count-goal, literals-so-far-goal, length-add-clause, clause-count-add-clause, Added}
+use Rattle.definitions.proofs.Book.{added}
 use Rattle.definitions.proofs.Refusal.{not-accepted, all-pass}
 use Rattle.laws.proofs.Bools.{not-zero}
 
@@ -108,7 +109,7 @@ same-command c (a ∷ b ∷ d ∷ e ∷ f ∷ rest) more book h =
     ∙ sym (whole-apply c (a ∷ b ∷ d ∷ e ∷ f ∷ rest) book (omega (arith, narrow c)))
 
 -- what reading does with the result of a command, the bytes behind it in hand
-abbrev go-on : Command → List ℕ → Refusable Book → Refusable Book
+abbrev pub go-on : Command → List ℕ → Refusable Book → Refusable Book
 go-on c after r = elim r [
   | refused n ↦ refused n
   | accepted next ↦ elim (is-end c) [ true ↦ accepted next | false ↦ read-from after (width c) next ]

@@ -20,7 +20,8 @@ use Rattle.definitions.specs.Book.{literals-so-far, literals-name, claus
 use Rattle.definitions.specs.Book.{apply-command, literal-command, whole-command, read-from, read}
 use Rattle.definitions.specs.Book.{write-literal, write-literals, write-clauses, write-goals, write}
 use Rattle.definitions.specs.Book.{LiteralsWithin, ClausesWithin, GoalsWithin, Within}
-use Rattle.definitions.proofs.Book.{clause-count-append, add-clause-last, add-to-last-last, last-literals-last, ends-in-clause, add-literal-last, literals-so-far-last}
+use Rattle.definitions.proofs.Book.{clause-count-append, add-clause-last, add-to-last-last, last-literals-last, ends-in-clause}
+use Rattle.definitions.proofs.Book.{add-literal-last, literals-so-far-last}
 
 -- Bytes.
 
@@ -124,7 +125,8 @@ module _ (gs : Book) (a b : Bool) (cs : List Clause) (v : ℕ) (p o : Bool) (ls 
       let c : Clause = clause-with v p o ls in
       let g : Goal = goal-with a b (cs ++ (c ∷ [])) in
       let has-clause : 0 < length (g .clauses) = omega (arith, length-append cs (c ∷ [])) in
-      let so-many : literals-so-far (so-far gs a b cs v p o ls) ≡ length ls = literals-so-far-last gs g has-clause ∙ last-literals-last cs c in
+      let so-many : literals-so-far (so-far gs a b cs v p o ls) ≡ length ls =
+      literals-so-far-last gs g has-clause ∙ last-literals-last cs c in
       unless-three _ _ _ 3 4 5 _ (ends-in-clause gs g has-clause) known
       (lt-leb 8 (literals-so-far (so-far gs a b cs v p o ls)) (omega arith))
       ∙ rw (add-literal-last l gs g has-clause, add-to-last-last l cs c)
@@ -132,12 +134,14 @@ module _ (gs : Book) (a b : Bool) (cs : List Clause) (v : ℕ) (p o : Bool) (ls 
   read-literal : (l : Literal) (rest : List ℕ) → length ls < 8
       → read-from (write-literal l ++ rest) 0 (so-far gs a b cs v p o ls) ≡ read-from rest 0 (so-far gs a b cs v p o (ls ++ (l ∷ [])))
   read-literal (Positive g w x) rest h =
-      read-command 0x50 (g % 256 ∷ g / 256 ∷ w % 256 ∷ w / 256 ∷ flag x ∷ rest) (so-far gs a b cs v p o ls) (so-far gs a b cs v p o (ls ++ (Positive g w x ∷ [])))
+      read-command 0x50 (g % 256 ∷ g / 256 ∷ w % 256 ∷ w / 256 ∷ flag x ∷ rest) (so-far gs a b cs v p o ls)
+      (so-far gs a b cs v p o (ls ++ (Positive g w x ∷ [])))
       (omega arith)
       (rw (two-bytes g, two-bytes w, bit-bit0 x) (literal-accepted (Positive g w x) (flag x) (bit-known x) h))
       refl
   read-literal (Negative g x) rest h =
-      read-command 0x4E (g % 256 ∷ g / 256 ∷ flag x ∷ rest) (so-far gs a b cs v p o ls) (so-far gs a b cs v p o (ls ++ (Negative g x ∷ []))) (omega arith)
+      read-command 0x4E (g % 256 ∷ g / 256 ∷ flag x ∷ rest) (so-far gs a b cs v p o ls) (so-far gs a b cs v p o (ls ++ (Negative g x ∷ [])))
+      (omega arith)
       (rw (two-bytes g, bit-bit0 x) (literal-accepted (Negative g x) (flag x) (bit-known x) h))
       refl
 

@@ -59,7 +59,8 @@ module _ (n : ℕ) (h : n ≤ 65536) where
         high (c .variant) (w .0 .variant-fits),
         (
           bits (c .cannot-prove) (c .outsized),
-          bytes-append (write-literals (c .literals)) (write-clauses cs) (literals-bytes (c .literals) (w .0 .literals-fit)) (clauses-bytes cs (w .1)),
+          bytes-append (write-literals (c .literals)) (write-clauses cs) (literals-bytes (c .literals) (w .0 .literals-fit))
+              (clauses-bytes cs (w .1)),
         ),
       ),
     ),

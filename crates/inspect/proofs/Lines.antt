@@ -1,6 +1,6 @@
 -- What the proofs of the loops over literals, clauses and goals cite: what is left to say, put down from where the pen is, is the same at
 -- each turn. Assumes nothing.
-use Prim.Native.Nat.{ℕ, zero, suc, _+_, _-_, _*_, _<_, _≤_}
+use Prim.Native.Nat.{ℕ, suc, _+_, _-_, _*_, _<_, _≤_}
 use native.Mathlib.Omega.{arith}
 use mathlib.Core.Bool.{Bool}
 use mathlib.Core.Path.{_≡_, sym, ap, _∙_}
@@ -12,11 +12,14 @@ use Rattle.definitions.specs.Refusal.{Refusable}
 use Rattle.definitions.specs.Book as Said
 use Rattle.definitions.specs.Book.{Literal, Clause, Goal, bit0, bit1}
 use Rattle.pen.specs.Pen.{Pen, put, put-all}
+use Rattle.laws.specs.Spans.{span}
 use Rattle.pen.proofs.Putting.{put-two, put-one, put-nothing, put-all-append}
 use Rattle.book.specs.declared.Book.{Book}
 use Rattle.book.specs.declared.Reading.{Reading}
-use Rattle.book.specs.View.{Sound, Tiles, span, clause-made, view, seen, seen-by}
-use Rattle.inspect.specs.Words.{before, literal-words, body-words, head-words, clause-words, clauses-words, goal-line, goal-words, goals-words, refusal-words, reading-words}
+use Rattle.book.specs.View.{Sound, clause-made, view, seen, seen-by}
+use Rattle.book.proofs.Held.{goal-within}
+use Rattle.inspect.specs.Words.{before, literal-words, body-words, head-words, clause-words, clauses-words, goal-line, goal-words}
+use Rattle.inspect.specs.Words.{goals-words, refusal-words, reading-words}
 
 -- one place less
 one-less : (n k : ℕ) → k < n → n - k ≡ suc (n - (k + 1))
@@ -173,26 +176,8 @@ goal-all g h p q r e f = put-two (goal-line g (h .coinductive) (h .floundered)) 
 
 -- The clauses of a goal are clauses of the book.
 
-tiles-up : (first len : List ℕ) (g n at end : ℕ) → Tiles first len g n at end → at ≤ end
-tiles-up first len g zero at end t = omega arith
-tiles-up first len g (suc n) at end t = omega (arith, tiles-up first len (suc g) n (at + getD len g 0) end (t .1))
-
-tile-in : (first len : List ℕ) (g n at end i : ℕ) → Tiles first len g n at end → i < n → getD first (g + i) 0 + getD len (g + i) 0 ≤ end
-tile-in first len g zero at end i t h = absurd (omega arith)
-tile-in first len g (suc n) at end zero t h =
-    let here : g + 0 ≡ g = omega arith in
-    rw here (omega (arith, tiles-up first len (suc g) n (at + getD len g 0) end (t .1)))
-tile-in first len g (suc n) at end (suc i) t h =
-    let later : g + suc i ≡ suc g + i = omega arith in
-    rw later (tile-in first len (suc g) n (at + getD len g 0) end i (t .1) (omega arith))
-
 pub clauses-in : (b : Book) (g : ℕ) → Sound b → g < b .goals → getD (b .«goal_first») g 0 + getD (b .«goal_len») g 0 ≤ 256
-clauses-in b g s h =
-    let plain : 0 + g ≡ g = omega arith in
-    let inside : getD (b .«goal_first») (0 + g) 0 + getD (b .«goal_len») (0 + g) 0 ≤ b .clauses =
-    tile-in (b .«goal_first») (b .«goal_len») 0 (b .goals) 0 (b .clauses) g (s .tiles) h in
-    let named : getD (b .«goal_first») g 0 + getD (b .«goal_len») g 0 ≤ b .clauses = rw plain at inside in
-    omega (arith, s .few-clauses)
+clauses-in b g s h = omega (arith, goal-within b (b .goals) g (s .tiles) h, s .few-clauses)
 
 -- What reading gave.
 
@@ -204,5 +189,6 @@ pub refused-said : (r : Reading) (p q : Pen) → (r .number ≡ 0 → ⊥) → q
     → q ≡ put-all (reading-words (seen r)) p
 refused-said r p q e f = f ∙ ap (λ (b : Bool). put-all (reading-words (seen-by b r)) p) (sym (ne-eqb (r .number) 0 e))
 
-pub read-said : (r : Reading) (b : Refusable Said.Book) (p q : Pen) → seen r ≡ b → q ≡ put-all (reading-words (seen r)) p → q ≡ put-all (reading-words b) p
+pub read-said : (r : Reading) (b : Refusable Said.Book) (p q : Pen) → seen r ≡ b → q ≡ put-all (reading-words (seen r)) p
+    → q ≡ put-all (reading-words b) p
 read-said r b p q e f = f ∙ ap (λ (x : Refusable Said.Book). put-all (reading-words x) p) e

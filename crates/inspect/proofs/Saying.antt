@@ -26,9 +26,11 @@ slashed-whole n v p q e f = rw (eq-eqb v 0 e, append-nil (decimal n)) f
 pub slashed-part : (n v : ℕ) (p q r s : Pen) → (v ≡ 0 → ⊥) → q ≡ put-all (decimal n) p → r ≡ put-all (ascii "/") q
     → s ≡ put-all (decimal v) r → s ≡ put-all (slashed n v) p
 unfolding slashed
-slashed-part n v p q r s e f g h = rw (ne-eqb v 0 e) (put-two (decimal n) (ascii "/" ++ decimal v) p q s f (put-two (ascii "/") (decimal v) q r s g h))
+slashed-part n v p q r s e f g h =
+    rw (ne-eqb v 0 e) (put-two (decimal n) (ascii "/" ++ decimal v) p q s f (put-two (ascii "/") (decimal v) q r s g h))
 
-pub name-not : (negative : Bool) (goal want : ℕ) (p q r : Pen) → negative ≡ true → q ≡ put-all (ascii "not ") p → r ≡ put-all (decimal goal) q
+pub name-not : (negative : Bool) (goal want : ℕ) (p q r : Pen) → negative ≡ true → q ≡ put-all (ascii "not ") p
+    → r ≡ put-all (decimal goal) q
     → r ≡ put-all (name-words negative goal want) p
 name-not negative goal want p q r e f g = rw e (put-two (ascii "not ") (decimal goal) p q r f g)
 
@@ -59,12 +61,14 @@ unfolding before
 before-next zero p q e f = absurd (e refl)
 before-next (suc j) p q e f = f
 
-pub head-said : (goal variant flags : ℕ) (a b : Bool) (p q r s : Pen) → a ≡ bit0 flags → b ≡ bit1 flags → q ≡ put-all (slashed goal variant) p
+pub head-said : (goal variant flags : ℕ) (a b : Bool) (p q r s : Pen) → a ≡ bit0 flags → b ≡ bit1 flags
+    → q ≡ put-all (slashed goal variant) p
     → r ≡ put-all (mark a (ascii " [cannot prove]")) q → s ≡ put-all (mark b (ascii " [outsized]")) r
     → s ≡ put-all (head-words goal variant (bit0 flags) (bit1 flags)) p
 unfolding head-words
 head-said goal variant flags a b p q r s e f g h i =
-    rw (← e, ← f) (put-two (slashed goal variant) _ p q s g (put-two (mark a (ascii " [cannot prove]")) (mark b (ascii " [outsized]")) q r s h i))
+    rw (← e, ← f) (put-two (slashed goal variant) _ p q s g
+    (put-two (mark a (ascii " [cannot prove]")) (mark b (ascii " [outsized]")) q r s h i))
 
 pub goal-said : (goal flags : ℕ) (a b : Bool) (p q r s t u : Pen) → a ≡ bit0 flags → b ≡ bit1 flags → q ≡ put-all (ascii "goal ") p
     → r ≡ put-all (decimal goal) q → s ≡ put-all (mark a (ascii " [coinductive]")) r → t ≡ put-all (mark b (ascii " [floundered]")) s

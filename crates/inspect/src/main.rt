@@ -34,8 +34,8 @@ fn input(bytes: &mut [u8]) -> Got
 
 // How an input is read is settled by its first 16,384 bytes (`read-take`, in the proofs of `definitions`): at most 13,440 bytes of commands
 // are accepted before one is refused or ends the book, and that one needs six at most. So what follows is not read.
-// The longest words are 54,784 bytes: 64 lines of at most 36 for the goals, 256 of at most 205 for the clauses. So they are all in the buffer
-// when it is written, and none are written before: whether they could be written is known.
+// The longest words are 54,784 bytes: 64 lines of at most 36 for the goals, 256 of at most 205 for the clauses. So they are all in the
+// buffer when it is written, and none are written before: whether they could be written is known.
 fn answer(bytes: &[u8]) {
     let mut out = io::large_buffer();
     let used = words::say(&mut out, bytes);

@@ -14,7 +14,9 @@ ghost use Prim.Native.Nat.{_<_};
 ghost use Rattle.definitions.specs.Book.{bit0 as bit0Of, bit1 as bit1Of, read as readBook};
 ghost use Rattle.pen.specs.Pen.{pen, put-all};
 ghost use Rattle.book.specs.View.{Sound, signed, clause-viewed, goal-viewed, view, seen};
-ghost use Rattle.inspect.specs.Words.{mark as markOf, slashed as slashedOf, name-words, literal-words, before, head-words, clause-words, clauses-words, goal-line as goalLine, goal-words, goals-words, sentence as sentenceOf, refusal-words, reading-words};
+ghost use Rattle.inspect.specs.Words.{mark as markOf, slashed as slashedOf, name-words, literal-words, before, head-words};
+ghost use Rattle.inspect.specs.Words.{clause-words, clauses-words, goal-line as goalLine, goal-words, goals-words};
+ghost use Rattle.inspect.specs.Words.{sentence as sentenceOf, refusal-words, reading-words};
 
 fn wide(n: u16) -> usize
     ensures { λ r. ⌜ (r ≡ n) × (r < 65536) ⌝ }
@@ -73,7 +75,8 @@ fn name(out: &mut [u8], at: usize, negative: bool, goal: u16, want: u16) -> usiz
 
 // The literal's kind has the mark in bit 0 and "not" in bit 1.
 fn literal(out: &mut [u8], at: usize, kind: u8, goal: u16, want: u16) -> usize
-    ensures { λ r. ⌜ pen (now (out .exit)) r ≡ put-all (literal-words (signed (bit1Of kind) goal want (bit0Of kind))) (pen (now (out .entry)) at) ⌝ }
+    ensures { λ r. ⌜ pen (now (out .exit)) r ≡ put-all (literal-words (signed (bit1Of kind) goal want (bit0Of kind)))
+        (pen (now (out .entry)) at) ⌝ }
 {
     let named = name(out, at, bit1(kind), goal, want);
     mark(out, named, bit0(kind), b" [outsized]")
@@ -90,7 +93,8 @@ fn between(out: &mut [u8], at: usize, j: usize) -> usize
 }
 
 fn head(out: &mut [u8], at: usize, goal: usize, variant: u16, flags: u8) -> usize
-    ensures { λ r. ⌜ pen (now (out .exit)) r ≡ put-all (head-words goal variant (bit0Of flags) (bit1Of flags)) (pen (now (out .entry)) at) ⌝ }
+    ensures { λ r. ⌜ pen (now (out .exit)) r ≡ put-all (head-words goal variant (bit0Of flags) (bit1Of flags))
+        (pen (now (out .entry)) at) ⌝ }
 {
     let named = slashed(out, at, goal, variant);
     let weak = mark(out, named, bit0(flags), b" [cannot prove]");

@@ -1,8 +1,8 @@
 -- A list with a function at each one: its length, its places, its first ones, and a place written.
-use Prim.Native.Nat.{ℕ, zero, suc, _<_}
+use Prim.Native.Nat.{ℕ, zero, suc, _≤_, _<_}
 use native.Mathlib.Omega.{arith}
 use mathlib.Core.Path.{_≡_, refl, sym, ap, _∙_}
-use mathlib.Core.Option.{some}
+use mathlib.Core.Option.{none, some}
 use mathlib.Core.List.{List, [], _∷_, map}
 use lib.ListN.{length, take, set, getD, getElem?, length-map}
 use Rattle.laws.proofs.Options.{no-such, same-some}
@@ -26,6 +26,11 @@ module _ {A B : Type 0} (f : A → B) where
   getElem?-map [] i d h = absurd (omega arith)
   getElem?-map (a ∷ l) zero d h = refl
   getElem?-map (a ∷ l) (suc i) d h = getElem?-map l i d (omega arith)
+
+  pub getElem?-map-past : (l : List A) (i : ℕ) → length l ≤ i → getElem? (map f l) i ≡ none
+  getElem?-map-past [] i h = refl
+  getElem?-map-past (a ∷ l) zero h = absurd (omega arith)
+  getElem?-map-past (a ∷ l) (suc i) h = getElem?-map-past l i (omega arith)
 
   -- what stands at a place comes from what stood there
   pub at-map : (l : List A) (i : ℕ) (b : B) → getElem? (map f l) i ≡ some b → (a : A) × (getElem? l i ≡ some a) × (f a ≡ b)

@@ -1,10 +1,11 @@
 -- Laws of `span`: f at n places from s on.
 use Prim.Native.Nat.{ℕ, zero, suc, _+_, _≤_, _<_}
 use native.Mathlib.Omega.{arith}
-use mathlib.Core.Path.{_≡_, refl, ap, _∙_}
-use mathlib.Core.List.{List, [], _∷_, _++_}
-use lib.ListN.{length, getD}
+use mathlib.Core.Path.{_≡_, refl, sym, ap, ap₂, subst, _∙_}
+use mathlib.Core.List.{List, [], _∷_, _++_, map}
+use lib.ListN.{length, take, getD}
 use Rattle.laws.specs.Spans.{span}
+use Rattle.laws.proofs.All.{All, all-first, all-rest}
 
 module _ {A : Type 0} where
   pub length-span : (f : ℕ → A) (s n : ℕ) → length (span f s n) ≡ n
@@ -33,3 +34,34 @@ module _ {A : Type 0} where
   getD-span f s (suc n) (suc i) d h =
       let e : suc s + i ≡ s + suc i = omega arith in
       getD-span f (suc s) n i d (omega arith) ∙ ap f e
+
+  pub take-span : (f : ℕ → A) (s m n : ℕ) → n ≤ m → take n (span f s m) ≡ span f s n
+  take-span f s zero zero h = refl
+  take-span f s (suc m) zero h = refl
+  take-span f s zero (suc n) h = absurd (omega arith)
+  take-span f s (suc m) (suc n) h = ap (λ (l : List A). f s ∷ l) (take-span f (suc s) m n (omega arith))
+
+  -- two spans that agree place by place
+  pub span-moved : (f g : ℕ → A) (s r n : ℕ) → ((j : ℕ) → j < n → f (s + j) ≡ g (r + j)) → span f s n ≡ span g r n
+  span-moved f g s r zero e = refl
+  span-moved f g s r (suc n) e =
+      let p : s + 0 ≡ s = omega arith in
+      let q : r + 0 ≡ r = omega arith in
+      ap₂ (λ (x : A) (l : List A). x ∷ l) (ap f (sym p) ∙ e 0 (omega arith) ∙ ap g q)
+      (span-moved f g (suc s) (suc r) n
+      (λ j h.
+      let i : suc s + j ≡ s + suc j = omega arith in
+      let k : r + suc j ≡ suc r + j = omega arith in
+      ap f i ∙ e (suc j) (omega arith) ∙ ap g k))
+
+  pub all-span : {P : A → Type 0} (f : ℕ → A) (s n j : ℕ) → All P (span f s n) → j < n → P (f (s + j))
+  all-span f s zero j a h = absurd (omega arith)
+  all-span {P} f s (suc n) zero a h = let p : s ≡ s + 0 = omega arith in subst (λ (i : ℕ). P (f i)) p (all-first a)
+  all-span {P} f s (suc n) (suc j) a h =
+      let p : suc s + j ≡ s + suc j = omega arith in
+      subst (λ (i : ℕ). P (f i)) p (all-span f (suc s) n j (all-rest a) (omega arith))
+
+module _ {A B : Type 0} (h : A → B) where
+  pub map-span : (g : ℕ → A) (s n : ℕ) → map h (span g s n) ≡ span (λ i. h (g i)) s n
+  map-span g s zero = refl
+  map-span g s (suc n) = ap (λ (l : List B). h (g s) ∷ l) (map-span g (suc s) n)

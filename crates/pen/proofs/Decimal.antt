@@ -48,7 +48,8 @@ less-one k = omega arith
 fewest-decimal : (n r : ℕ) → Fewest 10 1 n r → spelt 10 r n ≡ decimal n
 fewest-decimal n zero f = absurd (omega arith)
 fewest-decimal n (suc k) f =
-    sym (digits-spelt k n (suc n) [] (f .1) (λ h. subst (λ (m : ℕ). 10 ^ m ≤ n) (less-one k) (f .2 (omega arith))) (omega arith) ∙ append-nil (spelt 10 (suc k) n))
+    sym (digits-spelt k n (suc n) [] (f .1) (λ h. subst (λ (m : ℕ). 10 ^ m ≤ n) (less-one k) (f .2 (omega arith))) (omega arith)
+    ∙ append-nil (spelt 10 (suc k) n))
 
 pub put-number : (n r : ℕ) (text : List ℕ) (p q : Pen) → Fewest 10 1 n r → text ≡ spelt 10 r n → q ≡ put-all text p
     → q ≡ put-all (decimal n) p

@@ -1,4 +1,4 @@
--- Laws of "all of a list", of how often a number stands in a list, and of the two with `filter`, `++` and `set`: distinct is "at most
+-- Laws of how often a number stands in a list, and of what holds of all of a list, with `filter`, `++` and `set`: distinct is "at most
 -- once".
 use Prim.Native.Nat.{ℕ, zero, suc, _+_, _≤_, _<_}
 use native.Mathlib.Omega.{arith}
@@ -9,7 +9,8 @@ use lib.ListN.{length, take, drop, getD, set}
 use lib.Seq.{getD-set-other, split-at}
 use lib.Dec.{eqb}
 use borrow.Author.Tests.{eq-eqb, ne-eqb, eqb-true, eqb-false}
-use Rattle.rings.specs.Lists.{stop, first-index, one, times, All}
+use Rattle.laws.proofs.All.{All, end, more, all-first, all-rest, all-map}
+use Rattle.rings.specs.Lists.{stop, first-index, one, times}
 use Rattle.rings.proofs.Laws.{keep, filter, filter-count}
 
 pub true-false : {X : Type 0} (b : Bool) → b ≡ true → b ≡ false → X
@@ -25,44 +26,26 @@ is-or-not t P here there u = go (eqb u t) refl
     go false e = there u (eqb-false u t e)
 
 module _ {A : Type 0} where
-  pub all-map : {P Q : A → Type 0} → ((x : A) → P x → Q x) → (l : List A) → All P l → All Q l
-  all-map h [] a = tt
-  all-map h (x ∷ l) a = (h x (a .0), all-map h l (a .1))
-
-  pub all-append : (P : A → Type 0) (l m : List A) → All P l → All P m → All P (l ++ m)
-  all-append P [] m a b = b
-  all-append P (x ∷ l) m a b = (a .0, all-append P l m (a .1) b)
-
-  pub all-take : (P : A → Type 0) (n : ℕ) (l : List A) → All P l → All P (take n l)
-  all-take P zero l a = tt
-  all-take P (suc n) [] a = tt
-  all-take P (suc n) (x ∷ l) a = (a .0, all-take P n l (a .1))
-
-  pub all-drop : (P : A → Type 0) (n : ℕ) (l : List A) → All P l → All P (drop n l)
-  all-drop P zero l a = a
-  all-drop P (suc n) [] a = tt
-  all-drop P (suc n) (x ∷ l) a = all-drop P n l (a .1)
-
   all-keep : (P : A → Type 0) (b : Bool) (x : A) (l : List A) → (b ≡ true → P x) → All P l → All P (keep b x l)
-  all-keep P true x l h a = (h refl, a)
+  all-keep P true x l h a = more (h refl) a
   all-keep P false x l h a = a
 
   pub all-filter : (f : A → Bool) (l : List A) → All (λ x. f x ≡ true) (filter f l)
-  all-filter f [] = tt
+  all-filter f [] = end
   all-filter f (x ∷ l) = all-keep (λ y. f y ≡ true) (f x) x (filter f l) (λ e. e) (all-filter f l)
 
   -- a test that all pass keeps all; one that none passes keeps none; two that agree keep the same
   pub filter-all : (f : A → Bool) (l : List A) → All (λ x. f x ≡ true) l → filter f l ≡ l
   filter-all f [] a = refl
-  filter-all f (x ∷ l) a = ap₂ (λ (b : Bool) (m : List A). keep b x m) (a .0) (filter-all f l (a .1))
+  filter-all f (x ∷ l) a = ap₂ (λ (b : Bool) (m : List A). keep b x m) (all-first a) (filter-all f l (all-rest a))
 
   pub filter-none : (f : A → Bool) (l : List A) → All (λ x. f x ≡ false) l → filter f l ≡ []
   filter-none f [] a = refl
-  filter-none f (x ∷ l) a = ap₂ (λ (b : Bool) (m : List A). keep b x m) (a .0) (filter-none f l (a .1))
+  filter-none f (x ∷ l) a = ap₂ (λ (b : Bool) (m : List A). keep b x m) (all-first a) (filter-none f l (all-rest a))
 
   pub filter-cong : (f g : A → Bool) (l : List A) → All (λ x. f x ≡ g x) l → filter f l ≡ filter g l
   filter-cong f g [] a = refl
-  filter-cong f g (x ∷ l) a = ap₂ (λ (b : Bool) (m : List A). keep b x m) (a .0) (filter-cong f g l (a .1))
+  filter-cong f g (x ∷ l) a = ap₂ (λ (b : Bool) (m : List A). keep b x m) (all-first a) (filter-cong f g l (all-rest a))
 
   within-keep : (f g : A → Bool) (b c : Bool) (x : A) (l m : List A) → g x ≡ b → f x ≡ c → (f x ≡ true → g x ≡ true)
       → filter f l ≡ m → filter f (keep b x l) ≡ keep c x m
@@ -75,13 +58,9 @@ module _ {A : Type 0} where
   filter-within f g [] h = refl
   filter-within f g (x ∷ l) h = within-keep f g (g x) (f x) x (filter g l) (filter f l) refl refl (h x) (filter-within f g l h)
 
-  pub map-append : {B : Type 0} (f : A → B) (l m : List A) → map f (l ++ m) ≡ map f l ++ map f m
-  map-append {B} f [] m = refl
-  map-append {B} f (x ∷ l) m = ap (λ (k : List B). f x ∷ k) (map-append f l m)
-
   pub map-cong : {B : Type 0} (f g : A → B) (l : List A) → All (λ x. f x ≡ g x) l → map f l ≡ map g l
   map-cong {B} f g [] a = refl
-  map-cong {B} f g (x ∷ l) a = ap₂ (λ (y : B) (m : List B). y ∷ m) (a .0) (map-cong f g l (a .1))
+  map-cong {B} f g (x ∷ l) a = ap₂ (λ (y : B) (m : List B). y ∷ m) (all-first a) (map-cong f g l (all-rest a))
 
 pub times-append : (p : ℕ) (l m : List ℕ) → times p (l ++ m) ≡ times p l + times p m
 times-append p [] m = omega arith
@@ -91,6 +70,9 @@ times-append p (x ∷ l) m =
 
 pub times-self : (p : ℕ) → one (eqb p p) ≡ 1
 times-self p = ap one (eq-eqb p p refl)
+
+pub times-first : (p : ℕ) (l : List ℕ) → 1 ≤ times p (p ∷ l)
+times-first p l = omega (arith, times-self p)
 
 times-keep : (p : ℕ) (b : Bool) (x : ℕ) (l m : List ℕ) (n : ℕ) → times p l + times p m ≡ n
     → times p (keep b x l) + times p (keep (not b) x m) ≡ one (eqb p x) + n
@@ -107,25 +89,25 @@ times-filter p f l = omega (arith, times-parts p f l)
 
 -- absent, as "all others"
 pub absent-all : (p : ℕ) (l : List ℕ) → times p l ≡ 0 → All (λ x. x ≡ p → ⊥) l
-absent-all p [] e = tt
+absent-all p [] e = end
 absent-all p (x ∷ l) e =
-    (λ q. let h : one (eqb p x) ≡ 1 = ap one (eq-eqb p x (sym q)) in omega arith, absent-all p l (omega arith))
+    more (λ q. let h : one (eqb p x) ≡ 1 = ap one (eq-eqb p x (sym q)) in omega arith) (absent-all p l (omega arith))
 
 pub all-absent : (p : ℕ) (l : List ℕ) → All (λ x. x ≡ p → ⊥) l → times p l ≡ 0
 all-absent p [] a = refl
 all-absent p (x ∷ l) a =
-    let h : one (eqb p x) ≡ 0 = ap one (ne-eqb p x (λ e. a .0 (sym e))) in
-    let i : times p l ≡ 0 = all-absent p l (a .1) in
+    let h : one (eqb p x) ≡ 0 = ap one (ne-eqb p x (λ e. all-first a (sym e))) in
+    let i : times p l ≡ 0 = all-absent p l (all-rest a) in
     omega arith
 
 pub times-none : (p : ℕ) (f : ℕ → Bool) (l : List ℕ) → f p ≡ false → times p (filter f l) ≡ 0
-times-none p f l e = all-absent p (filter f l) (all-map (λ x t q. true-false (f x) t (ap f q ∙ e)) (filter f l) (all-filter f l))
+times-none p f l e = all-absent p (filter f l) (all-map (λ x t q. true-false (f x) t (ap f q ∙ e)) (all-filter f l))
 
 -- a write to a place that is not in a list of places leaves what stands at the places of the list
 pub map-away : {A : Type 0} (st : List A) (p : ℕ) (s d : A) (l : List ℕ) → times p l ≡ 0
     → map (λ x. getD (set st p s) x d) l ≡ map (λ x. getD st x d) l
 map-away st p s d l e =
-    map-cong (λ x. getD (set st p s) x d) (λ x. getD st x d) l (all-map (λ x n. getD-set-other st p x s d n) l (absent-all p l e))
+    map-cong (λ x. getD (set st p s) x d) (λ x. getD st x d) l (all-map (λ x n. getD-set-other st p x s d n) (absent-all p l e))
 
 -- taken out at j
 pub times-out : (p : ℕ) (l : List ℕ) (j : ℕ) → j < length l → times p (drop (suc j) l ++ take j l) + one (eqb p (getD l j 0)) ≡ times p l
@@ -169,9 +151,9 @@ module _ {A : Type 0} where
 
   first-step : (f : A → Bool) (d x : A) (l : List A) (b : Bool) → f x ≡ b → First f l (first-index f l) d
       → First f (x ∷ l) (stop b (first-index f l)) d
-  first-step f d x l true e h = (tt, λ k. e)
-  first-step f d x l false e h = ((e, h .0), λ k. h .1 (omega arith))
+  first-step f d x l true e h = (end, λ k. e)
+  first-step f d x l false e h = (more e (h .0), λ k. h .1 (omega arith))
 
   pub first : (f : A → Bool) (l : List A) (d : A) → First f l (first-index f l) d
-  first f [] d = (tt, λ k. absurd (omega arith))
+  first f [] d = (end, λ k. absurd (omega arith))
   first f (x ∷ l) d = first-step f d x l (f x) refl (first f l d)

@@ -47,7 +47,3 @@ module _ {A : Type 0} where
       let s : getD (drop i l) 0 d ≡ getD l (i + 0) d = getD-drop i l 0 d in
       let t : getD (drop i m) 0 d ≡ getD m (i + 0) d = getD-drop i m 0 d in
       rw (← add-zero i) (sym s ∙ ap (λ (k : List A). getD k 0 d) e ∙ t)
-
-pub not-not : (b : Bool) → not (not b) ≡ b
-not-not true = refl
-not-not false = refl

@@ -11,8 +11,8 @@ use borrow.Author.Tests.{le-ltb, eq-eqb, ne-eqb}
 use Rattle.rings.specs.Lists.{times, Full}
 use Rattle.rings.specs.Rings.{joined-by, joined, walk, ring-of, RingMoved, moved-next, moved-tail, Chain, RingSound}
 use Rattle.rings.proofs.Counts.{is-or-not, times-append, pigeons}
-use Rattle.rings.proofs.Walks.{chain-walk, chain-last, ring-frame, ring-splice}
-use Rattle.rings.proofs.RingViews as views
+use Rattle.rings.proofs.Walks.{ring-size, chain-walk, chain-last, ring-frame, ring-splice}
+use Rattle.rings.proofs.RingViews.{below}
 
 -- two queues have room together
 joined-within : (k m : ℕ) → k ≤ 256 → m ≤ 256 → joined k m ≡ k + m
@@ -22,12 +22,6 @@ module _ (next tail len : List ℕ) (top : ℕ) (sound : RingSound next tail len
   -- the queue of a table, as it was
   abbrev q : ℕ → List ℕ
   q u = ring-of next tail len u
-
-  below : (t p : ℕ) → 1 ≤ times p (q t) → p < 256
-  below = views.below next tail len top sound
-
-  size : (t : ℕ) → length (q t) ≡ getD len t 0
-  size = views.size next tail len top sound
 
   -- MOVE: f's queue goes behind g's
   module _ (f g : ℕ) (n : g ≡ f → ⊥) (hf : f < 256) (hg : g < 256) (n′ t′ l′ : List ℕ) (did : RingMoved next tail len f g n′ t′ l′) where
@@ -46,7 +40,15 @@ module _ (next tail len : List ℕ) (top : ℕ) (sound : RingSound next tail len
     small-both x h = omega (arith, both x, sound .small g x h, sound .small f x h)
 
     room-both : getD len g 0 + getD len f 0 ≤ 256
-    room-both = omega (arith, pigeons top (q g ++ q f) once-both small-both, sound .room, length-append (q g) (q f), size g, size f)
+    room-both =
+        omega (
+          arith,
+          pigeons top (q g ++ q f) once-both small-both,
+          sound .room,
+          length-append (q g) (q f),
+          ring-size next tail len g,
+          ring-size next tail len f,
+        )
 
     lens : l′ ≡ set (set len f 0) g (getD len g 0 + getD len f 0)
     lens = did .size ∙ ap (set (set len f 0) g) (joined-within (getD len g 0) (getD len f 0) (omega (arith, room-both))
@@ -56,7 +58,7 @@ module _ (next tail len : List ℕ) (top : ℕ) (sound : RingSound next tail len
     len-g =
         let h : g < length (set len f 0) = omega (arith, length-set len f 0, sound .long-len) in
         ap (λ (l : List ℕ). getD l g 0) lens ∙ getD-set-same (set len f 0) g (getD len g 0 + getD len f 0) 0 h
-        ∙ omega (arith, length-append (q g) (q f), size g, size f)
+        ∙ omega (arith, length-append (q g) (q f), ring-size next tail len g, ring-size next tail len f)
 
     len-f : getD l′ f 0 ≡ 0
     len-f = ap (λ (l : List ℕ). getD l f 0) lens ∙ getD-set-other (set len f 0) g f (getD len g 0 + getD len f 0) 0 (λ e. n (sym e))
@@ -76,10 +78,10 @@ module _ (next tail len : List ℕ) (top : ℕ) (sound : RingSound next tail len
     rings = rw (did .links, did .ends) (go (q f) refl (q g) refl)
       where
         zero-of : (t : ℕ) → q t ≡ [] → eqb (getD len t 0) 0 ≡ true
-        zero-of t i = eq-eqb (getD len t 0) 0 (sym (size t) ∙ ap length i)
+        zero-of t i = eq-eqb (getD len t 0) 0 (sym (ring-size next tail len t) ∙ ap length i)
 
         some-of : (t x : ℕ) (l : List ℕ) → q t ≡ x ∷ l → eqb (getD len t 0) 0 ≡ false
-        some-of t x l i = ne-eqb (getD len t 0) 0 (λ e. omega (arith, size t, ap length i, e))
+        some-of t x l i = ne-eqb (getD len t 0) 0 (λ e. omega (arith, ring-size next tail len t, ap length i, e))
 
         go : (l : List ℕ) → q f ≡ l → (m : List ℕ) → q g ≡ m
             → Rings (moved-next (eqb (getD len f 0) 0) (eqb (getD len g 0) 0) next (getD tail f 0) (getD tail g 0))
@@ -97,8 +99,8 @@ module _ (next tail len : List ℕ) (top : ℕ) (sound : RingSound next tail len
               rw (i, k) (ring-splice next (getD tail f 0) (getD tail g 0) x y l m cf cg
                   (rw k at (sound .apart f g (getD tail f 0) n inf)) (rw i at (sound .apart g f (getD tail g 0) (λ e. n (sym e)) ing))
                   (rw i at (sound .once f (getD tail f 0))) (rw k at (sound .once g (getD tail g 0)))
-                  (omega (arith, sound .long-next, below f (getD tail f 0) inf))
-                  (omega (arith, sound .long-next, below g (getD tail g 0) ing))),
+                  (omega (arith, sound .long-next, below next tail len top sound f (getD tail f 0) inf))
+                  (omega (arith, sound .long-next, below next tail len top sound g (getD tail g 0) ing))),
               λ u a b. ring-frame (set next (getD tail f 0) (getD next (getD tail g 0) 0)) (getD tail g 0) (getD next (getD tail f 0) 0)
                   (getD tail u 0) (q u)
                   (ring-frame next (getD tail f 0) (getD next (getD tail g 0) 0) (getD tail u 0) (q u) (sound .closed u)
@@ -123,7 +125,7 @@ module _ (next tail len : List ℕ) (top : ℕ) (sound : RingSound next tail len
     pub ring-move-other : (u : ℕ) → (u ≡ g → ⊥) → (u ≡ f → ⊥) → ring-of n′ t′ l′ u ≡ q u
     unfolding Rings
     ring-move-other u a b =
-        ap₂ (λ (m x : ℕ). walk m n′ x) (len-u u a b ∙ sym (size u)) (tail-u u a)
+        ap₂ (λ (m x : ℕ). walk m n′ x) (len-u u a b ∙ sym (ring-size next tail len u)) (tail-u u a)
         ∙ chain-walk n′ (getD tail u 0) (q u) (getD tail u 0) (rings .1 u a b)
 
     -- what holds of the three kinds of queue holds of all

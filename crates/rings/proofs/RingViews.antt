@@ -1,18 +1,19 @@
 -- What taking and enqueueing do to the tables' queues, and that `RingSound` is kept: theorems over the models, no code in sight.
-use Prim.Native.Nat.{ℕ, zero, suc, _+_, _-_, _≤_, _<_}
+use Prim.Native.Nat.{ℕ, suc, _+_, _-_, _≤_, _<_}
 use native.Mathlib.Omega.{arith}
 use mathlib.Core.Path.{_≡_, refl, sym, ap, ap₂, subst, _∙_}
 use mathlib.Core.Bool.{Bool, true, false}
-use mathlib.Core.List.{List, [], _∷_, _++_, map}
+use mathlib.Core.List.{List, [], _∷_, _++_, map, map-append}
 use lib.ListN.{length, take, drop, getD, set, length-set, length-append, length-drop, replicate, length-replicate}
 use lib.Seq.{getD-set-other, getD-set-same, length-take-le, split-at}
 use lib.Dec.{eqb, ltb}
 use borrow.Author.Tests.{ne-eqb, eqb-true, eqb-false, lt-ltb, ltb-true, ltb-false}
+use Rattle.laws.proofs.Lists.{getD-zeros}
 use Rattle.rings.specs.Lists.{one, times, grown, turned, Full}
 use Rattle.rings.specs.Rings.{walk, end, ring-of, held-at, unlinked, shortened, Chain, RingSound, linked-at, linked, lengthened}
-use Rattle.rings.proofs.Counts.{is-or-not, map-append, map-away, times-append, times-self, times-out, pigeons}
+use Rattle.rings.proofs.Counts.{is-or-not, map-away, times-append, times-self, times-out, pigeons}
 use Rattle.rings.proofs.Walks.{
-  length-walk,
+  ring-size,
   walk-at,
   chain-walk,
   chain-join,
@@ -26,13 +27,8 @@ use Rattle.rings.proofs.Walks.{
 }
 
 -- THE START: every queue is empty, and no place was used
-none-at : (n t : ℕ) → _≡_ {A = ℕ} (getD (replicate n 0) t 0) 0
-none-at zero t = refl
-none-at (suc n) zero = refl
-none-at (suc n) (suc t) = none-at n t
-
 pub ring-start : (t : ℕ) (next tail : List ℕ) → ring-of next tail (replicate 256 0) t ≡ []
-ring-start t next tail = ap (λ (m : ℕ). walk m next (getD tail t 0)) (none-at 256 t)
+ring-start t next tail = ap (λ (m : ℕ). walk m next (getD tail t 0)) (getD-zeros 256 t)
 
 pub ring-start-sound : RingSound (replicate 256 0) (replicate 256 0) (replicate 256 0) 0
 ring-start-sound = record {
@@ -60,9 +56,6 @@ module _ (next tail len : List ℕ) (top : ℕ) (sound : RingSound next tail len
 
   pub below : (t p : ℕ) → 1 ≤ times p (q t) → p < 256
   below t p h = omega (arith, below-top t p h, sound .room)
-
-  pub size : (t : ℕ) → length (q t) ≡ getD len t 0
-  size t = length-walk (getD len t 0) next (getD tail t 0)
 
   -- the first place that was never used is free for the taking
   pub ring-fresh-top : top < 256 → RingSound next tail len (top + 1) × ((u : ℕ) → times top (q u) ≡ 0)
@@ -102,7 +95,7 @@ module _ (next tail len : List ℕ) (top : ℕ) (sound : RingSound next tail len
 
     -- the place that is taken is behind b
     behind : getD next b 0 ≡ p
-    behind = sym (walk-at (getD len t 0) next (getD tail t 0) j (omega (arith, size t)))
+    behind = sym (walk-at (getD len t 0) next (getD tail t 0) j (omega (arith, ring-size next tail len t)))
 
     whole : Chain next (getD tail t 0) (take j (q t) ++ (p ∷ drop (suc j) (q t))) (getD tail t 0)
     whole = subst (λ (l : List ℕ). Chain next (getD tail t 0) l (getD tail t 0)) (split-at (q t) j 0 has) (sound .closed t)
@@ -130,7 +123,8 @@ module _ (next tail len : List ℕ) (top : ℕ) (sound : RingSound next tail len
     len-t =
         let d : length (drop (suc j) (q t)) ≡ length (q t) - suc j = length-drop (suc j) (q t) in
         let k : length (take j (q t)) ≡ j = length-take-le j (q t) (omega arith) in
-        let e : length rest ≡ getD len t 0 - 1 = omega (arith, length-append (drop (suc j) (q t)) (take j (q t)), size t) in
+        let e : length rest ≡ getD len t 0 - 1 =
+        omega (arith, length-append (drop (suc j) (q t)) (take j (q t)), ring-size next tail len t) in
         getD-set-same len t (getD len t 0 - 1) 0 (omega (arith, sound .long-len)) ∙ sym e
 
     pub ring-unlink-own : ring-of next′ tail′ len′ t ≡ rest
@@ -145,7 +139,7 @@ module _ (next tail len : List ℕ) (top : ℕ) (sound : RingSound next tail len
 
       pub ring-unlink-other : ring-of next′ tail′ len′ u ≡ q u
       ring-unlink-other =
-          ap₂ (λ (m a : ℕ). walk m next′ a) (getD-set-other len t u (getD len t 0 - 1) 0 n ∙ sym (size u)) other-tail
+          ap₂ (λ (m a : ℕ). walk m next′ a) (getD-set-other len t u (getD len t 0 - 1) 0 n ∙ sym (ring-size next tail len u)) other-tail
           ∙ chain-walk next′ (getD tail u 0) (q u) (getD tail u 0) other-ring
 
     fewer : (u x : ℕ) → times x (ring-of next′ tail′ len′ u) ≤ times x (q u)
@@ -201,15 +195,15 @@ module _ (next tail len : List ℕ) (top : ℕ) (sound : RingSound next tail len
     once-e x = omega (arith, counts-e x, once-more x (eqb x p) refl)
 
     room : getD len t 0 < 256
-    room = omega (arith, pigeons top (q t ++ (p ∷ [])) once-e small-e, sound .room, length-append (q t) (p ∷ []), size t)
+    room = omega (arith, pigeons top (q t ++ (p ∷ [])) once-e small-e, sound .room, length-append (q t) (p ∷ []), ring-size next tail len t)
 
     ring-e : Chain next-e p (q t ++ (p ∷ [])) p
     ring-e = go (eqb (getD len t 0) 0) refl (q t) refl
       where
         go : (b : Bool) → eqb (getD len t 0) 0 ≡ b → (l : List ℕ) → q t ≡ l → Chain next-e p (q t ++ (p ∷ [])) p
         go true e [] i = rw (i, e) (getD-set-same next p p 0 (omega (arith, sound .long-next, sound .room)), refl)
-        go true e (x ∷ l) i = absurd (omega (arith, size t, ap length i, eqb-true (getD len t 0) 0 e))
-        go false e [] i = absurd (eqb-false (getD len t 0) 0 e (sym (size t) ∙ ap length i))
+        go true e (x ∷ l) i = absurd (omega (arith, ring-size next tail len t, ap length i, eqb-true (getD len t 0) 0 e))
+        go false e [] i = absurd (eqb-false (getD len t 0) 0 e (sym (ring-size next tail len t) ∙ ap length i))
         go false e (x ∷ l) i =
             let c : Chain next (getD tail t 0) (x ∷ l) (getD tail t 0) = rw i at (sound .closed t) in
             let h : 1 ≤ times (getD tail t 0) (q t) = rw i (chain-last next (getD tail t 0) x l (getD tail t 0) c) in
@@ -224,7 +218,7 @@ module _ (next tail len : List ℕ) (top : ℕ) (sound : RingSound next tail len
         let g : grown (ltb (getD len t 0) 256) (getD len t 0) ≡ getD len t 0 + 1 = ap (λ (b : Bool). grown b (getD len t 0))
         (lt-ltb (getD len t 0) 256 room) in
         getD-set-same len t (grown (ltb (getD len t 0) 256) (getD len t 0)) 0 (omega (arith, sound .long-len))
-        ∙ omega (arith, g, length-append (q t) (p ∷ []), size t)
+        ∙ omega (arith, g, length-append (q t) (p ∷ []), ring-size next tail len t)
 
     pub ring-enqueue-own : ring-of next-e tail-e len-e t ≡ q t ++ (p ∷ [])
     ring-enqueue-own = ap₂ (λ (m a : ℕ). walk m next-e a) len-e-t tail-e-t ∙ chain-walk next-e p (q t ++ (p ∷ [])) p ring-e
@@ -238,7 +232,7 @@ module _ (next tail len : List ℕ) (top : ℕ) (sound : RingSound next tail len
         where
           go : (b : Bool) → eqb (getD len t 0) 0 ≡ b → (l : List ℕ) → q t ≡ l → Chain next-e (getD tail u 0) (q u) (getD tail u 0)
           go true e l i = rw e (ring-frame next p p (getD tail u 0) (q u) (sound .closed u) (fresh u))
-          go false e [] i = absurd (eqb-false (getD len t 0) 0 e (sym (size t) ∙ ap length i))
+          go false e [] i = absurd (eqb-false (getD len t 0) 0 e (sym (ring-size next tail len t) ∙ ap length i))
           go false e (x ∷ l) i =
               let c : Chain next (getD tail t 0) (x ∷ l) (getD tail t 0) = rw i at (sound .closed t) in
               let h : 1 ≤ times (getD tail t 0) (q t) = rw i (chain-last next (getD tail t 0) x l (getD tail t 0) c) in
@@ -248,7 +242,8 @@ module _ (next tail len : List ℕ) (top : ℕ) (sound : RingSound next tail len
 
       pub ring-enqueue-other : ring-of next-e tail-e len-e u ≡ q u
       ring-enqueue-other =
-          ap₂ (λ (m a : ℕ). walk m next-e a) (getD-set-other len t u (grown (ltb (getD len t 0) 256) (getD len t 0)) 0 n ∙ sym (size u))
+          ap₂ (λ (m a : ℕ). walk m next-e a) (getD-set-other len t u (grown (ltb (getD len t 0) 256) (getD len t 0)) 0 n ∙ sym
+          (ring-size next tail len u))
           tail-e-u
           ∙ chain-walk next-e (getD tail u 0) (q u) (getD tail u 0) ring-e-u
 

@@ -30,6 +30,10 @@ pub length-walk : (m : ℕ) (next : List ℕ) (a : ℕ) → length (walk m next 
 length-walk zero next a = refl
 length-walk (suc m) next a = ap suc (length-walk m next (getD next a 0))
 
+-- a queue is as long as its number says
+pub ring-size : (next tail len : List ℕ) (t : ℕ) → length (ring-of next tail len t) ≡ getD len t 0
+ring-size next tail len t = length-walk (getD len t 0) next (getD tail t 0)
+
 pub end-append : (a : ℕ) (l m : List ℕ) → end a (l ++ m) ≡ end (end a l) m
 end-append a [] m = refl
 end-append a (x ∷ l) m = end-append x l m

@@ -25,12 +25,6 @@ abbrev pub times : ℕ → List ℕ → ℕ
 times x [] = 0
 times x (y ∷ l) = one (eqb x y) + times x l
 
-module _ {A : Type 0} where
-  -- all of a list
-  abbrev pub All : (A → Type 0) → List A → Type 0
-  All P [] = Unit {0}
-  All P (x ∷ l) = P x × All P l
-
 -- a queue without the one at j: those behind it, and then those before it
 module _ {A : Type 0} where
   abbrev pub turned : ℕ → List A → List A

@@ -11,7 +11,8 @@ use Rattle.definitions.specs.Fitting.{is-trivial, is-outsized}
 use Rattle.definitions.specs.Stop.{Stops, go, _>>=_, unwrap}
 use Rattle.definitions.specs.Lists.{is-empty, push}
 use Rattle.definitions.specs.Strand.{Strand}
-use Rattle.definitions.specs.Table.{Table, with-strands, with-answers, take-strands, enqueue-strand, mark-floundered, equal-answer, most-answers, answer}
+use Rattle.definitions.specs.Table.{Table, with-strands, with-answers, take-strands, enqueue-strand, mark-floundered, equal-answer}
+use Rattle.definitions.specs.Table.{most-answers, answer}
 use Rattle.definitions.specs.Tables.{Forest, with-tables, table-at, change-table, held}
 use Rattle.definitions.specs.Stack.{StackEntry, Stack, with-active, caller, no-caller}
 use Rattle.definitions.specs.Logic.{QuantumExceeded, SolveState, Flow, continue, return-ok, return-err, activate, unwound}
@@ -19,10 +20,12 @@ use Rattle.definitions.specs.Turn.{other-than, pursue-answer, create-refinement
 use Rattle.laws.proofs.Lists.{last-one, set-here}
 use Rattle.asserts.proofs.Keeping.{table-is, change-is}
 use Rattle.asserts.proofs.Safe.{unwraps}
+use Rattle.asserts.proofs.States.{state}
 use Rattle.split.specs.Acts.{Deed, gives-up, flounders, answers, stored, answered, perform-deed, changed, top-table}
 use Rattle.split.specs.Decide.{table-of, decide-answer, decide-no-remaining}
-use Rattle.split.proofs.Matches.{Matches, asserts, both-go, Goes, asserting, going, goes-after, then, sure, by-option, guard, assert, by-bool}
-use Rattle.split.proofs.Writing.{state, changes, changed-is, enqueues, unwinds-up, heads, after-table}
+use Rattle.split.proofs.Matches.{Matches, asserts, both-go, Goes, asserting, going, goes-after, then, sure, by-option, guard, assert}
+use Rattle.split.proofs.Matches.{by-bool}
+use Rattle.split.proofs.Writing.{changes, changed-is, enqueues, unwinds-up, heads, after-table}
 use Rattle.split.proofs.Deeds.{Does}
 
 -- the new answer is the last one

@@ -16,11 +16,15 @@ use Rattle.definitions.specs.Strand.{SelectedSubgoal, Strand, with-ex-clause, w
 use Rattle.definitions.specs.Table.{Table, new, with-strands, take-strands, mark-floundered}
 use Rattle.definitions.specs.Tables.{Tables, Forest, with-tables, insert-table, index-of, queued, held}
 use Rattle.definitions.specs.Slg.{next-subgoal-index}
-use Rattle.definitions.specs.Logic.{SubGoalSelection, Selected, NotSelected, Selection, selecting, most-strands, initial-strand, build-table, flounder-subgoal, reconsider-floundered-subgoals, propagate-floundered-subgoal, get-or-create-table-for-subgoal, select-from}
+use Rattle.definitions.specs.Logic.{SubGoalSelection, Selected, NotSelected, Selection, selecting, most-strands, initial-strand}
+use Rattle.definitions.specs.Logic.{build-table, flounder-subgoal, reconsider-floundered-subgoals, propagate-floundered-subgoal}
+use Rattle.definitions.specs.Logic.{get-or-create-table-for-subgoal, select-from}
 use Rattle.laws.proofs.Totals.{total-append}
 use Rattle.split.specs.Acts.{built, with-made}
-use Rattle.split.specs.Decide.{no-literal, no-table, literal-at, with-literal-floundered, propagated, View, decide-table, Picked, picking, decide-from}
-use Rattle.split.proofs.Matches.{Matches, asserts, both-go, Goes, asserting, going, goes-after, goes-unwrap, after, then, sure, on-unwrap, by-option, guard, assert, by-bool}
+use Rattle.split.specs.Decide.{no-literal, no-table, literal-at, with-literal-floundered, propagated, View, decide-table, Picked}
+use Rattle.split.specs.Decide.{picking, decide-from}
+use Rattle.split.proofs.Matches.{Matches, asserts, both-go, Goes, asserting, going, goes-after, goes-unwrap, after, then, sure}
+use Rattle.split.proofs.Matches.{on-unwrap, by-option, guard, assert, by-bool}
 use Rattle.split.proofs.Writing.{heads, same-head}
 use Rattle.split.proofs.Deeds.{flounders-literal}
 

@@ -13,18 +13,26 @@ use Rattle.definitions.specs.Book.{Literal, Positive, Negative}
 use Rattle.definitions.specs.Fitting.{is-trivial}
 use Rattle.definitions.specs.Stop.{Stops, stop, go, _>>=_, _>>_, stop-if, unwrap}
 use Rattle.definitions.specs.Lists.{is-empty, remove}
-use Rattle.definitions.specs.Strand.{SelectedSubgoal, Strand, with-ex-clause, with-selected, with-subgoals, with-ambiguous, with-answer-time}
+use Rattle.definitions.specs.Strand.{SelectedSubgoal, Strand, with-ex-clause, with-selected, with-subgoals, with-ambiguous}
+use Rattle.definitions.specs.Strand.{with-answer-time}
 use Rattle.definitions.specs.Table.{Table, answer, next-answer-index}
 use Rattle.definitions.specs.Tables.{Forest, table-at, queued}
 use Rattle.definitions.specs.Stack.{StackEntry, Stack, is-active, top-of-stack-from, active}
 use Rattle.definitions.specs.Slg.{delay, apply-answer-subst}
-use Rattle.definitions.specs.Logic.{QuantumExceeded, SolveState, Flow, continue, return-err, most-strands, activate, enqueue-at-top, flounder-subgoal, Merge, merged, failed, next-answer-strand, enqueue-next-answer, no-solution, merge-into, merge-answer-into-strand}
-use Rattle.definitions.specs.Turn.{on-coinductive-subgoal, cycle-minimums, on-positive-cycle, coinductive-entries, on-cycle, on-subgoal-selected}
+use Rattle.definitions.specs.Logic.{QuantumExceeded, SolveState, Flow, continue, return-err, most-strands, activate, enqueue-at-top}
+use Rattle.definitions.specs.Logic.{flounder-subgoal, Merge, merged, failed, next-answer-strand, enqueue-next-answer, no-solution}
+use Rattle.definitions.specs.Logic.{merge-into, merge-answer-into-strand}
+use Rattle.definitions.specs.Turn.{on-coinductive-subgoal, cycle-minimums, on-positive-cycle, coinductive-entries, on-cycle}
+use Rattle.definitions.specs.Turn.{on-subgoal-selected}
 use Rattle.asserts.proofs.Keeping.{queued-enqueue}
+use Rattle.asserts.proofs.States.{state}
 use Rattle.split.specs.Acts.{Deed, goes-on, gives-up, cycles, perform-deed, copied, queued-at-top}
-use Rattle.split.specs.Decide.{or, no-literal, no-table, no-selected, literal-at, table-of, with-literal-floundered, decide-copy, decide-into, decide-merge, decide-coinductive, all-coinductive, decide-cycle, decide-awaiting, decide-selected}
-use Rattle.split.proofs.Matches.{Matches, asserts, both-stop, both-go, Goes, asserting, going, goes-after, goes-unwrap, after, then, after-same, sure, on-unwrap, by-option, guard, assert, by-bool}
-use Rattle.split.proofs.Writing.{state, changes, changed-is, enqueues, unwinds, heads, same-head, after-table}
+use Rattle.split.specs.Decide.{or, no-literal, no-table, no-selected, literal-at, table-of, with-literal-floundered, decide-copy}
+use Rattle.split.specs.Decide.{decide-into, decide-merge, decide-coinductive, all-coinductive, decide-cycle, decide-awaiting}
+use Rattle.split.specs.Decide.{decide-selected}
+use Rattle.split.proofs.Matches.{Matches, asserts, both-stop, both-go, Goes, asserting, going, goes-after, goes-unwrap, after, then}
+use Rattle.split.proofs.Matches.{after-same, sure, on-unwrap, by-option, guard, assert, by-bool}
+use Rattle.split.proofs.Writing.{changes, changed-is, enqueues, unwinds, heads, same-head, after-table}
 
 -- the flow is what the deed does to the state
 abbrev pub Does : SolveState → Flow → Deed → Type 0

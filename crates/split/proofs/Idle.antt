@@ -16,13 +16,16 @@ use Rattle.definitions.specs.Table.{Table, with-mode, take-strands}
 use Rattle.definitions.specs.Tables.{Forest, queued}
 use Rattle.definitions.specs.Stack.{StackEntry, Stack, with-active, caller}
 use Rattle.definitions.specs.Logic.{QuantumExceeded, NegativeCycle, SolveState, Flow, continue, unwound, activate, enqueue-at-top}
-use Rattle.definitions.specs.Turn.{cycle-minimums, clear-strands-after-cycle, on-no-strands, on-own-cycle, on-part-of-cycle, on-no-strands-left}
+use Rattle.definitions.specs.Turn.{cycle-minimums, clear-strands-after-cycle, on-no-strands, on-own-cycle, on-part-of-cycle}
+use Rattle.definitions.specs.Turn.{on-no-strands-left}
 use Rattle.laws.proofs.Totals.{total-set}
 use Rattle.asserts.proofs.Keeping.{table-is}
+use Rattle.asserts.proofs.States.{state}
 use Rattle.split.specs.Acts.{Act, caller-failed, negative-cycle, clears, part-of-cycle, perform, changed, emptied}
-use Rattle.split.specs.Decide.{no-literal, no-selected, no-strand, or, selected-of, selected-literal, decide-clear, decide-failed, decide-no-strands, decide-part-of-cycle, decide-idle}
+use Rattle.split.specs.Decide.{no-literal, no-selected, no-strand, or, selected-of, selected-literal, decide-clear, decide-failed}
+use Rattle.split.specs.Decide.{decide-no-strands, decide-part-of-cycle, decide-idle}
 use Rattle.split.proofs.Matches.{Matches, asserts, both-go, Goes, asserting, going, after, sure, on-unwrap, by-bool}
-use Rattle.split.proofs.Writing.{state, changes, changed-is, enqueues, unwinds-up}
+use Rattle.split.proofs.Writing.{changes, changed-is, enqueues, unwinds-up}
 use Rattle.split.proofs.Clearing.{clears-strands}
 
 -- the flow is what the act does to the state

@@ -14,7 +14,8 @@ use Rattle.definitions.specs.Stack.{push-entry}
 use Rattle.definitions.specs.Logic.{Floundered, SolveState, with-forest, Flow, continue, return-ok, return-err}
 use Rattle.definitions.specs.Turn.{turn, Searched, fail, cut, stopped, put-back, ok-ending, search-turns, begin, root-answer}
 use borrow.Author.Tests.{le-leb, lt-leb}
-use Rattle.split.specs.Steps.{Standing, Progress, ended, stands, cut-short, standing, gone-on, after-turn, stop-short, step, pushes-root, start, Ends, at-once, after-step}
+use Rattle.split.specs.Steps.{Standing, Progress, ended, stands, cut-short, standing, gone-on, after-turn, stop-short, step}
+use Rattle.split.specs.Steps.{pushes-root, start, Ends, at-once, after-step}
 
 -- Both sides go by the same tests.
 

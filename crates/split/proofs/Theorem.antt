@@ -12,18 +12,21 @@ use Rattle.definitions.specs.Strand.{Strand, with-pursued}
 use Rattle.definitions.specs.Table.{Table, with-strands, pop-front, dequeue-next-strand-that}
 use Rattle.definitions.specs.Tables.{Forest, with-mark, change-table, queued, held}
 use Rattle.definitions.specs.Stack.{StackEntry, Stack, with-active, active}
-use Rattle.definitions.specs.Logic.{SubGoalSelection, Selected, NotSelected, SolveState, with-forest, Flow, continue, return-ok, return-err, select-subgoal}
-use Rattle.definitions.specs.Turn.{on-subgoal-selected, on-no-remaining-subgoals, on-no-strands-left, eligible, turn, Searched, stopped, fail, put-back, ok-ending, search-turns}
+use Rattle.definitions.specs.Logic.{SubGoalSelection, Selected, NotSelected, SolveState, with-forest, Flow, continue, return-ok, return-err}
+use Rattle.definitions.specs.Logic.{select-subgoal}
+use Rattle.definitions.specs.Turn.{on-subgoal-selected, on-no-remaining-subgoals, on-no-strands-left, eligible, turn, Searched, stopped}
+use Rattle.definitions.specs.Turn.{fail, put-back, ok-ending, search-turns}
 use Rattle.definitions.proofs.Lists.{position-at}
 use Rattle.asserts.proofs.Safe.{Safe}
 use Rattle.asserts.proofs.Keeping.{change-is}
 use Rattle.asserts.proofs.Sound.{SoundState}
+use Rattle.asserts.proofs.States.{state}
 use Rattle.asserts.proofs.Unwinding.{Flows}
 use Rattle.asserts.proofs.Turns.{turn-keeps}
 use Rattle.split.specs.Acts.{Origin, was-active, was-queued, Deed, Act, takes, perform-deed, perform, taken, with-made, changed}
 use Rattle.split.specs.Decide.{or, no-table, no-strand, table-of, Picked, picking, decide-subgoal, decide-deed, decide-idle, decide}
 use Rattle.split.proofs.Matches.{Matches, asserts, both-stop, both-go, after, on-unwrap, matched, safe-too}
-use Rattle.split.proofs.Writing.{state, changed-is, heads}
+use Rattle.split.proofs.Writing.{changed-is, heads}
 use Rattle.split.proofs.Deeds.{Does, on-selected}
 use Rattle.split.proofs.Answers.{no-remaining}
 use Rattle.split.proofs.Choosing.{seen, chooses, heads-made, held-made}

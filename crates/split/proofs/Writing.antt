@@ -10,14 +10,12 @@ use Rattle.definitions.specs.Strand.{Strand}
 use Rattle.definitions.specs.Table.{Table, with-strands, take-strands, enqueue-strand}
 use Rattle.definitions.specs.Tables.{Tables, Forest, with-tables, table-at, change-table}
 use Rattle.definitions.specs.Stack.{StackEntry, Stack}
-use Rattle.definitions.specs.Logic.{SolveState, RootSearchFail, return-err, unwind-callers, unwind-stack, unwound, enqueue-at-top}
+use Rattle.definitions.specs.Logic.{RootSearchFail, return-err, unwind-callers, unwind-stack, unwound, enqueue-at-top}
 use Rattle.laws.proofs.Options.{no-such, same-some}
+use Rattle.asserts.proofs.States.{state}
 use Rattle.split.specs.Acts.{changed, queued-at-top, callers-unwound, gone}
 use Rattle.split.specs.Decide.{or, no-table, table-of}
 use Rattle.split.proofs.Matches.{Matches, asserts, Goes, asserting, going, goes-after}
-
-abbrev pub state : Forest → StackEntry → Stack → SolveState
-state f e es = record { forest = f; stack = e ∷ es }
 
 pub changes : (f : Forest) (i : ℕ) (change : Table → Table) → Goes (changed f i change) (change-table f i change)
 changes f i change = on (getElem? (f .tables) i)

@@ -6,16 +6,18 @@ use native.Mathlib.Omega.{arith}
 use mathlib.Core.Path.{_≡_, refl, sym, ap, ap₂, _∙_}
 use mathlib.Core.Bool.{Bool, true, false}
 use mathlib.Core.Option.{Option, none, some}
-use mathlib.Core.List.{List, [], _∷_, _++_, map}
+use mathlib.Core.List.{List, [], _∷_, _++_, map, map-append}
 use lib.ListN.{length, take, drop, getD, set, getElem?}
 use lib.Seq.{drop-cons}
 use lib.Dec.{ltb}
 use borrow.Author.Tests.{lt-ltb, le-ltb, ltb-true, ltb-false}
+use Rattle.laws.specs.Spans.{span}
+use Rattle.laws.proofs.All.{All, end, more, all-first, all-rest}
+use Rattle.laws.proofs.Maps.{map-take}
+use Rattle.laws.proofs.Spans.{span-ext, span-snoc}
 use Rattle.definitions.specs.Lists.{push, position, rotate-left, total}
-use Rattle.rings.specs.Lists.{stop, first-index, times, turned, All}
-use Rattle.rings.proofs.Counts.{map-append, times-self}
-use Rattle.book.specs.View.{span}
-use Rattle.book.proofs.Spans.{span-ext, span-snoc}
+use Rattle.rings.specs.Lists.{stop, first-index, times, turned}
+use Rattle.rings.proofs.Counts.{times-first}
 
 -- where a search ends: at i, or nowhere
 abbrev pub first-if : Bool → ℕ → Option ℕ
@@ -99,42 +101,27 @@ module _ {A : Type 0} where
 
   pub first-cong : (f g : A → Bool) (l : List A) → All (λ x. f x ≡ g x) l → first-index f l ≡ first-index g l
   first-cong f g [] a = refl
-  first-cong f g (x ∷ l) a = ap₂ (λ (b : Bool) (n : ℕ). stop b n) (a .0) (first-cong f g l (a .1))
+  first-cong f g (x ∷ l) a = ap₂ (λ (b : Bool) (n : ℕ). stop b n) (all-first a) (first-cong f g l (all-rest a))
 
   -- the front of a queue turned to j is what stands at j, and what is behind it is the rest
   pub rotate-front : (l : List A) (j : ℕ) (d : A) → j < length l → rotate-left l j ≡ getD l j d ∷ turned j l
   rotate-front l j d h = ap (λ (m : List A). m ++ take j l) (drop-cons l j d h)
 
 module _ {A B : Type 0} (f : A → B) where
-  map-take : (n : ℕ) (l : List A) → map f (take n l) ≡ take n (map f l)
-  map-take zero l = refl
-  map-take (suc n) [] = refl
-  map-take (suc n) (x ∷ l) = ap (λ (k : List B). f x ∷ k) (map-take n l)
-
   pub map-drop : (n : ℕ) (l : List A) → map f (drop n l) ≡ drop n (map f l)
   map-drop zero l = refl
   map-drop (suc n) [] = refl
   map-drop (suc n) (x ∷ l) = map-drop n l
 
   pub map-turned : (j : ℕ) (l : List A) → map f (turned j l) ≡ turned j (map f l)
-  map-turned j l = map-append f (drop (suc j) l) (take j l) ∙ ap₂ (λ (x y : List B). x ++ y) (map-drop (suc j) l) (map-take j l)
+  map-turned j l = map-append f (drop (suc j) l) (take j l) ∙ ap₂ (λ (x y : List B). x ++ y) (map-drop (suc j) l) (map-take f j l)
 
   pub map-at : (l : List A) (j : ℕ) (d : A) (e : B) → j < length l → getD (map f l) j e ≡ f (getD l j d)
   map-at [] j d e h = absurd (omega arith)
   map-at (x ∷ l) zero d e h = refl
   map-at (x ∷ l) (suc j) d e h = map-at l j d e (omega arith)
 
-  pub map-elem : (l : List A) (j : ℕ) (d : A) → j < length l → getElem? (map f l) j ≡ some (f (getD l j d))
-  map-elem [] j d h = absurd (omega arith)
-  map-elem (x ∷ l) zero d h = refl
-  map-elem (x ∷ l) (suc j) d h = map-elem l j d (omega arith)
-
-  pub map-elem-past : (l : List A) (j : ℕ) → length l ≤ j → getElem? (map f l) j ≡ none
-  map-elem-past [] j h = refl
-  map-elem-past (x ∷ l) zero h = absurd (omega arith)
-  map-elem-past (x ∷ l) (suc j) h = map-elem-past l j (omega arith)
-
 -- a fact of every number that a list has, as "all of it"
 pub all-times : (P : ℕ → Type 0) (l : List ℕ) → ((x : ℕ) → 1 ≤ times x l → P x) → All P l
-all-times P [] h = tt
-all-times P (x ∷ l) h = (h x (omega (arith, times-self x)), all-times P l (λ y k. h y (omega arith)))
+all-times P [] h = end
+all-times P (x ∷ l) h = more (h x (times-first x l)) (all-times P l (λ y k. h y (omega arith)))

@@ -9,7 +9,7 @@ use lib.Seq.{drop-nil}
 use lib.Dec.{eqb, ltb}
 use borrow.Author.Tests.{lt-ltb, eq-eqb, ne-eqb}
 use Rattle.definitions.specs.Lists.{any-passes}
-use Rattle.rings.specs.Lists.{All}
+use Rattle.laws.proofs.All.{All, all-first, all-rest}
 use Rattle.rings.specs.Rings.{walk}
 use Rattle.rings.proofs.Counts.{true-false}
 use Rattle.rings.proofs.Walks.{walk-step}
@@ -66,8 +66,8 @@ module _ (test : ℕ → Bool) where
   -- WHETHER ONE IS FOUND, among places
   pub found-any : (l : List ℕ) → All (λ q. q < 256) l → ltb (found-in test l) 256 ≡ any-passes test l
   found-any [] a = refl
-  found-any (q ∷ l) a = by (test q) (found-any l (a .1))
+  found-any (q ∷ l) a = by (test q) (found-any l (all-rest a))
     where
       by : (b : Bool) → ltb (found-in test l) 256 ≡ any-passes test l → ltb (found-or b q (found-in test l)) 256 ≡ b || any-passes test l
-      by true e = lt-ltb q 256 (a .0)
+      by true e = lt-ltb q 256 (all-first a)
       by false e = e

@@ -5,13 +5,13 @@ use native.Mathlib.Omega.{arith}
 use mathlib.Core.Path.{_≡_, refl, ap, subst, _∙_}
 use mathlib.Core.Bool.{Bool, true, false}
 use mathlib.Core.List.{List, [], _∷_, _++_}
-use lib.ListN.{length, take, drop, getD, length-append, length-drop, replicate}
-use lib.Seq.{length-take-le, set-getD}
+use lib.ListN.{length, take, drop, getD, set, length-append, length-drop, replicate}
+use lib.Seq.{length-take-le, getD-set-same, set-getD}
 use lib.Dec.{eqb}
 use borrow.Author.Tests.{eqb-true}
 use Rattle.rings.specs.Lists.{one, times, turned}
-use Rattle.rings.proofs.Counts.{is-or-not, times-append, times-self, times-out}
-use Rattle.rings.proofs.Walks.{length-walk}
+use Rattle.rings.proofs.Counts.{is-or-not, times-append, times-first, times-out}
+use Rattle.rings.proofs.Walks.{ring-size}
 use Rattle.rings.proofs.RingViews.{
   ring-enqueue-own,
   ring-enqueue-other,
@@ -33,26 +33,28 @@ use Rattle.stores.proofs.ListsAlike.{times-at}
 use Rattle.stores.proofs.PlacesWaiting.{waiting-same, waiting-one}
 
 pub length-ring : (p : Places) (t : ℕ) → length (ring p t) ≡ getD (p .len) t 0
-length-ring p t = length-walk (getD (p .len) t 0) (p .next) (getD (p .tail) t 0)
+length-ring p t = ring-size (p .next) (p .tail) (p .len) t
 
 -- how many are in use, by the two numbers that `in_use` reads
 pub in-use-is : (p : Places) (n : ℕ) (held : List ℕ) → SoundPlaces p n held → p .top - getD (p .len) free 0 ≡ waiting p n + length held
 in-use-is p n held sound = omega (arith, sound .all, length-ring p free)
 
+-- a number written beside a place
+pub number-here : (q : ℕ) → q < 256 → (l : List ℕ) (v : ℕ) → length l ≡ 256 → getD (set l q v) q 0 ≡ v
+number-here q h l v long = getD-set-same l q v 0 (omega arith)
+
 -- PUT: a held place goes to the end of ring t
 module _ (p : Places) (n : ℕ) (held : List ℕ) (q t : ℕ) (sound : SoundPlaces p n (q ∷ held)) (small : t < 256) where
-  has : 1 ≤ times q (q ∷ held)
-  has = omega (arith, times-self q)
-
   waits-nowhere : (u : ℕ) → times q (ring p u) ≡ 0
-  waits-nowhere u = sound .apart q u has
+  waits-nowhere u = sound .apart q u (times-first q held)
 
   pub enqueued-own : ring (enqueued t q p) t ≡ ring p t ++ (q ∷ [])
-  enqueued-own = ring-enqueue-own (p .next) (p .tail) (p .len) (p .top) (sound .rings) t q waits-nowhere (sound .used q has) small
+  enqueued-own =
+      ring-enqueue-own (p .next) (p .tail) (p .len) (p .top) (sound .rings) t q waits-nowhere (sound .used q (times-first q held)) small
 
   pub enqueued-other : (u : ℕ) → (u ≡ t → ⊥) → ring (enqueued t q p) u ≡ ring p u
   enqueued-other u d = ring-enqueue-other (p .next) (p .tail) (p .len) (p .top)
-      (sound .rings) t q waits-nowhere (sound .used q has) small u d
+      (sound .rings) t q waits-nowhere (sound .used q (times-first q held)) small u d
 
   longer : length (ring (enqueued t q p) t) ≡ length (ring p t) + 1
   longer = ap length enqueued-own ∙ length-append (ring p t) (q ∷ [])
@@ -68,7 +70,9 @@ module _ (p : Places) (n : ℕ) (held : List ℕ) (q t : ℕ) (sound : SoundPlac
       → waiting (enqueued t q p) n + length (ring (enqueued t q p) free) ≡ waiting p n + length (ring p free) + 1
       → SoundPlaces (enqueued t q p) n held
   put elsewhere count = record {
-    rings = ring-enqueue-sound (p .next) (p .tail) (p .len) (p .top) (sound .rings) t q waits-nowhere (sound .used q has) small;
+    rings =
+        ring-enqueue-sound (p .next) (p .tail) (p .len) (p .top) (sound .rings) t q waits-nowhere (sound .used q (times-first q held))
+        small;
     few = sound .few;
     empty = λ u h k. enqueued-other u (elsewhere u h k) ∙ sound .empty u h k;
     apart = not-held;

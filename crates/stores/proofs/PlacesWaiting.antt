@@ -10,7 +10,7 @@ use lib.Dec.{eqb}
 use borrow.Author.Tests.{eqb-true, eqb-false}
 use Rattle.definitions.specs.Lists.{total}
 use Rattle.stores.specs.declared.places.Places.{Places}
-use Rattle.book.specs.View.{span}
+use Rattle.laws.specs.Spans.{span}
 use Rattle.stores.specs.Numbers.{free}
 use Rattle.stores.specs.Places.{ring}
 use Rattle.stores.specs.Sound.{waiting, SoundPlaces}

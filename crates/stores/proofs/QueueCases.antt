@@ -11,6 +11,7 @@ use lib.ListN.{length, take, getD, set, getElem?, length-take}
 use lib.Seq.{getD-take}
 use lib.Dec.{eqb, ltb}
 use borrow.Author.Tests.{lt-ltb, le-ltb, ltb-true, ne-eqb}
+use Rattle.laws.proofs.Maps.{getElem?-map, getElem?-map-past}
 use Rattle.definitions.specs.Book as books
 use Rattle.definitions.specs.Strand.{SelectedSubgoal}
 use Rattle.book.specs.declared.Literal.{Literal}
@@ -27,23 +28,23 @@ use Rattle.stores.specs.Places.{places, ring, unlinked-at, taken-if, tak
 use Rattle.stores.specs.Numbers.{waits-fresh, flag-number}
 use Rattle.stores.specs.Queue.{is-not, waits-on, waits-for, waits-of, spot-if, spot-from, TookStrand}
 use Rattle.stores.specs.Queue.{with-places, made-fresh, fresh-if, fresh-stored, fresh-each, store, Does}
-use Rattle.stores.proofs.ListsSpans.{ltb-suc, map-elem, map-elem-past}
+use Rattle.stores.proofs.ListsSpans.{ltb-suc}
 use Rattle.stores.proofs.PlacesViews.{length-ring}
 use Rattle.stores.proofs.PlacesMoves.{places-is, freed-enqueued-is}
 
 -- THE NUMBERS BESIDE A STRAND: `is_not`, `waits_on` and `waits_of` at their tests' answers
 module _ (l : List Literal) (count index : ℕ) (long : length l ≡ 8) where
   pub not-past : count ≤ index → false ≡ is-not (getElem? (map meant (take count l)) index)
-  not-past h = ap is-not (sym (map-elem-past meant (take count l) index (omega (arith, length-take count l))))
+  not-past h = ap is-not (sym (getElem?-map-past meant (take count l) index (omega (arith, length-take count l))))
 
   pub not-far : 8 ≤ index → false ≡ is-not (getElem? (map meant (take count l)) index)
-  not-far h = ap is-not (sym (map-elem-past meant (take count l) index (omega (arith, length-take count l))))
+  not-far h = ap is-not (sym (getElem?-map-past meant (take count l) index (omega (arith, length-take count l))))
 
   pub not-there : index < count → index < 8 → (d : Literal)
       → is-negative (meant (getD l index d)) ≡ is-not (getElem? (map meant (take count l)) index)
   not-there h k d =
       ap is-not (ap (λ (x : Literal). some (meant x)) (sym (getD-take count l index d h))
-      ∙ sym (map-elem meant (take count l) index d (omega (arith, length-take count l))))
+      ∙ sym (getElem?-map meant (take count l) index d (omega (arith, length-take count l))))
 
 -- a strand that is written never waits on the number that says that a place is fresh
 on-no-mark : (can-be negative : Bool) (t : ℕ) → ltb t 64 ≡ can-be → eqb (waits-on can-be negative t) waits-fresh ≡ false

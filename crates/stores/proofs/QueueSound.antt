@@ -10,7 +10,7 @@ use lib.Dec.{eqb, ltb}
 use borrow.Author.Tests.{ltb-true, ltb-false}
 use Rattle.definitions.specs.Book as books
 use Rattle.rings.specs.Lists.{one, times}
-use Rattle.rings.proofs.Counts.{is-or-not, times-append, times-self, times-out}
+use Rattle.rings.proofs.Counts.{is-or-not, times-append, times-first, times-out}
 use Rattle.strands.specs.declared.Strand.{Strand}
 use Rattle.strands.specs.View.{Sound}
 use Rattle.stores.specs.declared.places.Places.{Places}
@@ -24,6 +24,7 @@ use Rattle.stores.specs.Queue.{freed-strands, blank-strand, blank-strand
 use Rattle.stores.proofs.ListsAlike.{Alike, times-at, times-cases}
 use Rattle.stores.proofs.PlacesWaiting.{sound-alike, sound-grown}
 use Rattle.stores.proofs.PlacesViews.{
+  number-here,
   enqueued-own,
   enqueued-other,
   enqueued-sound,
@@ -70,17 +71,11 @@ strands-grown fresh s n held room sound = record {
 
 -- WRITE at a place that is ready
 module _ (fresh : FirstStrands) (s : Strands) (n : ℕ) (held : List ℕ) (q : ℕ) (ready : Ready fresh s n held q) where
-  here : 1 ≤ times q (q ∷ held)
-  here = omega (arith, times-self q)
-
   within : q < 256
-  within = omega (arith, ready .places .used q here, ready .places .rings .room)
-
-  number-here : (l : List ℕ) (v : ℕ) → length l ≡ 256 → getD (set l q v) q 0 ≡ v
-  number-here l v long = getD-set-same l q v 0 (omega (arith, within))
+  within = omega (arith, ready .places .used q (times-first q held), ready .places .rings .room)
 
   waits-away : (t u : ℕ) → 1 ≤ times u (ring (s .places) t) → u ≡ q → ⊥
-  waits-away t u k e = omega (arith, k, ap (λ (y : ℕ). times y (ring (s .places) t)) e, ready .places .apart q t here)
+  waits-away t u k e = omega (arith, k, ap (λ (y : ℕ). times y (ring (s .places) t)) e, ready .places .apart q t (times-first q held))
 
   -- its numbers are written, and no other place's strand
   module _ (strands : List Strand) (time ambiguous variant waits wants : ℕ) (long : length strands ≡ 256)
@@ -121,11 +116,11 @@ module _ (fresh : FirstStrands) (s : Strands) (n : ℕ) (held : List ℕ) (q : �
   written-use : (time : ℕ) (x : Strand) → Sound x → InUse fresh (written q time x s) q
   written-use time x sound = rw (
     getD-set-same (s .strands) q x unread-strand (omega (arith, within, ready .long .long-strands)),
-    number-here (s .time) time (ready .long .long-time),
-    number-here (s .ambiguous) (flag-number (x .ambiguous)) (ready .long .long-ambiguous),
-    number-here (s .variant) (x .variant) (ready .long .long-variant),
-    number-here (s .waits) (waits-of x) (ready .long .long-waits),
-    number-here (s .wants) (wants-of x) (ready .long .long-wants),
+    number-here q within (s .time) time (ready .long .long-time),
+    number-here q within (s .ambiguous) (flag-number (x .ambiguous)) (ready .long .long-ambiguous),
+    number-here q within (s .variant) (x .variant) (ready .long .long-variant),
+    number-here q within (s .waits) (waits-of x) (ready .long .long-waits),
+    number-here q within (s .wants) (wants-of x) (ready .long .long-wants),
     waits-written x,
   ) (record {
     is-ambiguous = refl;
@@ -142,11 +137,11 @@ module _ (fresh : FirstStrands) (s : Strands) (n : ℕ) (held : List ℕ) (q : �
 
   fresh-use : (c variant flags : ℕ) → FirstOf (fresh c) variant flags → InUse fresh (made-fresh q c variant flags s) q
   fresh-use c variant flags first = rw (
-    number-here (s .time) 0 (ready .long .long-time),
-    number-here (s .ambiguous) (flag-number (books.bit0 flags)) (ready .long .long-ambiguous),
-    number-here (s .variant) variant (ready .long .long-variant),
-    number-here (s .waits) waits-fresh (ready .long .long-waits),
-    number-here (s .wants) c (ready .long .long-wants),
+    number-here q within (s .time) 0 (ready .long .long-time),
+    number-here q within (s .ambiguous) (flag-number (books.bit0 flags)) (ready .long .long-ambiguous),
+    number-here q within (s .variant) variant (ready .long .long-variant),
+    number-here q within (s .waits) waits-fresh (ready .long .long-waits),
+    number-here q within (s .wants) c (ready .long .long-wants),
   ) (record {
     is-ambiguous = ap flag-number (sym (first .is-ambiguous));
     is-variant = sym (first .is-variant);

@@ -11,9 +11,9 @@ use Rattle.definitions.specs.Lists.{push, total}
 use Rattle.definitions.specs.Strand as said-strand
 use Rattle.definitions.specs.Table.{with-strands, enqueue-strand}
 use Rattle.rings.specs.Lists.{times}
-use Rattle.book.specs.View.{span}
+use Rattle.laws.specs.Spans.{span}
 use Rattle.rings.specs.Rings.{most-places, linked, lengthened}
-use Rattle.rings.proofs.Counts.{times-self}
+use Rattle.rings.proofs.Counts.{times-self, times-first}
 use Rattle.strands.specs.declared.Strand.{Strand}
 use Rattle.strands.specs.View.{seen, Sound}
 use Rattle.stores.specs.declared.places.Places.{Places}
@@ -34,12 +34,16 @@ use Rattle.stores.proofs.QueueSound.{written-sound, made-fresh-sound, f
 use Rattle.stores.proofs.QueueViews.{tables-changed, written-here, written-away, written-queue, enqueue-own, enqueue-other}
 use Rattle.stores.proofs.QueueViews.{made-fresh-here, made-fresh-away, made-fresh-queue}
 
+-- what the held places show is as it was
+abbrev pub HeldStill : FirstStrands → (s s′ : Strands) → (held : List ℕ) → Type 0
+HeldStill fresh s s′ held = (u : ℕ) → 1 ≤ times u held → strand-at fresh s′ u ≡ strand-at fresh s u
+
 -- THE QUEUE OF TABLE t GROWS at its end: every other queue, and what the held places show, is as it was
 pub record Grown (fresh : FirstStrands) (s s′ : Strands) (n : ℕ) (held : List ℕ) (t : ℕ) (new : List said-strand.Strand) : Type 0 where
   pub sound : SoundStrands fresh s′ n held
   pub own : strands-of fresh s′ t ≡ strands-of fresh s t ++ new
   pub others : (u : ℕ) → u < n → (u ≡ t → ⊥) → strands-of fresh s′ u ≡ strands-of fresh s u
-  pub holds : (u : ℕ) → 1 ≤ times u held → strand-at fresh s′ u ≡ strand-at fresh s u
+  pub holds : HeldStill fresh s s′ held
 
 module _ (fresh : FirstStrands) (s s′ : Strands) (n : ℕ) (held : List ℕ) (t : ℕ) (new : List said-strand.Strand) (h : t < n)
     (grown : Grown fresh s s′ n held t new) where
@@ -87,7 +91,7 @@ module _ (fresh : FirstStrands) (s : Strands) (n : ℕ) (held : List ℕ) (t : �
       → Grown fresh s (enqueued-strand t q w) n held t (x ∷ [])
   enqueued-grown w x put shown queue away =
       let same : (u : ℕ) → u < n → strands-of fresh w u ≡ strands-of fresh s u =
-      λ u k. queue u (ready .places .apart q u (omega (arith, times-self q)))
+      λ u k. queue u (ready .places .apart q u (times-first q held))
       ∙ ap (map (strand-at fresh s)) (freed-sound (s .places) n held (sound .places) room .same u k) in
       record {
         sound = enqueue-sound fresh w n held t q h put;

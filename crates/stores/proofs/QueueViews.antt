@@ -5,11 +5,12 @@ use native.Mathlib.Omega.{arith}
 use mathlib.Core.Path.{_≡_, refl, sym, ap, ap₂, subst, _∙_}
 use mathlib.Core.Bool.{Bool, true, false, not, _&&_}
 use mathlib.Core.Option.{Option, none, some}
-use mathlib.Core.List.{List, [], _∷_, map}
+use mathlib.Core.List.{List, [], _∷_, map, map-append}
 use lib.ListN.{length, getD, set, length-map}
 use lib.Seq.{getD-set-same, getD-set-other}
 use lib.Dec.{eqb, ltb}
 use borrow.Author.Tests.{ltb-true}
+use Rattle.laws.proofs.All.{all-map}
 use Rattle.definitions.specs as said
 use Rattle.definitions.specs.Book as books
 use Rattle.definitions.specs.Lists.{push, position, rotate-left}
@@ -17,7 +18,7 @@ use Rattle.definitions.specs.Strand as said-strand
 use Rattle.definitions.specs.Table.{with-strands, enqueue-strand, take-strands, pop-front, dequeue-next-strand-that}
 use Rattle.definitions.specs.Turn as turns
 use Rattle.rings.specs.Lists.{first-index, times, turned}
-use Rattle.rings.proofs.Counts.{all-map, map-append, map-cong, absent-all}
+use Rattle.rings.proofs.Counts.{map-cong, absent-all}
 use Rattle.strands.specs.declared.Strand.{Strand}
 use Rattle.strands.specs.View.{seen}
 use Rattle.rings.specs.Rings.{place-if}
@@ -79,7 +80,7 @@ module _ (fresh : FirstStrands) (s : Strands) (q : ℕ) (strands : List Strand) 
       → strands-of fresh (with-numbers q strands time ambiguous variant waits wants s) t ≡ strands-of fresh s t
   numbers-queue t waits-nowhere =
       map-cong (strand-at fresh s′) (strand-at fresh s) (ring (s .places) t)
-      (all-map numbers-away (ring (s .places) t) (absent-all q (ring (s .places) t) waits-nowhere))
+      (all-map numbers-away (absent-all q (ring (s .places) t) waits-nowhere))
 
 module _ (fresh : FirstStrands) (s : Strands) (q time : ℕ) (x : Strand) where
   pub written-here : q < 256 → Long s → strand-at fresh (written q time x s) q ≡ seen time x

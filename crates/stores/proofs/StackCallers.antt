@@ -32,6 +32,7 @@ use Rattle.stores.specs.View.{FirstStrands, strand-at, active-strand-at,
 use Rattle.stores.specs.Sound.{SoundStack}
 use Rattle.stores.specs.Numbers.{set-if, add-if}
 use Rattle.stores.specs.Stack.{has-caller, caller-place, caller-written, top-written, pushed, popped, caller-taken, activated}
+use Rattle.stores.proofs.QueueStores.{HeldStill}
 use Rattle.stores.proofs.StackCases.{some-caller, some-top}
 use Rattle.stores.proofs.StackViews.{entries-same, entered-kept}
 
@@ -178,8 +179,7 @@ active-held l (suc n) i h d = at (eqb i n) refl (λ k. active-held l n i k d)
         held-more l n (getD l i 0) (eqb (getD l n 0) most-places) (below (omega arith))
 
 pub entered-holds : (fresh : FirstStrands) (k : Stack) (s s′ : Strands)
-    → ((q : ℕ) → 1 ≤ times q (active-places (k .active) (k .depth)) → strand-at fresh s′ q ≡ strand-at fresh s q)
-    → entered fresh k s′ ≡ entered fresh k s
+    → HeldStill fresh s s′ (active-places (k .active) (k .depth)) → entered fresh k s′ ≡ entered fresh k s
 entered-holds fresh k s s′ holds =
     entered-kept fresh k s s′ (λ i h d. holds (getD (k .active) i 0) (active-held (k .active) (k .depth) i h d))
 

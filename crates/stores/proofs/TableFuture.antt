@@ -14,8 +14,8 @@ use Rattle.definitions.specs.Strand as said-strand
 use Rattle.definitions.specs.Table.{Table}
 use Rattle.definitions.specs.Tables.{Forest}
 use Rattle.definitions.specs.Forest.{future}
-use Rattle.rings.specs.Lists.{times, All}
-use Rattle.rings.proofs.Counts.{all-drop}
+use Rattle.laws.proofs.All.{All, all-first, all-rest, all-drop}
+use Rattle.rings.specs.Lists.{times}
 use Rattle.rings.proofs.RingViews.{below-top}
 use Rattle.stores.specs.declared.places.Places.{Places}
 use Rattle.stores.specs.declared.queue.Strands.{Strands}
@@ -33,7 +33,7 @@ any-map test f (x ∷ l) = ap (λ (b : Bool). test (f x) || b) (any-map test f l
 
 any-cong : {A : Type 0} (f g : A → Bool) (l : List A) → All (λ x. f x ≡ g x) l → any-passes f l ≡ any-passes g l
 any-cong f g [] a = refl
-any-cong f g (x ∷ l) a = ap₂ (λ (b c : Bool). b || c) (a .0) (any-cong f g l (a .1))
+any-cong f g (x ∷ l) a = ap₂ (λ (b c : Bool). b || c) (all-first a) (any-cong f g l (all-rest a))
 
 module _ (fresh : FirstStrands) (ts : Tables) (s : Strands) (a : Answers) (held : List ℕ) (t i v : ℕ) (h : t < ts .count)
     (ss : SoundStrands fresh s (ts .count) held)
@@ -50,10 +50,10 @@ module _ (fresh : FirstStrands) (ts : Tables) (s : Strands) (a : Answers) (held 
       → ltb (found-in (numbered false variant v key k) (drop n (ring p t))) 256 ≡ any-passes test (drop n (map at (ring p t)))
   any-found test at p held′ sound variant key k same n =
       found-any (numbered false variant v key k) (drop n (ring p t))
-      (all-drop (λ q. q < 256) n (ring p t) (all-times (λ q. q < 256) (ring p t)
+      (all-drop n (all-times (λ q. q < 256) (ring p t)
       (λ q j. omega (arith, below-top (p .next) (p .tail) (p .len) (p .top) (sound .rings) t q j, sound .rings .room))))
       ∙ any-cong (numbered false variant v key k) (λ q. test (at q)) (drop n (ring p t))
-      (all-drop (λ q. eqb (getD variant q 0) v ≡ test (at q)) n (ring p t)
+      (all-drop n
       (all-times (λ q. eqb (getD variant q 0) v ≡ test (at q)) (ring p t) same))
       ∙ sym (any-map test at (drop n (ring p t))) ∙ ap (any-passes test) (map-drop at n (ring p t))
 

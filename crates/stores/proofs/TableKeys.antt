@@ -11,7 +11,7 @@ use lib.Seq.{drop-cons, getD-take, take-all}
 use lib.Dec.{eqb, ltb}
 use borrow.Author.Tests.{eq-eqb, ne-eqb, eqb-true, eqb-false, ltb-true, ltb-false}
 use Rattle.definitions.specs.Lists.{same}
-use Rattle.rings.specs.Lists.{All}
+use Rattle.laws.proofs.All.{All, all-first, all-rest}
 use Rattle.stores.specs.Table.{key-of}
 
 digit-small : (g : ℕ) → g % 127 + 1 < 128
@@ -22,7 +22,7 @@ pub same-key : (l m : List ℕ) → All (λ g. g < 64) l → All (λ g. g < 64) 
 same-key [] [] a b = refl
 same-key [] (y ∷ m) a b = sym (ne-eqb 0 (key-of (y ∷ m)) (λ e. omega arith))
 same-key (x ∷ l) [] a b = sym (ne-eqb (key-of (x ∷ l)) 0 (λ e. omega arith))
-same-key (x ∷ l) (y ∷ m) a b = first (eqb x y) refl (same-key l m (a .1) (b .1))
+same-key (x ∷ l) (y ∷ m) a b = first (eqb x y) refl (same-key l m (all-rest a) (all-rest b))
   where
     rest : (c : Bool) → eqb (key-of l) (key-of m) ≡ c → x ≡ y → c ≡ eqb (key-of (x ∷ l)) (key-of (y ∷ m))
     rest true e d = sym (eq-eqb (key-of (x ∷ l)) (key-of (y ∷ m))
@@ -36,9 +36,9 @@ same-key (x ∷ l) (y ∷ m) a b = first (eqb x y) refl (same-key l m (a .1) (b 
       where
         digits : key-of (x ∷ l) ≡ key-of (y ∷ m) → x ≡ y
         digits i =
-            let ex : x % 127 ≡ x = mod-eq-of-lt (omega (arith, a .0)) in
-            let ey : y % 127 ≡ y = mod-eq-of-lt (omega (arith, b .0)) in
-            omega (arith, a .0, b .0)
+            let ex : x % 127 ≡ x = mod-eq-of-lt (omega (arith, all-first a)) in
+            let ey : y % 127 ≡ y = mod-eq-of-lt (omega (arith, all-first b)) in
+            omega (arith, all-first a, all-first b)
 
 -- what keys of n goals are below
 abbrev bound : ℕ → ℕ

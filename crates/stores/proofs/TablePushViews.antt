@@ -13,7 +13,7 @@ use Rattle.definitions.specs as said
 use Rattle.definitions.specs.Lists.{push, same, total}
 use Rattle.definitions.specs.Stop.{Stops, go, _>>_, stop-if}
 use Rattle.definitions.specs.Table.{Table, with-answers, equal-answer, push-answer}
-use Rattle.rings.specs.Lists.{All}
+use Rattle.laws.proofs.All.{All, all-first, all-rest}
 use Rattle.rings.proofs.RingViews.{below-top}
 use Rattle.strands.specs.declared.Answer.{Answer}
 use Rattle.strands.specs.View as view
@@ -72,8 +72,8 @@ module _ (x : Answer) (good : GoodAnswer x) (a : Answers) where
         | true ↦ some (answer-at a q)
         | false ↦ equal-answer (view.answer x)
             (map (answer-at a) l)
-      ]) (sym (test-same q (o .0)))
-      ∙ by (test q) (equal-is l (few .1) (o .1))
+      ]) (sym (test-same q (all-first o)))
+      ∙ by (test q) (equal-is l (all-rest few) (all-rest o))
     where
       by : (b : Bool) → equal-answer (view.answer x) (map (answer-at a) l) ≡ found-if (ltb (found-in test l) 256)
           (answer-at a (found-in test l))
@@ -83,7 +83,7 @@ module _ (x : Answer) (good : GoodAnswer x) (a : Answers) where
                 (map (answer-at a) l)
           ])
           (found-if (ltb (found-or b q (found-in test l)) 256) (answer-at a (found-or b q (found-in test l))))
-      by true e = ap (λ (c : Bool). found-if c (answer-at a q)) (sym (lt-ltb q 256 (few .0)))
+      by true e = ap (λ (c : Bool). found-if c (answer-at a q)) (sym (lt-ltb q 256 (all-first few)))
       by false e = e
 
 -- WHAT THE OUTCOME MEANS, in a table that isn't floundered
@@ -134,14 +134,14 @@ module _ (fresh : FirstStrands) (ts : Tables) (s : Strands) (a : Answers) (t : �
       found-stored : (l : List ℕ) → All (Stored a) l → found-in (test x good a) l < 256
           → flag (getD (a .ambiguous) (found-in (test x good a) l) 0) ≡ answer-at a (found-in (test x good a) l) .ambiguous
       found-stored [] o i = absurd (omega arith)
-      found-stored (q ∷ l) o i = by (test x good a q) i (found-stored l (o .1))
+      found-stored (q ∷ l) o i = by (test x good a q) i (found-stored l (all-rest o))
         where
           by : (b : Bool) → found-or b q (found-in (test x good a) l) < 256
               → (found-in (test x good a) l < 256 → flag (getD (a .ambiguous) (found-in (test x good a) l) 0) ≡ answer-at a
               (found-in (test x good a) l) .ambiguous)
               → flag (getD (a .ambiguous) (found-or b q (found-in (test x good a) l)) 0) ≡ answer-at a
               (found-or b q (found-in (test x good a) l)) .ambiguous
-          by true j more = ap flag (o .0 .is-ambiguous) ∙ flag-of (answer-at a q .ambiguous)
+          by true j more = ap flag (all-first o .is-ambiguous) ∙ flag-of (answer-at a q .ambiguous)
           by false j more = more j
 
   repeat-means : (was is : Bool) → answer-at a at .ambiguous ≡ was → said-x .ambiguous ≡ is

@@ -5,7 +5,7 @@ use native.Mathlib.Omega.{arith}
 use mathlib.Core.Path.{_≡_, refl, sym, ap, ap₂, subst, _∙_}
 use mathlib.Core.Bool.{Bool, true, false}
 use mathlib.Core.Option.{none, some}
-use mathlib.Core.List.{List, [], _∷_, _++_, map}
+use mathlib.Core.List.{List, [], _∷_, _++_, map, map-append}
 use lib.ListN.{length, getD, set, length-map, length-set, length-replicate}
 use lib.Seq.{getD-set-same, getD-set-other}
 use lib.Dec.{ltb}
@@ -16,7 +16,9 @@ use Rattle.definitions.specs.Strand as said-strand
 use Rattle.definitions.specs.Table.{Table, with-answers, mark-floundered, answer, next-answer-index}
 use Rattle.rings.specs.Lists.{one, times}
 use Rattle.rings.specs.Rings.{place-if}
-use Rattle.rings.proofs.Counts.{is-or-not, all-map, map-append, map-cong, absent-all, times-append, times-self}
+use Rattle.laws.proofs.All.{all-map}
+use Rattle.laws.proofs.Maps.{getElem?-map, getElem?-map-past}
+use Rattle.rings.proofs.Counts.{is-or-not, map-cong, absent-all, times-append, times-first}
 use Rattle.rings.proofs.RingViews.{below-top}
 use Rattle.strands.specs.declared.Answer.{Answer}
 use Rattle.strands.specs.View as view
@@ -31,8 +33,8 @@ use Rattle.stores.specs.Queue.{strands-of, cleared}
 use Rattle.stores.specs.Table.{marked, answers-of, answer-stored, cleared-answers, key-of, blank-answer, blank-answers}
 use Rattle.stores.proofs.ListsAlike.{times-at}
 use Rattle.stores.proofs.PlacesWaiting.{sound-grown, total-waiting}
-use Rattle.stores.proofs.ListsSpans.{span-set, map-elem, map-elem-past}
-use Rattle.stores.proofs.PlacesViews.{length-ring, enqueued-own, enqueued-other, enqueued-sound, blank-places-sound}
+use Rattle.stores.proofs.ListsSpans.{span-set}
+use Rattle.stores.proofs.PlacesViews.{length-ring, number-here, enqueued-own, enqueued-other, enqueued-sound, blank-places-sound}
 use Rattle.stores.proofs.PlacesCases.{Freed, freed-sound}
 use Rattle.stores.proofs.PlacesMoves.{moved-own, moved-other, moved-sound}
 
@@ -59,13 +61,13 @@ module _ (fresh : FirstStrands) (ts : Tables) (s : Strands) (a : Answers) (t i r
       let small : place < a .places .top =
       below-top (a .places .next) (a .places .tail) (a .places .len) (a .places .top) (sound .rings) t place
       (times-at (ring (a .places) t) i k) in (
-        λ h. map-elem (answer-at a) (ring (a .places) t) i 0 k ∙ ap (λ (p : ℕ). some (answer-at a p)) (sym is),
+        λ h. getElem?-map (answer-at a) (ring (a .places) t) i 0 k ∙ ap (λ (p : ℕ). some (answer-at a p)) (sym is),
         λ h. absurd (omega (arith, sound .rings .room)),
       )
   by-index false e =
       let k : length (ring (a .places) t) ≤ i = omega (arith, length-ring (a .places) t, ltb-false i (getD (a .places .len) t 0) e) in
       let is : r ≡ 256 = found ∙ ap (λ (b : Bool). place-if b place) e in
-      (λ h. absurd (omega arith), λ h. map-elem-past (answer-at a) (ring (a .places) t) i k)
+      (λ h. absurd (omega arith), λ h. getElem?-map-past (answer-at a) (ring (a .places) t) i k)
 
   pub answer-there : r < 256 → answer (held-table fresh ts s a t) i ≡ some (answer-at a r)
   answer-there = by-index (ltb i (getD (a .places .len) t 0)) refl .0
@@ -115,7 +117,7 @@ module _ (a : Answers) (n t : ℕ) (x : Answer) (h : t < n) (sound : SoundAnswer
 
   -- the place waited nowhere
   apart : (u : ℕ) → u < n → times q (ring (a .places) u) ≡ 0
-  apart u k = sym (ap (times q) (f .same u k)) ∙ f .sound .apart q u (omega (arith, times-self q))
+  apart u k = sym (ap (times q) (f .same u k)) ∙ f .sound .apart q u (times-first q [])
 
   here : getD (set (a .answers) q x) q unread-answer ≡ x
   here = getD-set-same (a .answers) q x unread-answer (omega (arith, sound .long .long-answers))
@@ -125,7 +127,7 @@ module _ (a : Answers) (n t : ℕ) (x : Answer) (h : t < n) (sound : SoundAnswer
 
   kept : (u : ℕ) → u < n → map (answer-at (answer-stored t x a)) (ring (a .places) u) ≡ answers-of a u
   kept u k = map-cong (answer-at (answer-stored t x a)) (answer-at a) (ring (a .places) u)
-      (all-map (λ y d. ap view.answer (away y d)) (ring (a .places) u) (absent-all q (ring (a .places) u) (apart u k)))
+      (all-map (λ y d. ap view.answer (away y d)) (absent-all q (ring (a .places) u) (apart u k)))
 
   pub stored-answer-own : answers-of (answer-stored t x a) t ≡ push (answers-of a t) (view.answer x)
   stored-answer-own =
@@ -135,15 +137,12 @@ module _ (a : Answers) (n t : ℕ) (x : Answer) (h : t < n) (sound : SoundAnswer
   pub stored-answer-other : (u : ℕ) → u < n → (u ≡ t → ⊥) → answers-of (answer-stored t x a) u ≡ answers-of a u
   stored-answer-other u k d = ap (map (answer-at (answer-stored t x a))) (other u k d) ∙ kept u k
 
-  number-here : (l : List ℕ) (v : ℕ) → length l ≡ 256 → getD (set l q v) q 0 ≡ v
-  number-here l v long = getD-set-same l q v 0 (omega arith)
-
   stored-here : Stored (answer-stored t x a) q
   stored-here = rw (
     here,
-    number-here (a .variant) (view.answer x .variant) (sound .long .long-variant),
-    number-here (a .key) (key-of (view.answer x .delayed-subgoals)) (sound .long .long-key),
-    number-here (a .ambiguous) (flag-number (view.answer x .ambiguous)) (sound .long .long-ambiguous),
+    number-here q room (a .variant) (view.answer x .variant) (sound .long .long-variant),
+    number-here q room (a .key) (key-of (view.answer x .delayed-subgoals)) (sound .long .long-key),
+    number-here q room (a .ambiguous) (flag-number (view.answer x .ambiguous)) (sound .long .long-ambiguous),
   ) (record { good = good; is-variant = refl; is-key = refl; is-ambiguous = refl })
 
   stored-away : (u : ℕ) → (u ≡ q → ⊥) → Stored a u → Stored (answer-stored t x a) u

@@ -11,9 +11,8 @@ use Rattle.definitions.specs.Lists.{push}
 use Rattle.definitions.specs.Strand as said-strand
 use Rattle.definitions.specs.Table.{Table, new, with-strands}
 use Rattle.definitions.specs.Tables.{insert-table}
-use Rattle.rings.specs.Lists.{times}
 use Rattle.rings.specs.Rings.{most-places}
-use Rattle.book.specs.View.{span}
+use Rattle.laws.specs.Spans.{span}
 use Rattle.stores.specs.declared.queue.Strands.{Strands}
 use Rattle.stores.specs.declared.table.Answers.{Answers}
 use Rattle.stores.specs.declared.tables.Tables.{Tables}
@@ -22,9 +21,9 @@ use Rattle.stores.specs.View.{FirstStrands, strand-at, held-table, table
 use Rattle.stores.specs.Sound.{waiting, FirstOf, SoundStrands, SoundAnswers, SoundTables}
 use Rattle.stores.specs.Queue.{fresh-each}
 use Rattle.stores.specs.Tables.{inserted}
-use Rattle.book.proofs.Spans.{span-length}
+use Rattle.laws.proofs.Spans.{length-span}
 use Rattle.stores.proofs.QueueSound.{strands-grown}
-use Rattle.stores.proofs.QueueStores.{Grown, grown-view, fresh-all}
+use Rattle.stores.proofs.QueueStores.{HeldStill, Grown, grown-view, fresh-all}
 use Rattle.stores.proofs.TableViews.{answers-grown}
 use Rattle.stores.proofs.TablesViews.{new-table, inserted-count, inserted-sound, inserted-view, inserted-new}
 
@@ -35,7 +34,7 @@ pub record Built (fresh : FirstStrands) (ts ts′ : Tables) (s s′ : Strands) (
   pub strands-sound : SoundStrands fresh s′ (suc (ts .count)) held
   pub answers-sound : SoundAnswers a (suc (ts .count))
   pub means : tables fresh ts′ s′ a ≡ insert-table table (tables fresh ts s a)
-  pub holds : (q : ℕ) → 1 ≤ times q held → strand-at fresh s′ q ≡ strand-at fresh s q
+  pub holds : HeldStill fresh s s′ held
 
 module _ (fresh : FirstStrands) (ts : Tables) (s : Strands) (a : Answers) (held : List ℕ) (g : ℕ) (co : Bool)
     (sound : SoundTables ts) (ss : SoundStrands fresh s (ts .count) held) (rs : SoundAnswers a (ts .count)) (room : ts .count < 64) where
@@ -94,7 +93,7 @@ module _ (fresh : FirstStrands) (ts : Tables) (s : Strands) (a : Answers) (held 
           (ap₂ (λ (t : Table) (l : List said-strand.Strand). with-strands t (l ++ queue))
           (inserted-new fresh ts s a g co false sound room no-answers no-strands) (ap (map (strand-at fresh s)) no-strands))
           ∙ ap (λ (k : ℕ). set (push (tables fresh ts s a) (new g co)) k (with-strands (new g co) queue))
-          (sym (span-length (held-table fresh ts s a) 0 n))
+          (sym (length-span (held-table fresh ts s a) 0 n))
           ∙ set-append-seam (tables fresh ts s a) (new g co) [] (with-strands (new g co) queue);
       holds = grown .holds;
     }

@@ -4,12 +4,11 @@ use Prim.Native.Nat.{ℕ, suc, _≤_, _<_}
 use native.Mathlib.Omega.{arith}
 use native.Mathlib.Numerals.{add-one}
 use mathlib.Core.Path.{_≡_, refl, sym, ap, ap₂, subst, _∙_}
-use mathlib.Core.Bool.{Bool, true, false, _&&_}
+use mathlib.Core.Bool.{Bool, true, false}
 use mathlib.Core.Option.{none, some}
 use mathlib.Core.List.{List, [], map}
 use lib.ListN.{getD, set, length-set, getElem?, length-replicate}
 use lib.Seq.{getD-set-same, getD-set-other}
-use lib.Dec.{ltb}
 use borrow.Author.Tests.{lt-ltb}
 use Rattle.definitions.specs as said
 use Rattle.definitions.specs.Strand as said-strand
@@ -20,11 +19,12 @@ use Rattle.stores.specs.declared.queue.Strands.{Strands}
 use Rattle.stores.specs.declared.table.Answers.{Answers}
 use Rattle.stores.specs.declared.tables.Tables.{Tables}
 use Rattle.stores.specs.Places.{ring}
-use Rattle.stores.specs.Numbers.{flag, flag-number, set-if, add-if, flag-at, number-if}
+use Rattle.stores.specs.Numbers.{flag, flag-number, set-if, add-if, flag-at}
 use Rattle.stores.specs.View.{FirstStrands, mode, held-table, tables, strand-at, answer-at}
 use Rattle.stores.specs.Sound.{SoundTables}
 use Rattle.stores.specs.Tables.{table-goal-at, inserted, moded, blank-tables}
-use Rattle.stores.proofs.NumbersCases.{flag-of}
+use Rattle.stores.proofs.NumbersCases.{flag-of, flag-near}
+use Rattle.stores.proofs.TablesCases.{goal-near}
 use Rattle.stores.proofs.ListsSpans.{span-at, span-past, span-same, span-set, span-push}
 
 -- the tables that are made, and no other
@@ -51,11 +51,11 @@ module _ (fresh : FirstStrands) (ts : Tables) (s : Strands) (a : Answers) (f : F
 
 -- READ: what `flag_at` and `goal_at` say of a table that is made
 module _ (fresh : FirstStrands) (ts : Tables) (s : Strands) (a : Answers) (sound : SoundTables ts) (t : ℕ) (h : t < ts .count) where
-  near : ltb t 64 ≡ true
-  near = lt-ltb t 64 (omega (arith, sound .few))
+  near : t < 64
+  near = omega (arith, sound .few)
 
   pub flag-at-is : (l : List ℕ) → flag-at t l ≡ flag (getD l t 0)
-  flag-at-is l = ap (λ (b : Bool). b && flag (getD l t 0)) near
+  flag-at-is l = sym (flag-near t l near)
 
   pub floundered-view : flag-at t (ts .floundered) ≡ held-table fresh ts s a t .floundered
   floundered-view = flag-at-is (ts .floundered)
@@ -71,7 +71,7 @@ module _ (fresh : FirstStrands) (ts : Tables) (s : Strands) (a : Answers) (sound
       by-flag false = refl
 
   pub goal-view : table-goal-at t (ts .goal) ≡ held-table fresh ts s a t .table-goal
-  goal-view = ap (λ (b : Bool). number-if b (getD (ts .goal) t 0)) near
+  goal-view = sym (goal-near t (ts .goal) near)
 
 abbrev table-of : (goal coinductive floundered complete : ℕ) → List said.Answer → List said-strand.Strand → Table
 table-of g c f m rs ss = record {

@@ -10,7 +10,7 @@ use Rattle.definitions.specs.Strand as held
 use Rattle.definitions.specs.Table as table
 use Rattle.definitions.specs.Tables as forest
 use Rattle.definitions.specs.Stack as stack
-use Rattle.book.specs.View.{span}
+use Rattle.laws.specs.Spans.{span}
 use Rattle.rings.specs.Rings.{most-places}
 use Rattle.strands.specs.declared.Strand.{Strand}
 use Rattle.strands.specs.declared.Answer.{Answer}

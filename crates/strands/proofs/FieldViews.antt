@@ -1,5 +1,5 @@
--- A strand with a field written: what is seen of it is the definitions' with that field written, and it stays sound. The copy for the next answer
--- is the definitions' where the index can go on.
+-- A strand with a field written: what is seen of it is the definitions' with that field written, and it stays sound. The copy for the next
+-- answer is the definitions' where the index can go on.
 use Prim.Native.Nat.{ℕ, suc, _<_}
 use native.Mathlib.Nat.{min-eq-left}
 use native.Mathlib.Omega.{arith}
@@ -54,4 +54,5 @@ next-selected (Subgoal index table answer) k e h =
 
 pub next-answer-view : (time : TimeStamp) (s : Strand) (k : held.SelectedSubgoal) → selected (s .selected) ≡ some k
     → k .answer-index < 65535 → seen time (with-selected s (next-of (s .selected))) ≡ next-answer-strand (seen time s) k
-next-answer-view time s k e h = ap (λ (o : Option held.SelectedSubgoal). held.with-selected (seen time s) o) (next-selected (s .selected) k e h)
+next-answer-view time s k e h =
+    ap (λ (o : Option held.SelectedSubgoal). held.with-selected (seen time s) o) (next-selected (s .selected) k e h)

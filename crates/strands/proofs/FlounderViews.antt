@@ -30,7 +30,8 @@ use Rattle.strands.proofs.LiteralCases.{index-is, found-at, removed}
 
 -- Floundering the last literal.
 
-abbrev aside : said.ExClause → ℕ → books.Literal → said.ExClause
+-- the literal l, which stands at i, set aside
+abbrev pub aside : said.ExClause → ℕ → books.Literal → said.ExClause
 aside x i l =
     with-floundered x (remove (x .subgoals) i)
     (push (x .floundered-subgoals) (record { floundered-literal = l; floundered-time = x .answer-time }))

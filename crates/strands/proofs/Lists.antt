@@ -14,9 +14,6 @@ use Rattle.definitions.proofs.Lists.{remove-last, swap-remove-is}
 use Rattle.laws.proofs.Lists.{past-end}
 use Rattle.laws.proofs.Maps.{map-take, map-set, getElem?-map}
 use Rattle.laws.proofs.Takes.{take-set-next}
--- those that others still cite here
-pub use Rattle.laws.proofs.Maps.{length-mapped}
-pub use Rattle.definitions.proofs.Lists.{take-empty}
 
 module _ {A B : Type 0} (f : A → B) where
   pub length-view : (n : ℕ) (l : List A) → length (map f (take n l)) ≡ min n (length l)

@@ -48,7 +48,8 @@ pub answered-view : (time : TimeStamp) (s : Strand) → Sound s → 0 < s .«lit
 answered-view time s o some-left =
     let few = o .few-literals in
     ap (seen time) (answered-last s (λ z. omega arith) (omega arith) (λ z. omega arith))
-    ∙ ap₂ (λ (ls : List books.Literal) (t : ℕ). held.with-ex-clause (seen time s) (held.with-answer-time (held.with-subgoals (clause s) ls) t))
+    ∙ ap₂ (λ (ls : List books.Literal) (t : ℕ). held.with-ex-clause (seen time s)
+    (held.with-answer-time (held.with-subgoals (clause s) ls) t))
     (removed s (o .literals-long) (s .«literal_count» - 1) (omega arith)) (add-one (s .«answer_time»))
 
 answered-by-kept : (s : Strand) (none-left too-many at-end : Bool) → Kept s (answered-by none-left too-many at-end s)

@@ -27,13 +27,17 @@ same-length-2 : tie.Need-same-length-2
 same-length-2 c = search needs
 
 returns-2 : tie.Need-returns-2
-returns-2 c = put-full (c .before .before .before .before .before .args .out .now) (c .before .before .before .before .before .args .at) (c .before .before .before .before .before .args .b) (omega arith) (omega arith)
+returns-2 c =
+    put-full (c .before .before .before .before .before .args .out .now) (c .before .before .before .before .before .args .at)
+    (c .before .before .before .before .before .args .b) (omega arith) (omega arith)
 
 same-length-3 : tie.Need-same-length-3
 same-length-3 c = search needs
 
 returns-3 : tie.Need-returns-3
-returns-3 c = put-none (c .before .before .before .before .before .args .out .now) (c .before .before .before .before .before .args .at) (c .before .before .before .before .before .args .b) (omega arith) (omega arith)
+returns-3 c =
+    put-none (c .before .before .before .before .before .args .out .now) (c .before .before .before .before .before .args .at)
+    (c .before .before .before .before .before .args .b) (omega arith) (omega arith)
 
 pub byte-spec : {M : Type 1} → statement M
 byte-spec =

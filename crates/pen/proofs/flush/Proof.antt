@@ -7,7 +7,8 @@ use Rattle.pen.proofs.flush.Statement.{statement}
 use Rattle.pen.proofs.flush.Tie as tie
 
 slice-aggregate-write-all : tie.Need-slice-aggregate-write-all
-slice-aggregate-write-all c = sym (length-take-le (c .before .before .before .args .at) (c .before .before .before .args .out .now) (omega arith))
+slice-aggregate-write-all c =
+    sym (length-take-le (c .before .before .before .args .at) (c .before .before .before .args .out .now) (omega arith))
 
 write-all-requires : tie.Need-write-all-requires
 write-all-requires c κs = search needs

@@ -23,7 +23,8 @@ same-length c = search needs
 returns : tie.Need-returns
 returns c =
     let d = c .before .before .before .before .before .decimal in
-    put-number (c .before .before .before .before .before .before .before .before .args .n) (d .result) (take (d .result) (d .last .1 .0)) _ _ (d .ensures .1 .0) (d .ensures .1 .1)
+    put-number (c .before .before .before .before .before .before .before .before .args .n) (d .result) (take (d .result) (d .last .1 .0))
+    _ _ (d .ensures .1 .0) (d .ensures .1 .1)
     (c .before .before .text .ensures)
 
 pub number-spec : {M : Type 1} → statement M

@@ -3,7 +3,7 @@ use Prim.Native.Nat.{_≤_, _-_}
 use mathlib.Core.Path.{_≡_}
 use lib.ListN.{length}
 use borrow.Author.Needs.{needs}
-use Rattle.strands.proofs.Lists.{length-mapped}
+use Rattle.laws.proofs.Maps.{length-mapped}
 use Rattle.stores_bench.proofs.turns_of.Statement.{statement}
 use Rattle.stores_bench.proofs.turns_of.Tie as tie
 

@@ -51,8 +51,10 @@ returns c =
     let v = w .before in
     let b = v .before in
     let a = b .before .before .args in
-    operands-are (a .bytes .now) (a .at) (b .byte .result) (v .width .result) (w .wide .result) (f .byte2 .result) (k .kind-of .result) (u .u16-at .result)
-    (c .want-at .result) (b .byte .ensures) (v .width .ensures) (w .wide .ensures .0) (f .byte2 .ensures) (k .kind-of .ensures) (search needs) (search needs)
+    operands-are (a .bytes .now) (a .at) (b .byte .result) (v .width .result) (w .wide .result) (f .byte2 .result) (k .kind-of .result)
+    (u .u16-at .result)
+    (c .want-at .result) (b .byte .ensures) (v .width .ensures) (w .wide .ensures .0) (f .byte2 .ensures) (k .kind-of .ensures)
+    (search needs) (search needs)
     (u .u16-at .ensures) (c .want-at .ensures)
 
 pub operands-at-spec : {M : Type 1} → statement M

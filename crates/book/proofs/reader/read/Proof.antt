@@ -38,17 +38,20 @@ bytes l = l .before .before .before .args .bytes .now
 -- no refusal
 fine : (c : tie.Else1 Inv-loop μ-loop)
     → 0 ≡ next-fault (drop (c .before .before .loop .at) (bytes (c .before .before)))
-    (counts (c .before .before .loop .book .goals) (c .before .before .loop .book .clauses) (c .before .before .loop .literals) (c .before .before .loop .named))
+    (counts (c .before .before .loop .book .goals) (c .before .before .loop .book .clauses) (c .before .before .loop .literals)
+    (c .before .before .loop .named))
 fine c = sym (c .if1 .left) ∙ c .before .next-fault .ensures
 
 goes-forward : (a : tie.After-operands-at Inv-loop μ-loop)
-    → length (bytes (a .before .before .before)) - a .operands-at .result .next < length (bytes (a .before .before .before)) - a .before .before .before .loop .at
+    → length (bytes (a .before .before .before)) - a .operands-at .result .next < length (bytes (a .before .before .before)) -
+    a .before .before .before .loop .at
 goes-forward a =
     let l = a .before .before .before in
     next-within (bytes l) (l .loop .book) (l .loop .literals) (l .loop .named) (l .loop .at) (l .loop .inv) (fine (a .before))
     (a .operands-at .result) (a .operands-at .ensures)
 
-goal-fits : (a : tie.After-operands-at Inv-loop μ-loop) → a .operands-at .result .command ≡ 0x47 → a .before .before .before .loop .book .goals < 64
+goal-fits : (a : tie.After-operands-at Inv-loop μ-loop) → a .operands-at .result .command ≡ 0x47
+    → a .before .before .before .loop .book .goals < 64
 goal-fits a e =
     let l = a .before .before .before in
     goal-room (bytes l) (l .loop .book) (l .loop .literals) (l .loop .named) (l .loop .at) (l .loop .inv) (fine (a .before))
@@ -86,7 +89,8 @@ returns c =
     let f = c .before .before in
     let l = f .before in
     stops (bytes l) (l .loop .book) (l .loop .literals) (l .loop .named) (l .loop .at) (l .loop .inv)
-    (c .refused .result) (f .next-fault .result) (c .before .if1 .taken) (f .next-fault .ensures) (c .refused .ensures .0) (c .refused .ensures .1)
+    (c .refused .result) (f .next-fault .result) (c .before .if1 .taken) (f .next-fault .ensures) (c .refused .ensures .0)
+    (c .refused .ensures .1)
 
 operands-at-requires : tie.Need-operands-at-requires Inv-loop μ-loop
 operands-at-requires c κs =
@@ -225,74 +229,102 @@ loop-again-2 c =
 
 sub-place : tie.Need-sub-place Inv-loop μ-loop
 sub-place c =
-    let r = literal-fits (c .before .before .before .before .before .before) (c .before .before .before .before .if2 .left) (c .before .before .if3 .left) (c .if4 .left) in
+    let r =
+    literal-fits (c .before .before .before .before .before .before) (c .before .before .before .before .if2 .left)
+    (c .before .before .if3 .left) (c .if4 .left) in
     search needs
 
 mul-place : tie.Need-mul-place Inv-loop μ-loop
 mul-place c =
-    let r = literal-fits (c .before .before .before .before .before .before) (c .before .before .before .before .if2 .left) (c .before .before .if3 .left) (c .if4 .left) in
+    let r =
+    literal-fits (c .before .before .before .before .before .before) (c .before .before .before .before .if2 .left)
+    (c .before .before .if3 .left) (c .if4 .left) in
     search needs
 
 add-place : tie.Need-add-place Inv-loop μ-loop
 add-place c =
-    let r = literal-fits (c .before .before .before .before .before .before) (c .before .before .before .before .if2 .left) (c .before .before .if3 .left) (c .if4 .left) in
+    let r =
+    literal-fits (c .before .before .before .before .before .before) (c .before .before .before .before .if2 .left)
+    (c .before .before .if3 .left) (c .if4 .left) in
     search needs
 
 element-write-book-8 : tie.Need-element-write-book-8 Inv-loop μ-loop
 element-write-book-8 c =
-    let r = literal-fits (c .before .before .before .before .before .before) (c .before .before .before .before .if2 .left) (c .before .before .if3 .left) (c .if4 .left) in
+    let r =
+    literal-fits (c .before .before .before .before .before .before) (c .before .before .before .before .if2 .left)
+    (c .before .before .if3 .left) (c .if4 .left) in
     search needs
 
 mul-book-6 : tie.Need-mul-book-6 Inv-loop μ-loop
 mul-book-6 c =
-    let r = literal-fits (c .before .before .before .before .before .before) (c .before .before .before .before .if2 .left) (c .before .before .if3 .left) (c .if4 .left) in
+    let r =
+    literal-fits (c .before .before .before .before .before .before) (c .before .before .before .before .if2 .left)
+    (c .before .before .if3 .left) (c .if4 .left) in
     search needs
 
 element-write-book-9 : tie.Need-element-write-book-9 Inv-loop μ-loop
 element-write-book-9 c =
-    let r = literal-fits (c .before .before .before .before .before .before) (c .before .before .before .before .if2 .left) (c .before .before .if3 .left) (c .if4 .left) in
+    let r =
+    literal-fits (c .before .before .before .before .before .before) (c .before .before .before .before .if2 .left)
+    (c .before .before .if3 .left) (c .if4 .left) in
     search needs
 
 mul-book-7 : tie.Need-mul-book-7 Inv-loop μ-loop
 mul-book-7 c =
-    let r = literal-fits (c .before .before .before .before .before .before) (c .before .before .before .before .if2 .left) (c .before .before .if3 .left) (c .if4 .left) in
+    let r =
+    literal-fits (c .before .before .before .before .before .before) (c .before .before .before .before .if2 .left)
+    (c .before .before .if3 .left) (c .if4 .left) in
     search needs
 
 element-write-book-10 : tie.Need-element-write-book-10 Inv-loop μ-loop
 element-write-book-10 c =
-    let r = literal-fits (c .before .before .before .before .before .before) (c .before .before .before .before .if2 .left) (c .before .before .if3 .left) (c .if4 .left) in
+    let r =
+    literal-fits (c .before .before .before .before .before .before) (c .before .before .before .before .if2 .left)
+    (c .before .before .if3 .left) (c .if4 .left) in
     search needs
 
 add-literals : tie.Need-add-literals Inv-loop μ-loop
 add-literals c =
-    let r = literal-fits (c .before .before .before .before .before .before) (c .before .before .before .before .if2 .left) (c .before .before .if3 .left) (c .if4 .left) in
+    let r =
+    literal-fits (c .before .before .before .before .before .before) (c .before .before .before .before .if2 .left)
+    (c .before .before .if3 .left) (c .if4 .left) in
     search needs
 
 cast-book-2 : tie.Need-cast-book-2 Inv-loop μ-loop
 cast-book-2 c =
-    let r = literal-fits (c .before .before .before .before .before .before) (c .before .before .before .before .if2 .left) (c .before .before .if3 .left) (c .if4 .left) in
+    let r =
+    literal-fits (c .before .before .before .before .before .before) (c .before .before .before .before .if2 .left)
+    (c .before .before .if3 .left) (c .if4 .left) in
     search needs
 
 sub-book-3 : tie.Need-sub-book-3 Inv-loop μ-loop
 sub-book-3 c =
-    let r = literal-fits (c .before .before .before .before .before .before) (c .before .before .before .before .if2 .left) (c .before .before .if3 .left) (c .if4 .left) in
+    let r =
+    literal-fits (c .before .before .before .before .before .before) (c .before .before .before .before .if2 .left)
+    (c .before .before .if3 .left) (c .if4 .left) in
     search needs
 
 element-write-book-11 : tie.Need-element-write-book-11 Inv-loop μ-loop
 element-write-book-11 c =
-    let r = literal-fits (c .before .before .before .before .before .before) (c .before .before .before .before .if2 .left) (c .before .before .if3 .left) (c .if4 .left) in
+    let r =
+    literal-fits (c .before .before .before .before .before .before) (c .before .before .before .before .if2 .left)
+    (c .before .before .if3 .left) (c .if4 .left) in
     search needs
 
 cast-larger : tie.Need-cast-larger Inv-loop μ-loop
 cast-larger c =
     let e = c .before in
-    let r = literal-fits (e .before .before .before .before .before .before) (e .before .before .before .before .if2 .left) (e .before .before .if3 .left) (e .if4 .left) in
+    let r =
+    literal-fits (e .before .before .before .before .before .before) (e .before .before .before .before .if2 .left)
+    (e .before .before .if3 .left) (e .if4 .left) in
     search needs
 
 add-larger : tie.Need-add-larger Inv-loop μ-loop
 add-larger c =
     let e = c .before in
-    let r = literal-fits (e .before .before .before .before .before .before) (e .before .before .before .before .if2 .left) (e .before .before .if3 .left) (e .if4 .left) in
+    let r =
+    literal-fits (e .before .before .before .before .before .before) (e .before .before .before .before .if2 .left)
+    (e .before .before .if3 .left) (e .if4 .left) in
     search needs
 
 larger-requires : tie.Need-larger-requires Inv-loop μ-loop
@@ -309,7 +341,8 @@ loop-again-3 c =
     let o = a .operands-at .result in
     let r = literal-fits a (e .before .before .before .before .if2 .left) (e .before .before .if3 .left) (e .if4 .left) in
     subst
-    (λ (n : ℕ). SoFar (bytes l) (with-literal (l .loop .book) (l .loop .book .clauses - 1) (l .loop .literals) (o .kind) (o .number) (o .want)) (l .loop .literals + 1) n (o .next))
+    (λ (n : ℕ). SoFar (bytes l) (with-literal (l .loop .book) (l .loop .book .clauses - 1) (l .loop .literals) (o .kind) (o .number)
+    (o .want)) (l .loop .literals + 1) n (o .next))
     (sym (c .larger .ensures))
     (literal-again (bytes l) (l .loop .book) (l .loop .literals) (l .loop .named) (l .loop .at) (l .loop .inv) (fine (a .before))
     (a .operands-at .result) (a .operands-at .ensures)

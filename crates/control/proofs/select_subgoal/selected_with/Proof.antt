@@ -5,7 +5,7 @@ use mathlib.Core.Path.{_≡_, ap, _∙_}
 use lib.ListN.{length}
 use Rattle.strands.specs.declared.Selected.the-variants.{Subgoal}
 use Rattle.strands.specs.Fields.{with-selected}
-use Rattle.strands.proofs.Lists.{length-mapped}
+use Rattle.laws.proofs.Maps.{length-mapped}
 use Rattle.strands.proofs.LiteralCases.{index-is}
 use borrow.Author.Needs.{needs}
 use Rattle.control.proofs.select_subgoal.selected_with.Statement.{statement}

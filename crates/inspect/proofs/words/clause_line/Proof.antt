@@ -11,7 +11,10 @@ use Rattle.inspect.proofs.words.clause_line.Statement.{statement}
 use Rattle.inspect.proofs.words.clause_line.Tie as tie
 
 abbrev Inv-loop : tie.InvT-loop
-Inv-loop out₀ at goal c book count used₀ j₀ out used j = (j ≤ count) × (count ≤ 8) × (c < 256) × (length out ≡ length out₀) × (put-all (literals-left (literal-viewed book) (8 * c) count j) (pen out used) ≡ put-all (literals-left (literal-viewed book) (8 * c) count 0) (pen out₀ used₀))
+Inv-loop out₀ at goal c book count used₀ j₀ out used j =
+    (j ≤ count) × (count ≤ 8) × (c < 256) × (length out ≡ length out₀) ×
+    (put-all (literals-left (literal-viewed book) (8 * c) count j) (pen out used)
+    ≡ put-all (literals-left (literal-viewed book) (8 * c) count 0) (pen out₀ used₀))
 
 abbrev μ-loop : tie.MeasureT-loop
 μ-loop out₀ at goal c book count used₀ j₀ out used j = count - j
@@ -82,7 +85,8 @@ loop-again c =
       omega arith,
       omega arith,
       search needs,
-      literals-step (literal-viewed (start .args .t3)) (8 * start .args .c) (counted .wide8 .result) (turn .loop .j) _ _ _ _ (omega arith) (turn .loop .inv .4)
+      literals-step (literal-viewed (start .args .t3)) (8 * start .args .c) (counted .wide8 .result) (turn .loop .j) _ _ _ _ (omega arith)
+          (turn .loop .inv .4)
           (between .between .ensures) (c .before .before .literal .ensures),
     )
 

@@ -11,7 +11,10 @@ use Rattle.inspect.proofs.words.clauses.Statement.{statement}
 use Rattle.inspect.proofs.words.clauses.Tie as tie
 
 abbrev Inv-loop : tie.InvT-loop
-Inv-loop out₀ at g book first count used₀ k₀ out used k = (k ≤ count) × (count < 65536) × (first < 65536) × (length out ≡ length out₀) × (put-all (clauses-left g (clause-viewed book) first count k) (pen out used) ≡ put-all (clauses-left g (clause-viewed book) first count 0) (pen out₀ used₀))
+Inv-loop out₀ at g book first count used₀ k₀ out used k =
+    (k ≤ count) × (count < 65536) × (first < 65536) × (length out ≡ length out₀) ×
+    (put-all (clauses-left g (clause-viewed book) first count k) (pen out used)
+    ≡ put-all (clauses-left g (clause-viewed book) first count 0) (pen out₀ used₀))
 
 abbrev μ-loop : tie.MeasureT-loop
 μ-loop out₀ at g book first count used₀ k₀ out used k = count - k

@@ -20,7 +20,8 @@ same-length c = search needs
 returns : tie.Need-returns
 returns c =
     let start = c .before .before .before .before .before .before .before .before .before .before in
-    goal-all (start .args .g) (goal-viewed (start .args .t3) (start .args .g)) _ _ _ (c .before .before .before .before .before .before .goal-line .ensures) (c .before .before .clauses .ensures)
+    goal-all (start .args .g) (goal-viewed (start .args .t3) (start .args .g)) _ _ _
+    (c .before .before .before .before .before .before .goal-line .ensures) (c .before .before .clauses .ensures)
 
 pub goal-spec : {M : Type 1} → statement M
 goal-spec =

@@ -10,7 +10,9 @@ use Rattle.inspect.proofs.words.goals.Statement.{statement}
 use Rattle.inspect.proofs.words.goals.Tie as tie
 
 abbrev Inv-loop : tie.InvT-loop
-Inv-loop out₀ at book used₀ g₀ out used g = (length out ≡ length out₀) × (put-all (goals-left (goal-viewed book) (book .goals) g) (pen out used) ≡ put-all (goals-left (goal-viewed book) (book .goals) 0) (pen out₀ used₀))
+Inv-loop out₀ at book used₀ g₀ out used g =
+    (length out ≡ length out₀) × (put-all (goals-left (goal-viewed book) (book .goals) g) (pen out used)
+    ≡ put-all (goals-left (goal-viewed book) (book .goals) 0) (pen out₀ used₀))
 
 abbrev μ-loop : tie.MeasureT-loop
 μ-loop out₀ at book used₀ g₀ out used g = book .goals - g

@@ -7,7 +7,8 @@ use Rattle.reading_tests.proofs.line.opened.Statement.{statement}
 use Rattle.reading_tests.proofs.line.opened.Tie as tie
 
 slice-aggregate-open-read : tie.Need-slice-aggregate-open-read
-slice-aggregate-open-read c = sym (length-take-le (c .before .before .before .args .len) (c .before .before .before .args .bytes .now) (omega arith))
+slice-aggregate-open-read c =
+    sym (length-take-le (c .before .before .before .args .len) (c .before .before .before .args .bytes .now) (omega arith))
 
 open-read-requires : tie.Need-open-read-requires
 open-read-requires c κs = search needs

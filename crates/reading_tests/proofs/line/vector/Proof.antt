@@ -7,7 +7,9 @@ use Rattle.reading_tests.proofs.line.vector.Statement.{statement}
 use Rattle.reading_tests.proofs.line.vector.Tie as tie
 
 slice-aggregate-read : tie.Need-slice-aggregate-read
-slice-aggregate-read c = sym (length-take-le (c .before .before .before .before .before .args .line .len) (c .before .before .before .before .before .args .bytes .now) (omega arith))
+slice-aggregate-read c =
+    sym (length-take-le (c .before .before .before .before .before .args .line .len)
+    (c .before .before .before .before .before .args .bytes .now) (omega arith))
 
 read-requires : tie.Need-read-requires
 read-requires c κs = search needs

@@ -1,7 +1,7 @@
 -- `is_not` at its tests' answers.
 use mathlib.Core.Path.{_≡_, _∙_}
 use lib.ListN.{length}
-use Rattle.strands.proofs.Lists.{length-mapped}
+use Rattle.laws.proofs.Maps.{length-mapped}
 use Rattle.stores.proofs.QueueCases.{not-past, not-far, not-there}
 use borrow.Author.Needs.{needs}
 use Rattle.stores.proofs.queue.is_not.Statement.{statement}
