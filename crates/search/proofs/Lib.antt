@@ -1,6 +1,7 @@
--- The ways out of the functions of each file over variables (Cases), what makes the loop of searches end (Falls), and what is read of the
--- answers that are stored.
+-- The ways out of the functions of each file over variables (Cases), what makes the loop of searches end (Falls), what is read of the
+-- answers that are stored, and what is done before a search's first turn.
 pub mod RootAnswerCases
 pub mod RootAnswerFalls
 pub mod EnsureRootAnswerCases
 pub mod StoredAnswers
+pub mod Starting
