@@ -133,11 +133,11 @@ module _ (b : Book) (asked : Asked) (c : Course) (w : Lent) (o : Rests (stores-o
   is-table : table-at f t ≡ go table
   is-table = table-at-is (first-strands b) (z .tables) (z .strands) (z .answers) f refl t there
 
-  is-flag : flag-at t (w .tables .floundered) ≡ table .floundered
+  pub is-flag : flag-at (asked .table) (w .tables .floundered) ≡ table-held (stores-of b asked (walk c w)) (asked .table) .floundered
   is-flag = floundered-view (first-strands b) (z .tables) (z .strands) (z .answers) (o .sounds .tables) t there
 
   -- nothing is on the stack
-  bare-sound : SoundStack (bare (w .stack))
+  pub bare-sound : SoundStack (bare (w .stack))
   bare-sound =
       let k = o .sounds .stack in
       record {
