@@ -57,3 +57,4 @@ pub mod DoingIdle
 pub mod DoingAble
 pub mod DoingTurn
 pub mod TurnDoes
+pub mod PutBack
