@@ -1,5 +1,5 @@
--- A peek is steps, search after search (`peek-rounds` of the definitions), where its table has the answers below the index or is
--- floundered; and steps lead to one end only.
+-- A peek is steps, search after search: `peek-rounds` of the definitions, on a sound forest whose table has the answers below the index
+-- or is floundered. And steps lead to one end only.
 use Prim.Native.Nat.{ℕ, zero, suc}
 use mathlib.Core.Path.{_≡_, refl, sym, ap, subst, _∙_}
 use mathlib.Core.Bool.{Bool, true, false, true≢false, false≢true}
