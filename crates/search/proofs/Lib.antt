@@ -1,4 +1,9 @@
--- The ways out of the functions of each file over variables (Cases), and what makes the loop of searches end (Falls).
+-- The ways out of the functions of each file over variables (Cases), what makes the loop of searches end (Falls), what is read of the
+-- answers that are stored, and what is done before a search's first turn
+-- (Starting): what it means, what it leaves, and how a peek goes by it.
 pub mod RootAnswerCases
 pub mod RootAnswerFalls
 pub mod EnsureRootAnswerCases
+pub mod StoredAnswers
+pub mod Starting
+pub mod StartingSound
