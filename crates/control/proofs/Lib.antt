@@ -56,3 +56,5 @@ pub mod DoingClears
 pub mod DoingIdle
 pub mod DoingAble
 pub mod DoingTurn
+pub mod TurnDoes
+pub mod PutBack

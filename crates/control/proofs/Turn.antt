@@ -68,7 +68,7 @@ module _ (root index first : ℕ) (z : Stores) (o : SoundStores root index first
         ∙ ap decided-by (sym (strand-decided root index first z o n d))
         ∙ ap (λ (stack : said.Stack). decide (record { forest = forest z; stack = stack })) (sym (stack-is root index first z o n d))
 
-  never-empty : z .stack .depth ≡ 0 → ⊥
+  pub never-empty : z .stack .depth ≡ 0 → ⊥
   never-empty d =
       subst (λ (m : ℕ). asserts.SoundStack (z .book .goals) root index first (forest z) (entries (first-strands (z .book)) (z .stack)
       (z .strands) m)) d (o .state)

@@ -7,17 +7,19 @@ use lib.ListN.{getD, set}
 use Rattle.definitions.specs.Stop.{_>>=_, go}
 use Rattle.split.specs.Acts as split
 use Rattle.strands.specs.declared.Strand.{Strand}
-use Rattle.stores.specs.Queue.{store}
+use Rattle.stores.specs.Numbers.{within}
+use Rattle.stores.specs.Queue.{store, with-places}
 use Rattle.stores.specs.Stack.{caller-place}
 use Rattle.stores.specs.View.{unread-answer}
 use Rattle.control.specs.declared.choose.Chosen.{Chosen}
 use Rattle.control.specs.declared.perform.Flow.the-variants as ways
 use Rattle.control.specs.Doing.{lent, with-lent, Sounds, flows}
 use Rattle.control.specs.Perform.{performed}
-use Rattle.control.specs.PerformDeed.{answers-of}
+use Rattle.control.specs.PerformDeed.{answers-of, bare}
 use Rattle.control.specs.PerformStrand.{Lent, lent-of, TurnDone}
 use Rattle.control.specs.Stores.{Stores, state}
 use Rattle.control.specs.Turn.{top, next, hand-at, chosen-for, decided-for, idle, turn-means}
+use Rattle.control.specs.UnwindStack.{all-back}
 
 -- WHAT THE OWNER WRITES: the copy, then the strand, and the answer
 abbrev pub put : TurnDone → Lent
@@ -58,3 +60,10 @@ module _ (z : Stores) where
     pub does : flows (turn-done .flow) (state turned) ≡ (turn-means z >>= λ act. go (split.perform act (state z)))
     pub undone : (n : ℕ) → turn-done .flow ≡ ways.Stop n → state turned ≡ state z
     pub sound : Sounds [] turned
+
+-- A SEARCH PUT BACK (`Drop` of SolveState): the entries' active strands go back to their tables, and nothing is on the stack
+abbrev pub backed : Stores → Stores
+backed z =
+    with-lent (lent-of (z .tables)
+    (with-places (z .strands) (all-back (z .stack .table) (z .stack .active) (within (z .stack .depth)) (z .strands .places)))
+    (z .answers) (bare (z .stack)) (z .clock)) z

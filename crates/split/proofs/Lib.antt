@@ -10,3 +10,4 @@ pub mod Taking
 pub mod Theorem
 pub mod Reading
 pub mod Searching
+pub mod Peeking
