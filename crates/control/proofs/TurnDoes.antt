@@ -26,7 +26,7 @@ use Rattle.control.specs.Stores.{Stores, first-strands, forest, state, S
 use Rattle.control.specs.Turn.{next, decided-for, idle}
 use Rattle.control.proofs.DoingBack.{stop-performs, strand-found}
 use Rattle.control.proofs.DoingIdle.{idle-performs}
-use Rattle.control.proofs.DoingLeft.{sounds-of}
+use Rattle.control.proofs.Doing.{sounds-of}
 use Rattle.control.proofs.DoingTurn.{strand-performs}
 use Rattle.control.proofs.Turn.{never-empty, turn-decides}
 
