@@ -1,12 +1,13 @@
 -- The ways out of the functions of each file over variables (Cases), what makes the loop of searches end (Falls), what is read of the
 -- answers that are stored, what is done before a search's first turn (Starting): what it means, what it leaves, and how a peek goes by it;
--- and one pass of the loop (Passing): that it is one step of a search, and what it leaves.
+-- and one pass of the loop (Passing): that it is one step of a search or of a peek, and what it leaves.
 pub mod RootAnswerCases
 pub mod RootAnswerFalls
 pub mod EnsureRootAnswerCases
 pub mod StoredAnswers
 pub mod Starting
 pub mod StartingSound
+pub mod StartingPeeks
 pub mod Passing
 pub mod PassingSound
 pub mod PassingSearch

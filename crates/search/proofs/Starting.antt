@@ -44,7 +44,8 @@ use Rattle.search.proofs.StoredAnswers.{stored-in, answers-counted, ans
 
 -- WHAT THE DEFINITIONS START, by their tests
 
-abbrev ended-so : turns.Ending → Forest → Progress
+-- over before a turn is done
+abbrev pub ended-so : turns.Ending → Forest → Progress
 ended-so e f = steps.ended (record { ending = e; turns = 0; forest = f })
 
 -- a search at its first push
@@ -78,11 +79,11 @@ module _ (limit t i : ℕ) (f : Forest) where
   pushes-new e n = pushes-standing e ∙ rw (steps.standing, lt-leb limit 0 (omega arith))
 
   module _ (table : Table) (is : table-at f t ≡ go table) where
-    floundered-ends : table .floundered ≡ true → steps.start limit t i f ≡ ended-so (turns.fail logic.Floundered) f
+    pub floundered-ends : table .floundered ≡ true → steps.start limit t i f ≡ ended-so (turns.fail logic.Floundered) f
     floundered-ends u = rw (steps.start, is, u)
 
     module _ (u : table .floundered ≡ false) where
-      stored-ends : (a : Answer) → answer table i ≡ some a
+      pub stored-ends : (a : Answer) → answer table i ≡ some a
           → steps.start limit t i f ≡ ended-so (turns.ok-ending (record { forest = f; stack = [] }) t i) f
       stored-ends a e = rw (steps.start, is, u, e)
 
@@ -130,7 +131,8 @@ module _ (b : Book) (asked : Asked) (c : Course) (w : Lent) (o : Rests (stores-o
   abbrev progress : Course → Progress
   progress d = progress-of b asked (suc (c .clock)) (begun asked w d)
 
-  is-table : table-at f t ≡ go table
+  pub is-table : table-at (forest (stores-of b asked (walk c w))) (asked .table)
+      ≡ go (table-held (stores-of b asked (walk c w)) (asked .table))
   is-table = table-at-is (first-strands b) (z .tables) (z .strands) (z .answers) f refl t there
 
   pub is-flag : flag-at (asked .table) (w .tables .floundered) ≡ table-held (stores-of b asked (walk c w)) (asked .table) .floundered

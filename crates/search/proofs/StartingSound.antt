@@ -130,7 +130,8 @@ module _ (b : Book) (asked : Asked) (c : Course) (w : Lent) (o : Rests (stores-o
       let r : Reached table (c .index) = subst (λ (u : Table). Reached u (c .index)) (same-some (sym (x .is-made) ∙ made)) (x .reached) in
       omega (arith, unfloundered-few table (c .index) (sym (is-flag b asked c w o root-there) ∙ e) r, counted)
 
-  first-few : flag-at t (w .tables .floundered) ≡ false → first-index asked w c ≤ count
+  pub first-few : flag-at (asked .table) (w .tables .floundered) ≡ false
+      → first-index asked w c ≤ getD (w .answers .places .len) (asked .table) 0
   first-few e =
       let from = index-within e in
       let long = length-ring (a .places) t in
