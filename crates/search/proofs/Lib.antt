@@ -8,6 +8,8 @@ pub mod StoredAnswers
 pub mod Starting
 pub mod StartingSound
 pub mod StartingPeeks
+pub mod StartingValid
 pub mod Passing
 pub mod PassingSound
 pub mod PassingSearch
+pub mod PassingPeeks
