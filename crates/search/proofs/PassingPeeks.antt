@@ -88,7 +88,7 @@ module _ (b : Book) (asked : Asked) (few : asked .limit ≤ MAX) (no-turn : is-t
   -- A SEARCH STARTED leaves what is settled
   module _ (n : Course) (w : Lent) (o : Rests (stores-of b asked (walk n w)))
       (x : Ended (b .goals) (asked .table) (n .index) (forest (stores-of b asked (walk n w)))) (rounds : n .exceeded + n .more < MAX) where
-    started-settled : (over : Bool) → started asked w n .over ≡ over
+    pub started-settled : (over : Bool) → started asked w n .over ≡ over
         → PeekSettled over b asked (suc (n .clock)) (begun asked w (started asked w n))
     started-settled true e = start-rests b asked n w o x e
     started-settled false e = record {
