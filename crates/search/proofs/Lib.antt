@@ -1,6 +1,7 @@
 -- The ways out of the functions of each file over variables (Cases), what makes the loop of searches end (Falls), the loop's passes over
 -- variables (Looping); what is read of the answers that are stored, what is done before a search's first turn (Starting): what it means,
--- what it leaves, and how a peek goes by it; and one pass of the loop (Passing): that it is one step of a search, and what it leaves.
+-- what it leaves, and how a peek goes by it; one pass of the loop (Passing): that it is one step of a search, and what it leaves; and what
+-- a search and a peek come to, from stores between two searches on (Answering).
 pub mod RootAnswerCases
 pub mod RootAnswerFalls
 pub mod EnsureRootAnswerCases
@@ -10,6 +11,9 @@ pub mod StoredAnswers
 pub mod Starting
 pub mod StartingSound
 pub mod StartingPeeks
+pub mod StartingValid
 pub mod Passing
 pub mod PassingSound
 pub mod PassingSearch
+pub mod PassingPeeks
+pub mod Answering

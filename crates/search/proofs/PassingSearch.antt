@@ -117,13 +117,13 @@ module _ (b : Book) (asked : Asked) (few : asked .limit ≤ MAX) (no-turn : is-t
     pub is-over : u .course .over ≡ true
     pub rests : Rests (stores-of b asked u)
 
-  comes-by : (first : ℕ) (over : Bool) {v u : Walk} → v .course .over ≡ over → Settled over b asked first v → Comes b asked v u
+  pub search-comes : (first : ℕ) (over : Bool) {v u : Walk} → v .course .over ≡ over → Settled over b asked first v → Comes b asked v u
       → Searched first over v u
-  comes-by first true e s (is-over x) = record { ends = at-once; is-over = x; rests = s }
-  comes-by first false e s (is-over x) = absurd (true≢false (sym x ∙ e))
-  comes-by first true e s (goes-further x h) = absurd (false≢true (sym x ∙ e))
-  comes-by first false {v = v} {u = u} e s (goes-further x h) =
-      let rest = comes-by first (pass b asked v .course .over) refl (pass-keeps first v e s) h in
+  search-comes first true e s (is-over x) = record { ends = at-once; is-over = x; rests = s }
+  search-comes first false e s (is-over x) = absurd (true≢false (sym x ∙ e))
+  search-comes first true e s (goes-further x h) = absurd (false≢true (sym x ∙ e))
+  search-comes first false {v = v} {u = u} e s (goes-further x h) =
+      let rest = search-comes first (pass b asked v .course .over) refl (pass-keeps first v e s) h in
       record {
         ends = after-step (subst (λ (p : Progress). Ends p (searched-of b asked u)) (pass-steps first v e s) (rest .ends));
         is-over = rest .is-over;
@@ -133,4 +133,4 @@ module _ (b : Book) (asked : Asked) (few : asked .limit ≤ MAX) (no-turn : is-t
   -- A SEARCH that stands comes to what its steps come to.
   pub comes-search : (first : ℕ) {v u : Walk} → v .course .over ≡ false → Underway b asked first v → Comes b asked v u
       → Searched first false v u
-  comes-search first e s h = comes-by first false e s h
+  comes-search first e s h = search-comes first false e s h

@@ -8,7 +8,7 @@ use Rattle.definitions.specs.Forest.{Peeked, peeked}
 use Rattle.definitions.specs.Logic as logic
 use Rattle.definitions.specs.Turn as said
 use Rattle.asserts.proofs.Sound.{SoundForest}
-use Rattle.split.specs.Steps.{Standing, Progress, ended, stands}
+use Rattle.split.specs.Steps.{Standing, Progress, ended, stands, Peeks}
 use Rattle.book.specs.View as books
 use Rattle.book.specs.declared.Book.{Book}
 use Rattle.control.specs.Doing.{Sounds}
@@ -75,3 +75,13 @@ module _ (b : Book) (asked : Asked) where
 
   abbrev pub progress-of : (first : TimeStamp) → Walk → Progress
   progress-of first v = progress-by (v .course .over) first v
+
+  -- WHAT A PEEK COMES TO: it is over, or goes on by its steps from the search that stands
+  abbrev pub peeked-by : (over : Bool) → (first : TimeStamp) → Walk → Peeked → Type 0
+  peeked-by true first v p = p ≡ peeked-of v
+  peeked-by false first v p =
+      let c = v .course in
+      Peeks (asked .limit) (asked .table) (c .more) (c .exceeded) (c .index) (stands (standing-of first v)) p
+
+  abbrev pub PeekedBy : (first : TimeStamp) → Walk → Peeked → Type 0
+  PeekedBy first v p = peeked-by (v .course .over) first v p
