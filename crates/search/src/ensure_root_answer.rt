@@ -188,7 +188,7 @@ fn goes_on(asked: Asked, c: Course) -> bool
 
 // After a turn: the search goes on, or ends and is put back, and the next search of a peek starts. The root's entry is written wherever a
 // search has ended, whether another one starts or not.
-pub fn conclude(
+pub fn conclude<'a>(
     asked: Asked,
     c: Course,
     next: &mut [u8; 256],
@@ -199,13 +199,13 @@ pub fn conclude(
     positive: &mut [u64; 64],
     negative: &mut [u64; 64],
     active: &mut [u16; 64],
-    floundered: &[u8; 64],
-    answer_next: &[u8; 256],
-    answer_tail: &[u8; 256],
-    answer_len: &[u16; 256],
-    answer_variant: &[u16; 256],
-    answer_key: &[u64; 256],
-    answer_ambiguous: &[u8; 256],
+    floundered: &'a [u8; 64],
+    answer_next: &'a [u8; 256],
+    answer_tail: &'a [u8; 256],
+    answer_len: &'a [u16; 256],
+    answer_variant: &'a [u16; 256],
+    answer_key: &'a [u64; 256],
+    answer_ambiguous: &'a [u8; 256],
 ) -> Course
     ensures { λ r. ⌜ ((goals coinductives modes : List ℕ) (strands : List Strand) (times flags variants waiting wanted : List ℕ)
         (answers : List Answer)

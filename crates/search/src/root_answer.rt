@@ -137,16 +137,16 @@ fn push_root(asked: Asked, c: Course) -> Course
 
 // All that is done before the first turn of a search at the course's index: a floundered table or a stored answer ends it. Whoever calls
 // writes the root's entry.
-pub fn start(
+pub fn start<'a>(
     asked: Asked,
     was: Course,
-    floundered: &[u8; 64],
-    answer_next: &[u8; 256],
-    answer_tail: &[u8; 256],
-    answer_len: &[u16; 256],
-    answer_variant: &[u16; 256],
-    answer_key: &[u64; 256],
-    answer_ambiguous: &[u8; 256],
+    floundered: &'a [u8; 64],
+    answer_next: &'a [u8; 256],
+    answer_tail: &'a [u8; 256],
+    answer_len: &'a [u16; 256],
+    answer_variant: &'a [u16; 256],
+    answer_key: &'a [u64; 256],
+    answer_ambiguous: &'a [u8; 256],
 ) -> Course
     ensures { λ r. ⌜ r ≡ start asked (now (floundered .entry)) (now («answer_next» .entry)) (now («answer_tail» .entry))
         (now («answer_len» .entry)) (now («answer_variant» .entry)) (now («answer_key» .entry)) (now («answer_ambiguous» .entry)) was ⌝ }
@@ -332,16 +332,16 @@ fn next_search(mode: Mode, c: Course) -> Course
 }
 
 // The search ends by its last turn, and another one starts where the peek has one to do.
-pub fn end_search(
+pub fn end_search<'a>(
     asked: Asked,
     c: Course,
-    floundered: &[u8; 64],
-    answer_next: &[u8; 256],
-    answer_tail: &[u8; 256],
-    answer_len: &[u16; 256],
-    answer_variant: &[u16; 256],
-    answer_key: &[u64; 256],
-    answer_ambiguous: &[u8; 256],
+    floundered: &'a [u8; 64],
+    answer_next: &'a [u8; 256],
+    answer_tail: &'a [u8; 256],
+    answer_len: &'a [u16; 256],
+    answer_variant: &'a [u16; 256],
+    answer_key: &'a [u64; 256],
+    answer_ambiguous: &'a [u8; 256],
 ) -> Course
     ensures { λ r. ⌜ r ≡ end-search asked (now (floundered .entry)) (now («answer_next» .entry)) (now («answer_tail» .entry))
         (now («answer_len» .entry)) (now («answer_variant» .entry)) (now («answer_key» .entry)) (now («answer_ambiguous» .entry)) c ⌝ }

@@ -346,14 +346,14 @@ pub fn take_strand(
 }
 
 // The test of `any_future_answer` over the queue. No key is looked for, and the times stand in for keys.
-pub fn any_strand(
-    next: &[u8; PLACES],
-    tail: &[u8; PLACES],
-    len: &[u16; PLACES],
+pub fn any_strand<'a>(
+    next: &'a [u8; PLACES],
+    tail: &'a [u8; PLACES],
+    len: &'a [u16; PLACES],
     t: u8,
-    variant: &[u16; PLACES],
+    variant: &'a [u16; PLACES],
     v: u16,
-    time: &[u64; PLACES],
+    time: &'a [u64; PLACES],
 ) -> bool
     ensures { λ r. ⌜ r ≡ ltb (found-in (numbered false (now (variant .entry)) v (now (time .entry)) 0)
         (ring-of (now (next .entry)) (now (tail .entry)) (now (len .entry)) t)) most-places ⌝ }

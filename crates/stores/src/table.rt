@@ -179,15 +179,15 @@ fn repeated(was: bool, is: bool) -> PushAnswer
 }
 
 // The test of `any_future_answer` over the answers from an index on.
-pub fn any_answer(
-    next: &[u8; PLACES],
-    tail: &[u8; PLACES],
-    len: &[u16; PLACES],
+pub fn any_answer<'a>(
+    next: &'a [u8; PLACES],
+    tail: &'a [u8; PLACES],
+    len: &'a [u16; PLACES],
     t: u8,
     from: usize,
-    variant: &[u16; PLACES],
+    variant: &'a [u16; PLACES],
     v: u16,
-    key: &[u64; PLACES],
+    key: &'a [u64; PLACES],
 ) -> bool
     ensures { λ r. ⌜ r ≡ ltb (found-in (numbered false (now (variant .entry)) v (now (key .entry)) 0)
         (drop from (ring-of (now (next .entry)) (now (tail .entry)) (now (len .entry)) t))) most-places ⌝ }
