@@ -1,0 +1,5 @@
+pub mod View
+pub mod Make
+pub mod Open
+pub mod Searches
+pub mod AnyFutureAnswer

@@ -2,6 +2,7 @@
 use crate::Forest;
 use stores::queue::any_strand;
 use stores::table::any_answer;
+ghost use Rattle.forest.specs.AnyFutureAnswer.{FutureSays};
 
 pub enum Future {
     Refused(u8),
@@ -9,7 +10,9 @@ pub enum Future {
 }
 
 // The answers from an index on, and then the queue. Refused with 10 alone, on a marked forest too.
-pub fn any_future_answer(f: Forest, table: u64, index: u64, variant: u64) -> Future {
+pub fn any_future_answer(f: Forest, table: u64, index: u64, variant: u64) -> Future
+    ensures { λ r. ⌜ FutureSays f table index variant r ⌝ }
+{
     if table >= f.count as u64 {
         return Future::Refused(10);
     }

@@ -6,6 +6,7 @@ use stores::queue::blank_strands;
 use stores::table::blank_answers;
 use stores::tables::blank_tables;
 use strands::times::TimeStamp;
+ghost use Rattle.forest.specs.Make.{MakeSays};
 
 pub enum Making {
     Refused(u8),
@@ -103,7 +104,9 @@ fn refused(number: u8, b: Book) -> Made {
 }
 
 // Refused by the book's numbers, then with 13 where the clock's limit is 0 or the largest number.
-pub fn make(bytes: &[u8], clock_limit: u64) -> Made {
+pub fn make(bytes: &[u8], clock_limit: u64) -> Made
+    ensures { λ r. ⌜ MakeSays (now (bytes .entry)) «clock_limit» r ⌝ }
+{
     let r = read(bytes);
     let b = r.book;
     if r.number > 0 {

@@ -4,6 +4,7 @@ use control::make_tables::make_tables;
 use control::select_subgoal::Made;
 use stores::places::in_use;
 use stores::tables::index_of;
+ghost use Rattle.forest.specs.Open.{OpenSays};
 
 pub enum Opening {
     Refused(u8),
@@ -101,7 +102,9 @@ fn made_table(f: Forest, g: u8) -> Forest {
 }
 
 // The table of a goal. Refused with 20 and 9 in this order.
-pub fn open(f: Forest, goal: u64) -> Opened {
+pub fn open(f: Forest, goal: u64) -> Opened
+    ensures { λ r. ⌜ OpenSays f goal r ⌝ }
+{
     if f.mark > 0 {
         return Opened {
             opening: Opening::Refused(20),

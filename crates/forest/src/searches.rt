@@ -11,6 +11,9 @@ use search::root_answer::start;
 use stores::numbers::flag_at;
 use stores::stack::push_entry;
 use strands::times::TimeStamp;
+ghost use mathlib.Core.Path.{_≡_};
+ghost use Rattle.search.specs.RootAnswer.{start};
+ghost use Rattle.forest.specs.Searches.{outcome-of, course-in, Runs, SearchSays, PeekSays};
 
 // The listed results of a search or a peek.
 pub enum Outcome {
@@ -69,7 +72,9 @@ fn refusal(f: Forest, table: u64, index: u64) -> u8 {
     0
 }
 
-fn outcome_of(ending: Ending) -> Outcome {
+fn outcome_of(ending: Ending) -> Outcome
+    ensures { λ r. ⌜ r ≡ outcome-of ending ⌝ }
+{
     match ending {
         Ending::Found(variant, ambiguous) => Outcome::Found(variant, ambiguous),
         Ending::NoMoreSolutions => Outcome::NoMoreSolutions,
@@ -83,7 +88,9 @@ fn outcome_of(ending: Ending) -> Outcome {
 }
 
 // The course of searches before the first of them starts.
-fn first_course(f: Forest, index: u64, more: u64) -> Course {
+fn first_course(f: Forest, index: u64, more: u64) -> Course
+    ensures { λ r. ⌜ r ≡ course-in f index more ⌝ }
+{
     Course {
         over: false,
         ending: Ending::Cut,
@@ -114,7 +121,10 @@ fn renumbered(f: Forest, c: Course) -> Forest {
 }
 
 // The first search is started, and where that ends it there is nothing to run.
-fn run(f: Forest, asked: Asked, index: u64, more: u64) -> Ran {
+fn run(f: Forest, asked: Asked, index: u64, more: u64) -> Ran
+    ensures { λ r. ⌜ Runs f asked (start asked (f .floundered) (f .«answer_next») (f .«answer_tail») (f .«answer_len»)
+        (f .«answer_variant») (f .«answer_key») (f .«answer_ambiguous») (course-in f index more)) r ⌝ }
+{
     let c = start(
         asked,
         first_course(f, index, more),
@@ -136,7 +146,9 @@ fn run(f: Forest, asked: Asked, index: u64, more: u64) -> Ran {
 }
 
 // The loop, with all the forest's numbers lent.
-fn run_loop(f: Forest, asked: Asked, c: Course) -> Ran {
+fn run_loop(f: Forest, asked: Asked, c: Course) -> Ran
+    ensures { λ r. ⌜ Runs f asked c r ⌝ }
+{
     let mut goal = f.goal;
     let mut coinductive = f.coinductive;
     let mut floundered = f.floundered;
@@ -255,7 +267,9 @@ fn run_loop(f: Forest, asked: Asked, c: Course) -> Ran {
 }
 
 // A search for the answer at an index of a table, by at most so many turns. Refused with 20, 10, 11 and 12 in this order.
-pub fn search(f: Forest, table: u64, index: u64, limit: u64) -> Searched {
+pub fn search(f: Forest, table: u64, index: u64, limit: u64) -> Searched
+    ensures { λ r. ⌜ SearchSays f table index limit r ⌝ }
+{
     let n = refusal(f, table, index);
     if n > 0 {
         return Searched {
@@ -301,7 +315,9 @@ fn refused_peek(f: Forest, index: u64, number: u8) -> Peeked {
 
 // A peek from an index of a table on, by at most so many rounds and so many turns for each search. Refused with 20, 10, 11 and 12 in this
 // order.
-pub fn peek(f: Forest, table: u64, index: u64, rounds: u64, limit: u64) -> Peeked {
+pub fn peek(f: Forest, table: u64, index: u64, rounds: u64, limit: u64) -> Peeked
+    ensures { λ r. ⌜ PeekSays f table index rounds limit r ⌝ }
+{
     let n = refusal(f, table, index);
     if n > 0 {
         return refused_peek(f, index, n);
