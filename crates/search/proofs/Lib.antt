@@ -19,3 +19,4 @@ pub mod PassingSearch
 pub mod PassingPeeks
 pub mod Answering
 pub mod SolveStateCases
+pub mod SolveStates
