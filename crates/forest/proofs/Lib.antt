@@ -1,0 +1,2 @@
+-- The ways out of the functions of each file over variables (Cases).
+pub mod SearchesCases
