@@ -1,1 +1,2 @@
 pub mod AnyFutureAnswerCases
+pub mod MakeCases
