@@ -1,6 +1,6 @@
 -- What is run from a sound forest on: a search comes to the definitions' `root-answer`, a peek to their `peek-rounds`, and the forest that
 -- is left is sound.
-use Prim.Native.Nat.{ℕ, _+_, _≤_, _<_}
+use Prim.Native.Nat.{ℕ, _≤_, _<_}
 use native.Mathlib.Omega.{arith}
 use mathlib.Core.Bool.{true, false}
 use mathlib.Core.Path.{_≡_, refl, sym, ap, subst, _∙_}
@@ -20,7 +20,7 @@ use Rattle.control.specs.Stores.{Stores, first-strands, forest}
 use Rattle.search.specs.declared.course.Asked.{Asked}
 use Rattle.search.specs.declared.course.Course.{Course}
 use Rattle.search.specs.Course.{is-turn, is-peek}
-use Rattle.search.specs.Means.{Rests, ending-means, stores-of, searched-of, peeked-of}
+use Rattle.search.specs.Means.{Rests, ending-means, stores-of}
 use Rattle.search.specs.RootAnswer.{start}
 use Rattle.search.specs.Walk.{Walk, walk}
 use Rattle.search.proofs.Answering.{search-answers, peek-answers}
@@ -165,7 +165,8 @@ module _ (f : Forest) (asked : Asked) (same : asked .«clock_limit» ≡ f .«cl
             forest = view (r .forest);
           })) × Sound (r .forest)
       peek-runs peeks rounds =
-          let a = peek-answers (book-in f) asked few no-turn first lent-first first-rests first-ended peeks (omega arith) {u = last} (h .comes) in
+          let a = peek-answers (book-in f) asked few no-turn first lent-first first-rests first-ended peeks (omega arith) {u = last}
+          (h .comes) in
           let v = left-view (r .course) (r .forest) (h .carries) (h .stack) in (
             ap (λ (z : Stores). peek-rounds more (asked .limit) 0 (asked .table) index (forest z)) first-is ∙ a .0
                 ∙ ap the-peek (sym v),

@@ -108,9 +108,52 @@ course-in f index more = record {
   «answer_used» = f .«answer_used»;
 }
 
+-- a forest in which only the numbers that a course carries have changed
+abbrev pub renumbered : Forest → Course → Forest
+renumbered f c = record {
+  goals = f .goals;
+  clauses = f .clauses;
+  «goal_flags» = f .«goal_flags»;
+  «goal_first» = f .«goal_first»;
+  «goal_len» = f .«goal_len»;
+  «clause_variant» = f .«clause_variant»;
+  «clause_flags» = f .«clause_flags»;
+  «clause_len» = f .«clause_len»;
+  «literal_kind» = f .«literal_kind»;
+  «literal_goal» = f .«literal_goal»;
+  «literal_want» = f .«literal_want»;
+  count = c .count;
+  goal = f .goal;
+  coinductive = f .coinductive;
+  floundered = f .floundered;
+  complete = f .complete;
+  strands = f .strands;
+  next = f .next;
+  tail = f .tail;
+  len = f .len;
+  time = f .time;
+  ambiguous = f .ambiguous;
+  variant = f .variant;
+  waits = f .waits;
+  wants = f .wants;
+  used = c .used;
+  answers = f .answers;
+  «answer_next» = f .«answer_next»;
+  «answer_tail» = f .«answer_tail»;
+  «answer_len» = f .«answer_len»;
+  «answer_variant» = f .«answer_variant»;
+  «answer_key» = f .«answer_key»;
+  «answer_ambiguous» = f .«answer_ambiguous»;
+  «answer_used» = c .«answer_used»;
+  «clock_limit» = f .«clock_limit»;
+  mark = c .mark;
+  clock = c .clock;
+}
+
 -- the root's entry is at the bottom of the stack
 abbrev pub rooted : Asked → Lent → Course → Walk
-rooted asked w c = walk c (lent-of (w .tables) (w .strands) (w .answers) (pushed (asked .table) (c .clock) MAX (bare (w .stack))) (w .clock))
+rooted asked w c =
+    walk c (lent-of (w .tables) (w .strands) (w .answers) (pushed (asked .table) (c .clock) MAX (bare (w .stack))) (w .clock))
 
 -- a forest by what a course carries
 pub record Carries (f : Forest) (c : Course) (g : Forest) : Type 0 where

@@ -13,7 +13,7 @@ use stores::stack::push_entry;
 use strands::times::TimeStamp;
 ghost use mathlib.Core.Path.{_≡_};
 ghost use Rattle.search.specs.RootAnswer.{start};
-ghost use Rattle.forest.specs.Searches.{refusal-of, refused-peek, outcome-of, course-in, Runs, SearchSays, PeekSays};
+ghost use Rattle.forest.specs.Searches.{refusal-of, refused-peek, outcome-of, course-in, renumbered, Runs, SearchSays, PeekSays};
 
 // The listed results of a search or a peek.
 pub enum Outcome {
@@ -113,7 +113,9 @@ fn first_course(f: Forest, index: u64, more: u64) -> Course
 }
 
 // A forest in which only numbers have changed.
-fn renumbered(f: Forest, c: Course) -> Forest {
+fn renumbered(f: Forest, c: Course) -> Forest
+    ensures { λ r. ⌜ r ≡ renumbered f c ⌝ }
+{
     Forest {
         count: c.count,
         used: c.used,
