@@ -1,4 +1,8 @@
--- The ways out of the functions of each file over variables (Cases).
+-- What is run from a sound forest on (Running), what a search and a peek are refused by (Refusing), and the ways out of the functions of
+-- each file over variables (Cases).
+pub mod Running
+pub mod Refusing
 pub mod SearchesCases
+pub mod SearchPeekCases
 pub mod AnyFutureAnswerCases
 pub mod MakeCases

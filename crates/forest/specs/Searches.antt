@@ -1,14 +1,17 @@
 -- What a search and a peek say: the definitions' results, in the words of the code.
-use Prim.Native.Nat.{ℕ}
-use mathlib.Core.Bool.{Bool, false}
+use Prim.Native.Nat.{ℕ, _%_}
+use mathlib.Core.Bool.{Bool, true, false}
 use mathlib.Core.Path.{_≡_}
+use lib.Dec.{leb, ltb}
+use lib.ListN.{getD}
 use Rattle.definitions.specs.{MAX}
 use Rattle.definitions.specs.Forest as said
 use Rattle.definitions.specs.Logic as logic
 use Rattle.definitions.specs.Refusal.{Refusable, refused, accepted}
 use Rattle.definitions.specs.Turn as turns
 use Rattle.stores.specs.declared.stack.Stack.{Stack}
-use Rattle.stores.specs.Stack.{pushed}
+use Rattle.stores.specs.Numbers.{flag-at}
+use Rattle.stores.specs.Stack.{pushed, blank-stack}
 use Rattle.control.specs.declared.perform.Flow.the-variants as flow
 use Rattle.control.specs.PerformDeed.{bare}
 use Rattle.control.specs.PerformStrand.{Lent, lent-of}
@@ -25,7 +28,6 @@ use Rattle.forest.specs.declared.searches.Peeked.{Peeked}
 use Rattle.forest.specs.declared.searches.Ran.{Ran}
 use Rattle.forest.specs.declared.searches.Searched.{Searched}
 use Rattle.forest.specs.View.{book-in, lent-with, view, Sound}
-use Rattle.stores.specs.Stack.{blank-stack}
 
 -- WHAT A RESULT MEANS: refused by a number, or how the search ended
 abbrev pub outcome-of : Ending → Outcome
@@ -69,6 +71,22 @@ pub record PeekSays (f : Forest) (table index rounds limit : ℕ) (r : Peeked) :
   pub sound : Sound f → Sound (r .forest)
   pub unchanged : (n : ℕ) → r .outcome ≡ outcomes.Refused n → r .forest ≡ f
   pub marked : (f .mark ≡ 0 → ⊥) → r .outcome ≡ outcomes.Refused 20
+
+-- WHAT IS TESTED FIRST: 20, 10 and 11, or 0 where none of them refuses
+abbrev pub refusal-by : (marked missing floundered above : Bool) → ℕ
+refusal-by true missing floundered above = 20
+refusal-by false true floundered above = 10
+refusal-by false false true above = 0
+refusal-by false false false true = 11
+refusal-by false false false false = 0
+
+abbrev pub refusal-of : Forest → (table index : ℕ) → ℕ
+refusal-of f table index =
+    let t = table % 256 in
+    refusal-by (ltb 0 (f .mark)) (leb (f .count) table) (flag-at t (f .floundered)) (ltb (getD (f .«answer_len») t 0) index)
+
+abbrev pub refused-peek : Forest → (index number : ℕ) → Peeked
+refused-peek f index number = record { outcome = outcomes.Refused number; index = index; turns = 0; exceeded = 0; forest = f }
 
 -- HOW THEY ARE RUN
 
@@ -134,7 +152,8 @@ renumbered f c = record {
 
 -- the root's entry is at the bottom of the stack
 abbrev pub rooted : Asked → Lent → Course → Walk
-rooted asked w c = walk c (lent-of (w .tables) (w .strands) (w .answers) (pushed (asked .table) (c .clock) MAX (bare (w .stack))) (w .clock))
+rooted asked w c =
+    walk c (lent-of (w .tables) (w .strands) (w .answers) (pushed (asked .table) (c .clock) MAX (bare (w .stack))) (w .clock))
 
 -- a forest by what a course carries
 pub record Carries (f : Forest) (c : Course) (g : Forest) : Type 0 where

@@ -13,7 +13,7 @@ use stores::stack::push_entry;
 use strands::times::TimeStamp;
 ghost use mathlib.Core.Path.{_≡_};
 ghost use Rattle.search.specs.RootAnswer.{start};
-ghost use Rattle.forest.specs.Searches.{outcome-of, course-in, renumbered, Runs, SearchSays, PeekSays};
+ghost use Rattle.forest.specs.Searches.{refusal-of, refused-peek, outcome-of, course-in, renumbered, Runs, SearchSays, PeekSays};
 
 // The listed results of a search or a peek.
 pub enum Outcome {
@@ -50,12 +50,16 @@ pub struct Ran {
     pub forest: Forest,
 }
 
-fn wide_len(n: u16) -> u64 {
+fn wide_len(n: u16) -> u64
+    ensures { λ r. ⌜ r ≡ n ⌝ }
+{
     n as u64
 }
 
 // The number by which a search is refused before its limits are looked at: 20, 10, 11; or 0.
-fn refusal(f: Forest, table: u64, index: u64) -> u8 {
+fn refusal(f: Forest, table: u64, index: u64) -> u8
+    ensures { λ r. ⌜ r ≡ refusal-of f table index ⌝ }
+{
     if f.mark > 0 {
         return 20;
     }
@@ -305,7 +309,9 @@ pub fn search(f: Forest, table: u64, index: u64, limit: u64) -> Searched
     }
 }
 
-fn refused_peek(f: Forest, index: u64, number: u8) -> Peeked {
+fn refused_peek(f: Forest, index: u64, number: u8) -> Peeked
+    ensures { λ r. ⌜ r ≡ refused-peek f index number ⌝ }
+{
     Peeked {
         outcome: Outcome::Refused(number),
         index,
