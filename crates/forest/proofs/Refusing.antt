@@ -12,11 +12,9 @@ use borrow.Author.Tests.{lt-ltb, le-ltb, le-leb, lt-leb, ne-eqb, ltb-false, leb-
 use Rattle.definitions.specs.Forest.{is-marked, not-made, index-above}
 use Rattle.definitions.specs.Refusal.{Refusable, refused, Test, _refuses_, unless}
 use Rattle.definitions.specs.Table.{Table}
-use Rattle.laws.proofs.Spans.{length-span}
 use Rattle.asserts.proofs.Sound.{Reached}
 use Rattle.asserts.proofs.Unwinding.{Ended}
 use Rattle.stores.specs.Numbers.{flag-at}
-use Rattle.stores.specs.View.{held-table}
 use Rattle.stores.proofs.TablesViews.{table-there, floundered-view}
 use Rattle.control.specs.Stores.{Stores, first-strands}
 use Rattle.control.proofs.Stores.{table-held}
@@ -24,6 +22,7 @@ use Rattle.search.proofs.StoredAnswers.{answers-counted}
 use Rattle.forest.specs.declared.Forest.{Forest}
 use Rattle.forest.specs.Searches.{refusal-by, refusal-of}
 use Rattle.forest.specs.View.{stores-in, view, Sound}
+use Rattle.forest.proofs.Running.{tables-counted}
 
 -- THE WAYS OUT OF `refusal`
 module _ (f : Forest) (table index : ℕ) where
@@ -114,9 +113,6 @@ module _ (f : Forest) (o : Sound f) (t i : ℕ) where
   abbrev z : Stores
   z = stores-in f
 
-  counted : length (view f .tables) ≡ f .count
-  counted = length-span (held-table (first-strands (z .book)) (z .tables) (z .strands) (z .answers)) 0 (f .count)
-
   module _ (there : t < f .count) where
     pub table-small : t % 256 ≡ t
     table-small = omega (arith, o .sounds .tables .few)
@@ -156,7 +152,7 @@ module _ (f : Forest) (o : Sound f) (t i : ℕ) where
     pub refusal-is : unless (is-marked (view f) refuses 20 ∷ not-made (view f) t refuses 10 ∷ index-above (view f) t i refuses 11 ∷ rest) a
         ≡ refused-or (refusal-of f t i) rest a
     refusal-is =
-        ap (λ (n : ℕ). tested (is-marked (view f)) (leb n t) (index-above (view f) t i) rest a) counted
+        ap (λ (n : ℕ). tested (is-marked (view f)) (leb n t) (index-above (view f) t i) rest a) (tables-counted f)
         ∙ by-missing (leb (f .count) t) refl
 
   -- where none of them refuses, there is the table, and it has the answers below the index

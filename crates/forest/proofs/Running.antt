@@ -4,15 +4,17 @@ use Prim.Native.Nat.{ℕ, _≤_, _<_}
 use native.Mathlib.Omega.{arith}
 use mathlib.Core.Bool.{true, false}
 use mathlib.Core.Path.{_≡_, refl, sym, ap, subst, _∙_}
+use lib.ListN.{length}
 use Rattle.definitions.specs.{MAX}
 use Rattle.definitions.specs.Forest.{Peeked, peek-rounds}
 use Rattle.definitions.specs.Tables as said
 use Rattle.definitions.specs.Turn.{Searched, root-answer}
+use Rattle.laws.proofs.Spans.{length-span}
 use Rattle.asserts.proofs.Unwinding.{Ended}
 use Rattle.stores.specs.declared.stack.Stack.{Stack}
 use Rattle.stores.specs.Sound.{SoundStrands}
 use Rattle.stores.specs.Stack.{blank-stack}
-use Rattle.stores.specs.View.{active-places}
+use Rattle.stores.specs.View.{held-table, active-places}
 use Rattle.stores.proofs.StackViews.{blank-stack-sound}
 use Rattle.control.specs.PerformDeed.{stack-of}
 use Rattle.control.specs.PerformStrand.{Lent}
@@ -28,6 +30,11 @@ use Rattle.forest.specs.declared.Forest.{Forest}
 use Rattle.forest.specs.declared.searches.Ran.{Ran}
 use Rattle.forest.specs.Searches.{course-in, Carries, Runs}
 use Rattle.forest.specs.View.{book-in, lent-with, stores-with, stores-in, view, Sound}
+
+pub tables-counted : (f : Forest) → length (view f .tables) ≡ f .count
+tables-counted f =
+    let z = stores-in f in
+    length-span (held-table (first-strands (z .book)) (z .tables) (z .strands) (z .answers)) 0 (f .count)
 
 -- stores between two searches hold nothing on their stack, whichever stack that is
 pub rests-bare : (g : Forest) (k : Stack) → Rests (stores-with g k) → Sound g

@@ -1,10 +1,18 @@
 // `iter_answers`, its first statement: a goal's table is found or made. A forest in which its strands have no room stops with 22.
 use crate::Forest;
+use book::access::goal_number;
+use book::access::is_floundered;
 use control::make_tables::make_tables;
 use control::select_subgoal::Made;
 use stores::places::in_use;
 use stores::tables::index_of;
-ghost use Rattle.forest.specs.Open.{OpenSays};
+ghost use Prim.Native.Nat.{_+_};
+ghost use mathlib.Core.Path.{_≡_};
+ghost use lib.Dec.{ltb};
+ghost use Rattle.definitions.specs.Book.{bit1};
+ghost use Rattle.book.specs.Access.{entry};
+ghost use Rattle.control.specs.SelectSubgoal.{strands-by};
+ghost use Rattle.forest.specs.Open.{tabling-in, made-for, forest-with, OpenSays};
 
 pub enum Opening {
     Refused(u8),
@@ -18,26 +26,32 @@ pub struct Opened {
 }
 
 // How many strands a table of the goal begins with: a floundered one has none.
-fn strands_of<'a>(goal_flags: &'a [u8; 64], goal_len: &'a [u16; 64], g: u8) -> u16 {
-    let i = g as usize;
-    if i >= 64 {
+fn strands_of<'a>(goal_flags: &'a [u8; 64], goal_len: &'a [u16; 64], g: u8) -> u16
+    ensures { λ r. ⌜ r ≡ strands-by (bit1 (entry 64 (now («goal_flags» .entry)) g)) (entry 64 (now («goal_len» .entry)) g) ⌝ }
+{
+    if is_floundered(goal_flags, g as usize) {
         return 0;
     }
-    if goal_flags[i] & 2 == 2 {
-        return 0;
-    }
-    goal_len[i]
+    goal_number(goal_len, g as usize)
 }
 
 // More than 256 strands would be live.
-fn too_many(live: u16, more: u16) -> bool {
-    if live > 256 {
-        return true;
-    }
-    more > 256 - live
+fn too_many(live: u16, more: u16) -> bool
+    ensures { λ r. ⌜ r ≡ ltb 256 (live + more) ⌝ }
+{
+    live as usize + more as usize > 256
 }
 
-fn made_table(f: Forest, g: u8) -> Forest {
+// The forest stops with 22.
+fn full(f: Forest) -> Forest
+    ensures { λ r. ⌜ r ≡ forest-with (tabling-in f) 22 f ⌝ }
+{
+    Forest { mark: 22, ..f }
+}
+
+fn made_table(f: Forest, g: u8) -> Forest
+    ensures { λ r. ⌜ r ≡ forest-with (made-for g f) (f .mark) f ⌝ }
+{
     let mut goal = f.goal;
     let mut coinductive = f.coinductive;
     let mut floundered = f.floundered;
@@ -130,7 +144,7 @@ pub fn open(f: Forest, goal: u64) -> Opened
     if too_many(live, more) {
         return Opened {
             opening: Opening::Stopped(22),
-            forest: Forest { mark: 22, ..f },
+            forest: full(f),
         };
     }
     let table = f.count as u64;
