@@ -5,3 +5,5 @@ pub mod Refusing
 pub mod SearchesCases
 pub mod SearchPeekCases
 pub mod OpenCases
+pub mod AnyFutureAnswerCases
+pub mod MakeCases

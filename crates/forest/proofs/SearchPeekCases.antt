@@ -77,7 +77,7 @@ module _ (f : Forest) (t i limit n : ℕ) (is : n ≡ refusal-of f t i) where
         sym (refused-some n last-test found h) ∙ ap (λ (k : ℕ). refused-or k last-test found) is
         ∙ sym (refusal-is f o t i last-test found);
     sound = λ o. o;
-    unchanged = λ k e. refl;
+    unchanged = λ k e. ap (λ (x : Outcome). record { outcome = x; turns = 0; forest = f }) e;
     marked = λ m. ap outcomes.Refused (is ∙ marked-refused f t i m);
   }
 
@@ -89,7 +89,7 @@ module _ (f : Forest) (t i limit n : ℕ) (is : n ≡ refusal-of f t i) where
     search-limit e = record {
       says = λ o. sym (goes-on o ∙ ap (λ (b : Bool). unless (b refuses 12 ∷ []) found) (eq-eqb limit 0 e));
       sound = λ o. o;
-      unchanged = λ k q. refl;
+      unchanged = λ k q. ap (λ (x : Outcome). record { outcome = x; turns = 0; forest = f }) q;
       marked = λ m. unmarked f t i n is passes m;
     }
 
@@ -132,7 +132,7 @@ module _ (f : Forest) (t i rounds limit n : ℕ) (is : n ≡ refusal-of f t i) w
         sym (refused-some n last-peek-test peeked h) ∙ ap (λ (k : ℕ). refused-or k last-peek-test peeked) is
         ∙ sym (refusal-is f o t i last-peek-test peeked);
     sound = λ o. o;
-    unchanged = λ k e. refl;
+    unchanged = λ k e. ap (λ (x : Outcome). record { outcome = x; index = i; turns = 0; exceeded = 0; forest = f }) e;
     marked = λ m. ap outcomes.Refused (is ∙ marked-refused f t i m);
   }
 
@@ -148,7 +148,7 @@ module _ (f : Forest) (t i rounds limit n : ℕ) (is : n ≡ refusal-of f t i) w
     by-limits e = record {
       says = λ o. sym (peek-goes-on o ∙ ap (λ (b : Bool). unless (b refuses 12 ∷ []) peeked) e);
       sound = λ o. o;
-      unchanged = λ k q. refl;
+      unchanged = λ k q. ap (λ (x : Outcome). record { outcome = x; index = i; turns = 0; exceeded = 0; forest = f }) q;
       marked = λ m. unmarked f t i n is passes m;
     }
 

@@ -59,17 +59,18 @@ peeked-means r = reply-by (r .outcome)
     (λ e. record { ending = e; index = r .index; turns = r .turns; exceeded = r .exceeded; forest = view (r .forest) })
 
 -- THE CONTRACTS. For every sound forest the result is the definitions' and the forest left is sound; and whatever the forest, a refused
--- call leaves it as it was, and a marked one is refused with 20.
+-- call tells the number alone and leaves the very same forest, and a marked one is refused with 20.
 pub record SearchSays (f : Forest) (table index limit : ℕ) (r : Searched) : Type 0 where
   pub says : Sound f → searched-means r ≡ said.search (view f) table index limit
   pub sound : Sound f → Sound (r .forest)
-  pub unchanged : (n : ℕ) → r .outcome ≡ outcomes.Refused n → r .forest ≡ f
+  pub unchanged : (n : ℕ) → r .outcome ≡ outcomes.Refused n → r ≡ record { outcome = outcomes.Refused n; turns = 0; forest = f }
   pub marked : (f .mark ≡ 0 → ⊥) → r .outcome ≡ outcomes.Refused 20
 
 pub record PeekSays (f : Forest) (table index rounds limit : ℕ) (r : Peeked) : Type 0 where
   pub says : Sound f → peeked-means r ≡ said.peek (view f) table index rounds limit
   pub sound : Sound f → Sound (r .forest)
-  pub unchanged : (n : ℕ) → r .outcome ≡ outcomes.Refused n → r .forest ≡ f
+  pub unchanged : (n : ℕ) → r .outcome ≡ outcomes.Refused n
+      → r ≡ record { outcome = outcomes.Refused n; index = index; turns = 0; exceeded = 0; forest = f }
   pub marked : (f .mark ≡ 0 → ⊥) → r .outcome ≡ outcomes.Refused 20
 
 -- WHAT IS TESTED FIRST: 20, 10 and 11, or 0 where none of them refuses

@@ -6,7 +6,8 @@ use stores::queue::blank_strands;
 use stores::table::blank_answers;
 use stores::tables::blank_tables;
 use strands::times::TimeStamp;
-ghost use Rattle.forest.specs.Make.{MakeSays};
+ghost use mathlib.Core.Path.{_≡_};
+ghost use Rattle.forest.specs.Make.{bare, refused-with, MakeSays};
 
 pub enum Making {
     Refused(u8),
@@ -20,7 +21,9 @@ pub struct Made {
 }
 
 // A forest with this book and nothing in it.
-fn bare_forest(b: Book, clock_limit: u64, mark: u8) -> Forest {
+fn bare_forest(b: Book, clock_limit: u64, mark: u8) -> Forest
+    ensures { λ r. ⌜ r ≡ bare b «clock_limit» mark ⌝ }
+{
     let ts = blank_tables();
     let s = blank_strands();
     let p = s.places;
@@ -97,7 +100,9 @@ fn bare_forest(b: Book, clock_limit: u64, mark: u8) -> Forest {
 }
 
 // A forest that was not made is marked with the number, so that whoever calls it is refused.
-fn refused(number: u8, b: Book) -> Made {
+fn refused(number: u8, b: Book) -> Made
+    ensures { λ r. ⌜ r ≡ refused-with number b ⌝ }
+{
     let making = Making::Refused(number);
     let forest = bare_forest(b, 0, number);
     Made { making, forest }

@@ -4,3 +4,4 @@ pub mod Falls
 pub mod EnsureRootAnswer
 pub mod Walk
 pub mod Means
+pub mod SolveState

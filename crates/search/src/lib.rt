@@ -2,3 +2,4 @@
 pub mod course;
 pub mod ensure_root_answer;
 pub mod root_answer;
+pub mod solve_state;

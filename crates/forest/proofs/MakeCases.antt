@@ -1,0 +1,140 @@
+-- The ways out of `make`, over variables.
+use Prim.Native.Nat.{ℕ, _≤_, _<_}
+use native.Mathlib.Omega.{arith}
+use mathlib.Core.Bool.{Bool, false, _||_}
+use mathlib.Core.List.{List, [], _∷_}
+use mathlib.Core.Path.{_≡_, refl, sym, ap, _∙_, subst}
+use lib.Dec.{eqb, leb}
+use borrow.Author.Tests.{le-leb, lt-leb, eq-eqb, ne-eqb}
+use Rattle.definitions.specs.{MAX}
+use Rattle.definitions.specs.Book as said-book
+use Rattle.definitions.specs.Forest as said
+use Rattle.definitions.specs.Refusal.{Refusable, refused, accepted, _refuses_, unless}
+use Rattle.definitions.specs.Tables as tables
+use Rattle.laws.proofs.Spans.{length-span}
+use Rattle.asserts.proofs.Reading.{made-sound}
+use Rattle.asserts.proofs.Sound.{SoundForest}
+use Rattle.book.specs.View as books
+use Rattle.book.specs.declared.Book.{Book}
+use Rattle.book.specs.declared.Reading.{Reading}
+use Rattle.stores.specs.declared.queue.Strands.{Strands}
+use Rattle.stores.specs.declared.table.Answers.{Answers}
+use Rattle.stores.specs.declared.tables.Tables.{Tables}
+use Rattle.stores.specs.Queue.{blank-strands}
+use Rattle.stores.specs.Table.{blank-answers}
+use Rattle.stores.specs.Tables.{blank-tables}
+use Rattle.stores.proofs.QueueSound.{blank-strands-sound}
+use Rattle.stores.proofs.StackViews.{blank-stack-sound}
+use Rattle.stores.proofs.TableViews.{blank-answers-sound}
+use Rattle.stores.proofs.TablesViews.{blank-tables-sound}
+use Rattle.control.specs.Doing.{Sounds}
+use Rattle.control.specs.Stores.{first-strands}
+use Rattle.forest.specs.declared.Forest.{Forest}
+use Rattle.forest.specs.declared.make.Made.{Made}
+use Rattle.forest.specs.declared.make.Making.{Making}
+use Rattle.forest.specs.declared.make.Making.the-variants as makings
+use Rattle.forest.specs.Make.{forest-with, bare, refused-with, MakeSays}
+use Rattle.forest.specs.View.{stores-in, view, Sound}
+
+-- which way it went
+abbrev WasMade : Making → Type 0
+WasMade (makings.Refused n) = ⊥
+WasMade makings.Made = Unit {0}
+
+abbrev number-in : Making → ℕ
+number-in (makings.Refused n) = n
+number-in makings.Made = 0
+
+-- the stores that are put together
+pub bare-is : (b : Book) (limit mark : ℕ) (ts : Tables) → ts ≡ blank-tables → (s : Strands) → s ≡ blank-strands → (a : Answers)
+    → a ≡ blank-answers → forest-with b ts s a limit mark ≡ bare b limit mark
+bare-is b limit mark ts et s es a ea =
+    ap (λ (u : Tables). forest-with b u s a limit mark) et
+    ∙ ap (λ (u : Strands). forest-with b blank-tables u a limit mark) es
+    ∙ ap (λ (u : Answers). forest-with b blank-tables blank-strands u limit mark) ea
+
+pub refused-is : (n : ℕ) (b : Book) (f : Forest) → f ≡ bare b 0 n
+    → _≡_ {A = Made} (record { making = makings.Refused n; forest = f }) (refused-with n b)
+refused-is n b f e = ap (λ (g : Forest). record { making = makings.Refused n; forest = g }) e
+
+-- blank stores are sound, with any book
+pub bare-sounds : (b : Book) (limit mark : ℕ) → Sounds [] (stores-in (bare b limit mark))
+bare-sounds b limit mark = record {
+  tables = blank-tables-sound;
+  strands = blank-strands-sound (first-strands b);
+  answers = blank-answers-sound;
+  stack = blank-stack-sound;
+  made = λ i h. absurd (omega (arith, h));
+}
+
+module _ (bytes : List ℕ) (limit : ℕ) where
+  abbrev begun : said-book.Book → tables.Forest
+  begun book = record { book = book; clock-limit = limit; mark = 0; tables = []; clock = 0 }
+
+  abbrev limited : (zero large : Bool) → said-book.Book → Refusable tables.Forest
+  limited zero large book = unless ((zero || large) refuses 13 ∷ []) (begun book)
+
+  abbrev make-of : Refusable said-book.Book → Refusable tables.Forest
+  make-of r = elim r [
+    | refused n ↦ refused n
+    | accepted book ↦ unless
+        ((eqb limit 0 || leb MAX limit) refuses 13
+        ∷ [])
+        (record { book = book; clock-limit = limit; mark = 0; tables = []; clock = 0 })
+  ]
+
+  refused-says : (n : ℕ) (b : Book) → refused n ≡ said.make bytes limit → MakeSays bytes limit (refused-with n b)
+  refused-says n b e = record {
+    says = e;
+    sound = λ never. absurd (subst WasMade (sym never) tt);
+    marked = λ m same. ap number-in same;
+  }
+
+  module _ (r : Reading) (h : books.Read bytes r) where
+    -- the book's number
+    pub says-unread : 0 < r .number → (m : Made) → m ≡ refused-with (r .number) (r .book) → MakeSays bytes limit m
+    says-unread some m is = subst (MakeSays bytes limit) (sym is) (refused-says (r .number) (r .book)
+        (ap make-of (sym (ap (λ (b : Bool). books.seen-by b r) (ne-eqb (r .number) 0 (λ e. omega (arith, e, some)))) ∙ h .means)))
+
+    module _ (read : r .number ≤ 0) where
+      read-as : accepted (books.view (r .book)) ≡ said-book.read bytes
+      read-as = sym (ap (λ (b : Bool). books.seen-by b r) (eq-eqb (r .number) 0 (omega (arith, read)))) ∙ h .means
+
+      make-is : limited (eqb limit 0) (leb MAX limit) (books.view (r .book)) ≡ said.make bytes limit
+      make-is = ap make-of read-as
+
+      -- the limit's number
+      pub says-zero : limit ≡ 0 → (m : Made) → m ≡ refused-with 13 (r .book) → MakeSays bytes limit m
+      says-zero e m is = subst (MakeSays bytes limit) (sym is) (refused-says 13 (r .book)
+          (sym (ap (λ (b : Bool). limited b (leb MAX limit) (books.view (r .book))) (eq-eqb limit 0 e)) ∙ make-is))
+
+      module _ (some : limit ≡ 0 → ⊥) where
+        above : limited false (leb MAX limit) (books.view (r .book)) ≡ said.make bytes limit
+        above = sym (ap (λ (b : Bool). limited b (leb MAX limit) (books.view (r .book))) (ne-eqb limit 0 some)) ∙ make-is
+
+        pub says-large : MAX ≤ limit → (m : Made) → m ≡ refused-with 13 (r .book) → MakeSays bytes limit m
+        says-large large m is = subst (MakeSays bytes limit) (sym is) (refused-says 13 (r .book)
+            (sym (ap (λ (b : Bool). limited false b (books.view (r .book))) (le-leb MAX limit large)) ∙ above))
+
+        -- made
+        module _ (low : limit < MAX) where
+          is-made : accepted (view (bare (r .book) limit 0)) ≡ said.make bytes limit
+          is-made = sym (ap (λ (b : Bool). limited false b (books.view (r .book))) (lt-leb MAX limit low)) ∙ above
+
+          rests : Sound (bare (r .book) limit 0)
+          rests = record {
+            book = h .sound (omega (arith, read));
+            sounds = bare-sounds (r .book) limit 0;
+            empty = refl;
+            forest = subst (λ (n : ℕ). SoundForest n (view (bare (r .book) limit 0)))
+                (length-span (books.goal-viewed (r .book)) 0 (r .book .goals))
+                (made-sound bytes limit (view (bare (r .book) limit 0)) (sym is-made));
+          }
+
+          pub says-made : (f : Forest) → f ≡ bare (r .book) limit 0
+              → MakeSays bytes limit (record { making = makings.Made; forest = f })
+          says-made f is = record {
+            says = ap (λ (g : Forest). accepted (view g)) is ∙ is-made;
+            sound = λ _. subst Sound (sym is) rests;
+            marked = λ n never. absurd (subst WasMade never tt);
+          }

@@ -1,0 +1,2 @@
+pub mod Sittings
+pub mod Claim
