@@ -11,9 +11,7 @@ use lib.ListN.{drop, getD, length, drop-of-length-le}
 use borrow.Author.Tests.{le-leb, lt-leb, ne-eqb}
 use Rattle.definitions.specs.Forest as said
 use Rattle.definitions.specs.Refusal.{Refusable, accepted, _refuses_, unless}
-use Rattle.laws.proofs.Spans.{length-span}
 use Rattle.stores.specs.Places.{ring, found-or, found-in, numbered}
-use Rattle.stores.specs.View.{held-table}
 use Rattle.stores.proofs.PlacesViews.{length-ring}
 use Rattle.stores.proofs.TableFuture.{future-view}
 use Rattle.control.specs.Stores.{Stores, first-strands}
@@ -22,6 +20,7 @@ use Rattle.forest.specs.declared.Forest.{Forest}
 use Rattle.forest.specs.declared.any_future_answer.Future.the-variants as futures
 use Rattle.forest.specs.AnyFutureAnswer.{FutureSays}
 use Rattle.forest.specs.View.{stores-in, view, Sound}
+use Rattle.forest.proofs.Running.{tables-counted}
 
 -- nothing is found where no place passes
 found-none : (test : ℕ → Bool) → ((q : ℕ) → test q ≡ false) → (l : List ℕ) → ltb (found-in test l) 256 ≡ false
@@ -47,12 +46,9 @@ module _ (f : Forest) (table index variant : ℕ) where
   abbrev says-by : (unmade : Bool) → Refusable Bool
   says-by b = unless (b refuses 10 ∷ []) (said.future (view f) table index variant)
 
-  tables-counted : length (view f .tables) ≡ f .count
-  tables-counted = length-span (held-table (first-strands (z .book)) (z .tables) (z .strands) (z .answers)) 0 (f .count)
-
   pub says-unmade : f .count ≤ table → FutureSays f table index variant (futures.Refused 10)
   says-unmade h = record {
-    says = λ s. sym (ap says-by (ap (λ (n : ℕ). leb n table) tables-counted ∙ le-leb (f .count) table h));
+    says = λ s. sym (ap says-by (ap (λ (n : ℕ). leb n table) (tables-counted f) ∙ le-leb (f .count) table h));
     unmade = λ _. refl;
   }
 
@@ -60,7 +56,7 @@ module _ (f : Forest) (table index variant : ℕ) where
     found-as : (any : Bool) → (Sound f → said.future (view f) table index variant ≡ any)
         → FutureSays f table index variant (futures.Found any)
     found-as any h = record {
-      says = λ s. sym (ap says-by (ap (λ (n : ℕ). leb n table) tables-counted ∙ lt-leb (f .count) table made) ∙ ap accepted (h s));
+      says = λ s. sym (ap says-by (ap (λ (n : ℕ). leb n table) (tables-counted f) ∙ lt-leb (f .count) table made) ∙ ap accepted (h s));
       unmade = λ k. absurd (omega (arith, made, k));
     }
 
