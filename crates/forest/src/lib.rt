@@ -1,6 +1,7 @@
 // forest.rs: what can be called. A forest is made from a book's bytes and holds that book; goals are opened, tables searched and peeked at.
 // Nobody outside this crate can read or write what a forest has inside.
 pub mod any_future_answer;
+pub mod dump;
 pub mod make;
 pub mod open;
 pub mod searches;

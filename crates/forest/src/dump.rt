@@ -1,0 +1,309 @@
+// What a forest holds as one line of text, so that two programs can be held against each other: the clock, the mark and every table
+// with its answers and its strands, in the order in which they are kept. The book isn't said, nor what stands at free places.
+//
+//     state clock C mark M tables N{ | table}
+//     table   = tI gGOAL fFLOUNDERED mMODE AK{ answer} QK{ strand}
+//     answer  = (vV D[goals] aAMBIGUOUS)
+//     strand  = (vV oOUTSIZED aAMBIGUOUS S[literals] D[goals] tANSWERTIME F[literal@time,...] SEL pLASTPURSUED)
+//     literal = +GOAL/WANT or -GOAL, with a final ! if outsized
+//     SEL     = s- or sSUBGOALINDEX:TABLE:ANSWERINDEX
+//
+// The bytes go to a buffer that the caller lends; `at` is how many are there, each function takes it and returns the new one.
+use crate::Forest;
+use book::Literal;
+use control::ensure_root_answer::strand_in_hand;
+use strands::Answer;
+use strands::Floundered;
+use strands::Selected;
+use strands::Strand;
+use strands::literals::is_negative;
+ghost use Prim.Native.Nat.{_<_};
+
+// No dump is longer: 256 strands of at most 256 bytes, 256 answers of at most 64 and 64 tables of at most 64, with the line's head.
+pub const LONGEST_DUMP: usize = 131072;
+
+// What doesn't fit is left out.
+fn put(out: &mut [u8], at: usize, b: u8) -> usize {
+    if at < out.len() {
+        out[at] = b;
+        return at + 1;
+    }
+    at
+}
+
+fn text(out: &mut [u8], at: usize, words: &[u8]) -> usize {
+    let mut a = at;
+    let mut i: usize = 0;
+    while i < words.len() {
+        a = put(out, a, words[i]);
+        i += 1;
+    }
+    a
+}
+
+// The digits from a place on.
+fn put_digits(out: &mut [u8], at: usize, digits: [u8; 20], from: usize) -> usize {
+    let mut a = at;
+    let mut i = from;
+    while i < 20 {
+        a = put(out, a, digits[i]);
+        i += 1;
+    }
+    a
+}
+
+fn digit(n: u64) -> u8 {
+    48 + (n % 10) as u8
+}
+
+fn number(out: &mut [u8], at: usize, n: u64) -> usize {
+    let mut digits = [48u8; 20];
+    let mut m = n;
+    let mut from: usize = 20;
+    while from > 0 {
+        from = from - 1;
+        digits[from] = digit(m);
+        m = m / 10;
+        if m == 0 {
+            break;
+        }
+    }
+    put_digits(out, at, digits, from)
+}
+
+// A number behind a word.
+fn counted(out: &mut [u8], at: usize, word: &[u8], n: u64) -> usize {
+    let a = text(out, at, word);
+    number(out, a, n)
+}
+
+fn flag(b: bool) -> u64 {
+    if b { 1 } else { 0 }
+}
+
+fn signed(out: &mut [u8], at: usize, l: Literal) -> usize {
+    if is_negative(l) {
+        return counted(out, at, b"-", l.goal as u64);
+    }
+    let a = counted(out, at, b"+", l.goal as u64);
+    counted(out, a, b"/", l.want as u64)
+}
+
+fn literal(out: &mut [u8], at: usize, l: Literal) -> usize {
+    let a = signed(out, at, l);
+    if l.kind % 2 == 1 {
+        return put(out, a, b'!');
+    }
+    a
+}
+
+// What stands before the element i of a list.
+fn comma(out: &mut [u8], at: usize, i: usize) -> usize {
+    if i == 0 {
+        return at;
+    }
+    put(out, at, b',')
+}
+
+// The element i of a list of n goals.
+fn goal(out: &mut [u8], at: usize, i: usize, n: usize, g: u8) -> usize {
+    if i >= n {
+        return at;
+    }
+    let a = comma(out, at, i);
+    number(out, a, g as u64)
+}
+
+fn goals(out: &mut [u8], at: usize, d: [u8; 8], count: u8) -> usize {
+    let n = count as usize;
+    let mut a = text(out, at, b" D[");
+    let mut i: usize = 0;
+    while i < 8 {
+        a = goal(out, a, i, n, d[i]);
+        i += 1;
+    }
+    put(out, a, b']')
+}
+
+fn answer(out: &mut [u8], at: usize, x: Answer) -> usize {
+    let d = x.delayed;
+    let v = counted(out, at, b" (v", x.variant as u64);
+    let g = goals(out, v, d, x.delayed_count);
+    let a = counted(out, g, b" a", flag(x.ambiguous));
+    put(out, a, b')')
+}
+
+// The element i of a list of n literals.
+fn listed(out: &mut [u8], at: usize, i: usize, n: usize, l: Literal) -> usize {
+    if i >= n {
+        return at;
+    }
+    let a = comma(out, at, i);
+    literal(out, a, l)
+}
+
+fn literals(out: &mut [u8], at: usize, s: Strand) -> usize {
+    let n = s.literal_count as usize;
+    let mut a = text(out, at, b" S[");
+    let mut i: usize = 0;
+    while i < 8 {
+        a = listed(out, a, i, n, s.literals[i]);
+        i += 1;
+    }
+    put(out, a, b']')
+}
+
+// The element i of a list of n floundered literals.
+fn set_aside(out: &mut [u8], at: usize, i: usize, n: usize, f: Floundered) -> usize {
+    if i >= n {
+        return at;
+    }
+    let l = f.literal;
+    let a = comma(out, at, i);
+    let b = literal(out, a, l);
+    counted(out, b, b"@", f.time as u64)
+}
+
+fn floundered(out: &mut [u8], at: usize, s: Strand) -> usize {
+    let n = s.floundered_count as usize;
+    let mut a = text(out, at, b" F[");
+    let mut i: usize = 0;
+    while i < 8 {
+        a = set_aside(out, a, i, n, s.floundered[i]);
+        i += 1;
+    }
+    put(out, a, b']')
+}
+
+fn selected(out: &mut [u8], at: usize, k: Selected) -> usize {
+    match k {
+        Selected::Nothing => text(out, at, b" s-"),
+        Selected::Subgoal {
+            index,
+            table,
+            answer,
+        } => {
+            let i = counted(out, at, b" s", index as u64);
+            let t = counted(out, i, b":", table as u64);
+            counted(out, t, b":", answer as u64)
+        }
+    }
+}
+
+// A strand's words before its literals.
+fn begun(out: &mut [u8], at: usize, variant: u16, outsized: bool, ambiguous: bool) -> usize {
+    let v = counted(out, at, b" (v", variant as u64);
+    let o = counted(out, v, b" o", flag(outsized));
+    counted(out, o, b" a", flag(ambiguous))
+}
+
+// And those behind them.
+fn ended(out: &mut [u8], at: usize, k: Selected, time: u64) -> usize {
+    let c = selected(out, at, k);
+    let p = counted(out, c, b" p", time);
+    put(out, p, b')')
+}
+
+fn strand(out: &mut [u8], at: usize, s: Strand, time: u64) -> usize {
+    let d = s.delayed;
+    let k = s.selected;
+    let a = begun(out, at, s.variant, s.outsized, s.ambiguous);
+    let l = literals(out, a, s);
+    let g = goals(out, l, d, s.delayed_count);
+    let t = counted(out, g, b" t", s.answer_time as u64);
+    let f = floundered(out, t, s);
+    ended(out, f, k, time)
+}
+
+fn mode(complete: u8) -> u8 {
+    if complete != 0 { b'c' } else { b'a' }
+}
+
+fn wide(x: u8) -> usize
+    ensures { λ r. ⌜ r < 256 ⌝ }
+{
+    x as usize
+}
+
+fn long(n: u16) -> u64 {
+    n as u64
+}
+
+// A table's words before its answers.
+fn head(
+    out: &mut [u8],
+    at: usize,
+    i: usize,
+    goal: u8,
+    floundered: u8,
+    complete: u8,
+    answers: u16,
+) -> usize {
+    let t = counted(out, at, b" | t", i as u64);
+    let g = counted(out, t, b" g", goal as u64);
+    let f = counted(out, g, b" f", floundered as u64);
+    let w = text(out, f, b" m");
+    let m = put(out, w, mode(complete));
+    counted(out, m, b" A", answers as u64)
+}
+
+fn opening(out: &mut [u8], at: usize, clock: u64, mark: u8, count: usize) -> usize {
+    let c = counted(out, at, b"state clock ", clock);
+    let m = counted(out, c, b" mark ", mark as u64);
+    counted(out, m, b" tables ", count as u64)
+}
+
+// The dump, without a newline: how much of the buffer is in use behind it.
+pub fn dump(f: Forest, out: &mut [u8], at: usize) -> usize {
+    let clause_variant = f.clause_variant;
+    let clause_flags = f.clause_flags;
+    let clause_len = f.clause_len;
+    let literal_kind = f.literal_kind;
+    let literal_goal = f.literal_goal;
+    let literal_want = f.literal_want;
+    let mut a = opening(out, at, f.clock, f.mark, f.count);
+    let mut i: usize = 0;
+    while i < 64 {
+        if i >= f.count {
+            return a;
+        }
+        a = head(
+            out,
+            a,
+            i,
+            f.goal[i],
+            f.floundered[i],
+            f.complete[i],
+            f.answer_len[i],
+        );
+        let mut q = f.answer_tail[i];
+        let mut left = f.answer_len[i];
+        while left > 0 {
+            q = f.answer_next[wide(q)];
+            a = answer(out, a, f.answers[wide(q)]);
+            left = left - 1;
+        }
+        a = counted(out, a, b" Q", long(f.len[i]));
+        let mut p = f.tail[i];
+        let mut more = f.len[i];
+        while more > 0 {
+            p = f.next[wide(p)];
+            let k = wide(p);
+            let s = strand_in_hand(
+                f.strands[k],
+                f.waits[k],
+                f.wants[k],
+                &clause_variant,
+                &clause_flags,
+                &clause_len,
+                &literal_kind,
+                &literal_goal,
+                &literal_want,
+            );
+            a = strand(out, a, s, f.time[k]);
+            more = more - 1;
+        }
+        i += 1;
+    }
+    a
+}
