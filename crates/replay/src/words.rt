@@ -1,0 +1,108 @@
+// What a call came to, in words.
+use forest::any_future_answer::Future;
+use forest::open::Opening;
+use forest::searches::Outcome;
+
+// `Searched` has the turns, `Peeked` the index at which it ended and the turns of its last search.
+pub(crate) enum Reply {
+    NoForest,
+    Made,
+    Refused(u8),
+    Opened(Opening),
+    Searched(Outcome, u64),
+    Peeked(Outcome, u64, u64),
+    Asked(Future),
+}
+
+fn counted(out: &mut [u8], at: usize, word: &[u8], n: u64) -> usize {
+    let a = pen::text(out, at, word);
+    pen::number(out, a, n)
+}
+
+fn line(out: &mut [u8], at: usize, word: &[u8], n: u64) -> usize {
+    let a = counted(out, at, word, n);
+    pen::byte(out, a, b'\n')
+}
+
+pub(crate) fn bad(out: &mut [u8], at: usize, n: u64) -> usize {
+    line(out, at, b"bad line ", n)
+}
+
+fn opened(out: &mut [u8], at: usize, o: Opening) -> usize {
+    match o {
+        Opening::Table(t) => line(out, at, b"table ", t),
+        Opening::Stopped(n) => line(out, at, b"stop ", n as u64),
+        Opening::Refused(n) => line(out, at, b"refused ", n as u64),
+    }
+}
+
+fn found(out: &mut [u8], at: usize, variant: u16, ambiguous: bool) -> usize {
+    if ambiguous {
+        return counted(out, at, b"maybe ", variant as u64);
+    }
+    counted(out, at, b"yes ", variant as u64)
+}
+
+fn outcome(out: &mut [u8], at: usize, o: Outcome) -> usize {
+    match o {
+        Outcome::Refused(n) => counted(out, at, b"refused ", n as u64),
+        Outcome::Found(variant, ambiguous) => found(out, at, variant, ambiguous),
+        Outcome::NoMoreSolutions => pen::text(out, at, b"none"),
+        Outcome::Floundered => pen::text(out, at, b"floundered"),
+        Outcome::QuantumExceeded => pen::text(out, at, b"again"),
+        Outcome::NegativeCycle => pen::text(out, at, b"negcycle"),
+        Outcome::InvalidAnswer => pen::text(out, at, b"invalid"),
+        Outcome::Cut => pen::text(out, at, b"cut"),
+        Outcome::Stopped(n) => counted(out, at, b"stop ", n as u64),
+    }
+}
+
+fn is_refused(o: Outcome) -> bool {
+    match o {
+        Outcome::Refused(_) => true,
+        _ => false,
+    }
+}
+
+fn searched(out: &mut [u8], at: usize, o: Outcome, turns: u64) -> usize {
+    let a = outcome(out, at, o);
+    if is_refused(o) {
+        return pen::byte(out, a, b'\n');
+    }
+    line(out, a, b" turns ", turns)
+}
+
+fn peeked(out: &mut [u8], at: usize, o: Outcome, index: u64, turns: u64) -> usize {
+    let a = outcome(out, at, o);
+    if is_refused(o) {
+        return pen::byte(out, a, b'\n');
+    }
+    let b = counted(out, a, b" at ", index);
+    line(out, b, b" turns ", turns)
+}
+
+fn is(out: &mut [u8], at: usize, b: bool) -> usize {
+    if b {
+        return pen::text(out, at, b"true\n");
+    }
+    pen::text(out, at, b"false\n")
+}
+
+fn asked(out: &mut [u8], at: usize, f: Future) -> usize {
+    match f {
+        Future::Refused(n) => line(out, at, b"refused ", n as u64),
+        Future::Found(b) => is(out, at, b),
+    }
+}
+
+pub(crate) fn told(out: &mut [u8], at: usize, r: Reply) -> usize {
+    match r {
+        Reply::NoForest => pen::text(out, at, b"no forest\n"),
+        Reply::Made => pen::text(out, at, b"made\n"),
+        Reply::Refused(n) => line(out, at, b"refused ", n as u64),
+        Reply::Opened(o) => opened(out, at, o),
+        Reply::Searched(o, turns) => searched(out, at, o, turns),
+        Reply::Peeked(o, index, turns) => peeked(out, at, o, index, turns),
+        Reply::Asked(f) => asked(out, at, f),
+    }
+}
