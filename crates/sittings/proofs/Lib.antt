@@ -1,2 +1,3 @@
--- Demand 3 of the code. `Calls` shows that a sitting is a list of calls of the definitions.
+-- Demand 3 of the code. `Calls` shows that a sitting is a list of calls of the definitions; `Demand` takes demand 3 over from them.
 pub mod Calls
+pub mod Demand
