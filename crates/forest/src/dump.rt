@@ -253,7 +253,8 @@ fn opening(out: &mut [u8], at: usize, clock: u64, mark: u8, count: usize) -> usi
     counted(out, m, b" tables ", count as u64)
 }
 
-// The dump, without a newline: how much of the buffer is in use behind it.
+// The dump, without a newline: how much of the buffer is in use behind it. The checker knows of it that it ends and stays in the buffer;
+// what it writes is shown by the run beside the Rust alone (`tools/differential`).
 pub fn dump(f: Forest, out: &mut [u8], at: usize) -> usize {
     let clause_variant = f.clause_variant;
     let clause_flags = f.clause_flags;
