@@ -22,7 +22,7 @@ use Rattle.forest.specs.Make.{MakeSays}
 use Rattle.forest.specs.Open.{OpenSays}
 use Rattle.sittings.specs.Sittings.{Told, opens, searches, peeks, asks-future, left, Sits}
 
--- an open of this goal gives this table, whatever else it gives
+-- an open of this goal gives this table, whatever else it gives (crate `forest`: `open` gives a result with this contract for every forest)
 abbrev pub Names : Forest → (table goal : ℕ) → Type 0
 Names f t goal = (r : Opened) → OpenSays f goal r → r .opening ≡ openings.Table t
 
