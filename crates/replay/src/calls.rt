@@ -10,39 +10,39 @@ use forest::searches::peek;
 use forest::searches::search;
 
 // A refused book leaves no forest.
-pub(crate) struct Session {
+pub(crate) struct Sitting {
     pub there: bool,
     pub forest: Forest,
 }
 
 pub(crate) struct Called {
     pub reply: Reply,
-    pub session: Session,
+    pub sitting: Sitting,
 }
 
-pub(crate) fn start() -> Session {
+pub(crate) fn start() -> Sitting {
     let m = make(b"", 0);
     let forest = m.forest;
-    Session {
+    Sitting {
         there: false,
         forest,
     }
 }
 
 fn of(forest: Forest, reply: Reply) -> Called {
-    let session = Session {
+    let sitting = Sitting {
         there: true,
         forest,
     };
-    Called { reply, session }
+    Called { reply, sitting }
 }
 
 fn none(forest: Forest, reply: Reply) -> Called {
-    let session = Session {
+    let sitting = Sitting {
         there: false,
         forest,
     };
-    Called { reply, session }
+    Called { reply, sitting }
 }
 
 fn booked(bytes: &[u8], limit: u64) -> Called {
@@ -55,7 +55,7 @@ fn booked(bytes: &[u8], limit: u64) -> Called {
     }
 }
 
-fn made(s: Session, bytes: &[u8], n: usize, limit: u64) -> Called {
+fn made(s: Sitting, bytes: &[u8], n: usize, limit: u64) -> Called {
     if n <= bytes.len() {
         return booked(&bytes[..n], limit);
     }
@@ -99,7 +99,7 @@ fn on_forest(f: Forest, l: Line) -> Called {
     }
 }
 
-pub(crate) fn call(s: Session, bytes: &[u8], l: Line) -> Called {
+pub(crate) fn call(s: Sitting, bytes: &[u8], l: Line) -> Called {
     if l.call == 1 {
         return made(s, bytes, l.bytes, l.a);
     }

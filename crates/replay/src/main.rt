@@ -8,7 +8,7 @@ mod line;
 mod utf8;
 mod words;
 
-use calls::Session;
+use calls::Sitting;
 use forest::dump::LONGEST_DUMP;
 use forest::dump::dump;
 use line::Line;
@@ -30,7 +30,7 @@ fn stated(out: &mut [u8], at: usize, said: &[u8], n: usize, quiet: bool) -> usiz
     at
 }
 
-fn forest_state(out: &mut [u8], at: usize, room: &mut [u8], s: Session, quiet: bool) -> usize {
+fn forest_state(out: &mut [u8], at: usize, room: &mut [u8], s: Sitting, quiet: bool) -> usize {
     if !s.there {
         return state(out, at, b"state none", quiet);
     }
@@ -45,31 +45,31 @@ fn whole(
     at: usize,
     bytes: &[u8],
     room: &mut [u8],
-    s: Session,
+    s: Sitting,
     l: Line,
     quiet: bool,
 ) -> Ran {
     if line::is_skipped(l) {
-        return Ran { at, session: s };
+        return Ran { at, sitting: s };
     }
     if !line::is_call(l) {
         let b = words::bad(out, at, l.number);
-        return Ran { at: b, session: s };
+        return Ran { at: b, sitting: s };
     }
     let d = calls::call(s, bytes, l);
-    let after = d.session;
+    let after = d.sitting;
     let r = d.reply;
     let a = words::told(out, at, r);
     let e = forest_state(out, a, room, after, quiet);
     Ran {
         at: e,
-        session: after,
+        sitting: after,
     }
 }
 
 struct Ran {
     at: usize,
-    session: Session,
+    sitting: Sitting,
 }
 
 // Between two characters of the script: how much of the output's buffer is in use, the line so far and the forest at hand. `over` is set
@@ -78,21 +78,21 @@ struct Midst {
     over: bool,
     at: usize,
     line: Line,
-    session: Session,
+    sitting: Sitting,
 }
 
 fn newline(out: &mut [u8], bytes: &[u8], room: &mut [u8], m: Midst, quiet: bool) -> Midst {
     let was = m.line;
-    let s = m.session;
+    let s = m.sitting;
     let l = line::spaced(was);
     let r = whole(out, m.at, bytes, room, s, l, quiet);
     let next = line::following(l);
-    let after = r.session;
+    let after = r.sitting;
     Midst {
         over: m.over,
         at: r.at,
         line: next,
-        session: after,
+        sitting: after,
     }
 }
 
@@ -155,7 +155,7 @@ fn all(out: &mut [u8], bytes: &mut [u8], room: &mut [u8], quiet: bool) {
         over: false,
         at: 0,
         line: l,
-        session: s,
+        sitting: s,
     };
     let mut turns = u64::MAX;
     while turns > 0 && goes_on(m) {
