@@ -87,7 +87,7 @@ module _ (bytes : List ℕ) (limit : ℕ) where
   refused-says n b e = record {
     says = e;
     sound = λ never. absurd (subst WasMade (sym never) tt);
-    marked = λ m same. ap number-in same;
+    marked = λ m same. (b, ap (bare b 0) (ap number-in same));
   }
 
   module _ (r : Reading) (h : books.Read bytes r) where

@@ -76,8 +76,8 @@ abbrev pub made-means : Made → Refusable tables.Forest
 made-means r = made-by (r .making) (view (r .forest))
 
 -- THE CONTRACT, for every byte string and every limit: the result is the definitions', a forest that was made is sound, and one that
--- was not is marked with the number, so that every later open, search and peek is refused.
+-- was not has nothing in it and is marked with the number, so that every later open, search and peek is refused.
 pub record MakeSays (bytes : List ℕ) (limit : ℕ) (r : Made) : Type 0 where
   pub says : made-means r ≡ said.make bytes limit
   pub sound : r .making ≡ makings.Made → Sound (r .forest)
-  pub marked : (n : ℕ) → r .making ≡ makings.Refused n → r .forest .mark ≡ n
+  pub marked : (n : ℕ) → r .making ≡ makings.Refused n → (b : Book) × (r .forest ≡ bare b 0 n)
