@@ -37,6 +37,9 @@ for profile in mix plain tiny bytes answers small limits large; do
     awk 'NR % 2 == 1' "$work/quiet" | cmp - "$work/results"
     # With counts: the same but for the counts of peeks.
     "$oracle" run counted <"$work/script" | sed 's/ exceeded [0-9]*$//' | cmp - "$work/out"
+    # Each peek as its searches comes to the same; written out there is none left but what is refused.
+    "$oracle" searches <"$work/script" >"$work/searches"
+    "$oracle" searches <"$work/searches" | cmp - "$work/searches"
     echo "$profile: $(wc -l <"$work/script") lines"
 done
 

@@ -7,6 +7,7 @@ mod check;
 mod demand3;
 mod gen;
 mod list;
+mod peeks;
 mod rng;
 mod script;
 
@@ -14,7 +15,9 @@ use std::io::{self, Read, Write};
 use std::process::ExitCode;
 
 const USAGE: &str = "usage: oracle list [hex] < BOOK
+       oracle lists < LINES OF HEX
        oracle run [quiet|counted] < SCRIPT
+       oracle searches < SCRIPT
        oracle read < LINES OF HEX
        oracle gen SEED COUNT [mix|plain|tiny|bytes|answers|small|limits|large|lines]
        oracle books SEED COUNT
@@ -46,6 +49,18 @@ fn read_books() -> Result<(), String> {
             Some(Err(number)) => writeln!(out, "refused {number}"),
         }
         .map_err(|e| e.to_string())?;
+    }
+    out.flush().map_err(|e| e.to_string())
+}
+
+/// For each line of hex the listing of that book, and a line of its own to end it.
+fn list_books() -> Result<(), String> {
+    let mut out = io::BufWriter::new(io::stdout().lock());
+    for line in io::stdin().lines() {
+        let line = line.map_err(|e| e.to_string())?;
+        let bytes = script::hex(&line).ok_or("no hex digits")?;
+        let text = list::list(&bytes)?;
+        writeln!(out, "{text}.").map_err(|e| e.to_string())?;
     }
     out.flush().map_err(|e| e.to_string())
 }
@@ -86,9 +101,11 @@ fn command(words: &[&str]) -> Result<(), String> {
             let text = list::list(&input_book(rest)?)?;
             io::stdout().write_all(text.as_bytes()).map_err(|e| e.to_string())
         }
+        ["lists"] => list_books(),
         ["run"] => run(script::Form::Plain),
         ["run", "quiet"] => run(script::Form::Quiet),
         ["run", "counted"] => run(script::Form::Counted),
+        ["searches"] => peeks::searches(io::stdin().lock(), io::BufWriter::new(io::stdout().lock())),
         ["read"] => read_books(),
         ["gen", seed, count] => generate(number(seed)?, number(count)?, gen::Profile::Mix),
         ["gen", seed, count, profile] => {

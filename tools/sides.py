@@ -1,0 +1,99 @@
+"""A script run on both sides, the Rust's (`oracle run`) and ours (`replay`): what is shared by the tools that compare them."""
+import collections
+import re
+import subprocess
+
+# The results of a call, in the order of a table.
+WORDS = "made table yes maybe none floundered again negcycle invalid cut true false".split()
+REFUSALS = ["refused %d" % n for n in (*range(1, 14), 20)]
+STOPS = ["stop %d" % n for n in range(21, 30)]
+
+
+class Broken(Exception):
+    """A program that did not end as it should: by a signal, with another status than 0, or not in time."""
+
+
+def said(words, script, seconds=None):
+    """What a program writes on a script."""
+    try:
+        run = subprocess.run(words, input=script, capture_output=True, timeout=seconds)
+    except subprocess.TimeoutExpired:
+        raise Broken("%s did not end in %d s" % (" ".join(words), seconds)) from None
+    if run.returncode != 0:
+        told = run.stderr.decode(errors="replace")[-2000:]
+        raise Broken("%s ended with %d: %s" % (" ".join(words), run.returncode, told))
+    return run.stdout
+
+
+def is_skipped(line):
+    return line.startswith(b"#") or not line.strip(b" ")
+
+
+def calls_of(script, output):
+    """Of each line that is no skipped one: its number, itself, and what was written of it. A malformed one has no dump."""
+    out = iter(output.split(b"\n"))
+    found = []
+    for number, line in enumerate(script.split(b"\n"), 1):
+        if is_skipped(line):
+            continue
+        result = next(out, b"(nothing)")
+        found.append((number, line, [result] if result.startswith(b"bad line") else [result, next(out, b"(nothing)")]))
+    return found
+
+
+def results_of(output):
+    """The results alone, counted. A malformed line has one line, any other call two."""
+    lines = output.split(b"\n")
+    if b"bad line" not in output:
+        return collections.Counter(lines[:-1:2])
+    counts, at = collections.Counter(), 0
+    while at < len(lines) - 1:
+        bad = lines[at].startswith(b"bad line")
+        counts[b"bad line" if bad else lines[at]] += 1
+        at += 1 if bad else 2
+    return counts
+
+
+class Counts:
+    """What the Rust said, over all scripts."""
+
+    def __init__(self):
+        self.calls, self.turns, self.said = 0, 0, collections.Counter()
+
+    def see(self, output):
+        for line, times in results_of(output).items():
+            result = line.decode()
+            turns = re.search(r" turns (\d+)$", result)
+            self.calls += times
+            self.turns += int(turns.group(1)) * times if turns else 0
+            numbered = re.match(r"(refused|stop) \d+|no forest|bad line", result)
+            self.said[numbered.group(0) if numbered else result.split()[0]] += times
+
+    def add(self, other):
+        self.calls, self.turns = self.calls + other.calls, self.turns + other.turns
+        self.said += other.said
+
+    def rare(self, least):
+        """The numbers that came up less often."""
+        return [w for w in REFUSALS + STOPS if self.said[w] < least]
+
+    def table(self):
+        order = WORDS + ["no forest", "bad line"] + REFUSALS + STOPS
+        cells = ["%-12s %10s" % (w, format(self.said[w], ",")) for w in order + sorted(set(self.said) - set(order))]
+        return "\n".join("   ".join(cells[at:at + 4]) for at in range(0, len(cells), 4))
+
+
+def difference(script, rust, ours):
+    """The first line that differs, with what both sides said, and the calls since the book."""
+    since = []
+    for (number, line, one), (_, _, other) in zip(calls_of(script, rust), calls_of(script, ours)):
+        if line.strip(b" ").startswith(b"book") and not one[0].startswith(b"bad line"):
+            since = []
+        since.append(line)
+        if one != other:
+            told = ["line %d of the script" % number]
+            for a, b in zip(one + [b""] * (len(other) - len(one)), other + [b""] * (len(one) - len(other))):
+                if a != b:
+                    told.append("the Rust: %s\nreplay:   %s" % (a.decode(errors="replace"), b.decode(errors="replace")))
+            return "\n".join(told + ["the calls since the book:", b"\n".join(since).decode(errors="replace")])
+    return "one side wrote more than the other"
