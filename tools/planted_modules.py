@@ -15,7 +15,7 @@ use %(s)s.Book.{Literal, Positive, Negative, Clause, Goal, Book}
 use %(s)s.Tables.{Forest}
 use %(s)s.Logic.{NoMoreSolutions, QuantumExceeded}
 use %(s)s.Turn.{found, fail, cut, stopped}
-use %(s)s.Calls.{Call, opens, searches, Reply, table, searched, Called, calls}
+use %(s)s.Calls.{Call, opens, searches, Reply, table, searched, sitting, Called, calls}
 
 abbrev pub pos : ℕ → Literal
 pos g = Positive g 0 false
@@ -38,7 +38,7 @@ forest = record { book = book; clock-limit = %(limit)d; mark = 0; tables = []; c
 abbrev pub asked : List Call
 asked = %(calls)s
 
-pub replies : map (λ (c : Called). c .reply) (calls forest asked) ≡ %(replies)s
+pub replies : map (λ (c : Called). c .reply) (calls (sitting forest) asked) ≡ %(replies)s
 replies = refl
 """
 
@@ -54,7 +54,7 @@ use %(s)s.Refusal.{accepted}
 use %(s)s.Book.{Clause, Book, write, clause-count}
 use %(s)s.Tables.{Forest}
 use %(s)s.Forest.{make, opened}
-use %(s)s.Calls.{Called, calls}
+use %(s)s.Calls.{sitting, Called, calls}
 use %(s)s.Model.{Each, Plain, clauses-of, LevelLiteral, Levelled, Holds, holds-end, holds-below, holds-here, holds-not, Below, In}
 use %(s)s.Claim.{AllSay, exceeded, Demand3}
 use %(s)s.Run.{pos, neg, rule, book, forest, asked}
@@ -91,7 +91,7 @@ levelled goal c m = each-goal level book %(levelled)s goal c m
 
 -- the forest that the call at a place of the list leaves
 abbrev left-by : ℕ → Forest
-left-by n = getD (map (λ (c : Called). c .forest) (calls forest asked)) n forest
+left-by n = getD (map (λ (c : Called). c .after .forest) (calls (sitting forest) asked)) n forest
 
 %(out)s
 -- %(words)s

@@ -16,7 +16,8 @@ use Rattle.definitions.specs.Tables.{Forest}
 use Rattle.definitions.specs.Turn.{Searched, root-answer}
 use Rattle.definitions.specs.Forest.{is-marked, Opened, opened, open-goal, not-made, index-above, search, is-invalid, Peeked, peek}
 use Rattle.definitions.specs.Forest.{peek-rounds, any-future-answer}
-use Rattle.definitions.specs.Calls.{Call, opens, searches, peeks, asks-future, Reply, refusal, table, searched, peeked, future, call, calls}
+use Rattle.definitions.specs.Calls.{Sitting, sitting, with-forest, Call, opens, searches, peeks, asks-future}
+use Rattle.definitions.specs.Calls.{Reply, refusal, table, searched, peeked, future, call, calls}
 use Rattle.definitions.specs.Model.{Each}
 use Rattle.definitions.proofs.Refusal.{all-pass}
 use Rattle.laws.proofs.Lists.{at-place}
@@ -54,10 +55,13 @@ quiet-reply r q = record {
 -- Calls.
 
 -- what a call leaves
-abbrev Answered : (n : ℕ) → Reply × Forest → Type 0
-Answered n r = Quiet (r .0) × SoundForest n (r .1)
+abbrev Answered : (n : ℕ) → Reply × Sitting → Type 0
+Answered n r = Quiet (r .0) × SoundForest n (r .1 .forest)
 
-module _ {n : ℕ} (f : Forest) (s : SoundForest n f) where
+module _ {n : ℕ} (at : Sitting) (s : SoundForest n (at .forest)) where
+  abbrev f : Forest
+  f = at .forest
+
   opened-well : (goal : ℕ) → goal < n → QuietStop (opened 0 f goal .table) × SoundForest n (opened 0 f goal .forest)
   opened-well goal lt = case-safe (λ (o : Opened). QuietStop (o .table) × SoundForest n (o .forest))
       (makes s 0 goal (let o = s .few-strands in omega arith) lt)
@@ -65,7 +69,7 @@ module _ {n : ℕ} (f : Forest) (s : SoundForest n f) where
       (λ r x. (tt, x .kept .sound))
 
   opens-well : (goal : ℕ) (o : Refusable Opened) → open-goal f goal ≡ o
-      → Answered n (elim o [ refused m ↦ (refusal m, f) | accepted r ↦ (table (r .table), r .forest) ])
+      → Answered n (elim o [ refused m ↦ (refusal m, at) | accepted r ↦ (table (r .table), with-forest at (r .forest)) ])
   opens-well goal (refused m) e = (tt, s)
   opens-well goal (accepted r) e =
       let a = all-pass (is-marked f refuses 20 ∷ leb (length (f .book)) goal refuses 9 ∷ []) (opened 0 f goal) r e in
@@ -92,7 +96,7 @@ module _ {n : ℕ} (f : Forest) (s : SoundForest n f) where
       at-most u e = by-tests u (ltb (length (u .answers)) i) (u .floundered) refl refl e
 
   searches-well : (t i limit : ℕ) (o : Refusable Searched) → search f t i limit ≡ o
-      → Answered n (elim o [ refused m ↦ (refusal m, f) | accepted r ↦ (searched (r .ending) (r .turns), r .forest) ])
+      → Answered n (elim o [ refused m ↦ (refusal m, at) | accepted r ↦ (searched (r .ending) (r .turns), with-forest at (r .forest)) ])
   searches-well t i limit (refused m) e = (tt, s)
   searches-well t i limit (accepted r) e =
       let a = all-pass (is-marked f refuses 20 ∷ not-made f t refuses 10 ∷ index-above f t i refuses 11 ∷ eqb limit 0 refuses 12 ∷ [])
@@ -102,8 +106,8 @@ module _ {n : ℕ} (f : Forest) (s : SoundForest n f) where
 
   peeks-quietly : (t i rounds limit : ℕ) (o : Refusable Peeked) → peek f t i rounds limit ≡ o
       → Answered n (elim o [
-        | refused m ↦ (refusal m, f)
-        | accepted r ↦ (peeked (r .ending) (r .index) (r .turns) (r .exceeded), r .forest)
+        | refused m ↦ (refusal m, at)
+        | accepted r ↦ (peeked (r .ending) (r .index) (r .turns) (r .exceeded), with-forest at (r .forest))
       ])
   peeks-quietly t i rounds limit (refused m) e = (tt, s)
   peeks-quietly t i rounds limit (accepted r) e =
@@ -112,28 +116,29 @@ module _ {n : ℕ} (f : Forest) (s : SoundForest n f) where
       let w = subst (PeekWell n t) (a .1) (peeks-well n t limit (rounds - 1) 0 i f (asked t i (a .0 .1 .0) (a .0 .1 .1 .0))) in
       ((w .fine, w .valid), w .ended .sound)
 
-  asks-well : (t i v : ℕ) (o : Refusable Bool) → Answered n (elim o [ refused m ↦ (refusal m, f) | accepted b ↦ (future b, f) ])
+  asks-well : (t i v : ℕ) (o : Refusable Bool) → Answered n (elim o [ refused m ↦ (refusal m, at) | accepted b ↦ (future b, at) ])
   asks-well t i v (refused m) = (tt, s)
   asks-well t i v (accepted b) = (tt, s)
 
   -- a call on a sound forest
-  pub call-keeps : (c : Call) → Answered n (call f c)
+  pub call-keeps : (c : Call) → Answered n (call at c)
   call-keeps (opens goal) = opens-well goal (open-goal f goal) refl
   call-keeps (searches t i limit) = searches-well t i limit (search f t i limit) refl
   call-keeps (peeks t i rounds limit) = peeks-quietly t i rounds limit (peek f t i rounds limit) refl
   call-keeps (asks-future t i v) = asks-well t i v (any-future-answer f t i v)
 
-calls-keep : (n : ℕ) (cs : List Call) (f : Forest) → SoundForest n f → Each (λ c. NoAssert (c .reply)) (calls f cs)
-calls-keep n [] f s = tt
-calls-keep n (c ∷ cs) f s = let r = call-keeps f s c in (quiet-reply (call f c .0) (r .0), calls-keep n cs (call f c .1) (r .1))
+calls-keep : (n : ℕ) (cs : List Call) (at : Sitting) → SoundForest n (at .forest) → Each (λ c. NoAssert (c .reply)) (calls at cs)
+calls-keep n [] at s = tt
+calls-keep n (c ∷ cs) at s = let r = call-keeps at s c in (quiet-reply (call at c .0) (r .0), calls-keep n cs (call at c .1) (r .1))
 
 -- the forests that a list of calls leaves
-pub forests-sound : (n : ℕ) (cs : List Call) (f : Forest) → SoundForest n f → Each (λ c. SoundForest n (c .forest)) (calls f cs)
-forests-sound n [] f s = tt
-forests-sound n (c ∷ cs) f s = let r = call-keeps f s c in (r .1, forests-sound n cs (call f c .1) (r .1))
+pub forests-sound : (n : ℕ) (cs : List Call) (at : Sitting) → SoundForest n (at .forest)
+    → Each (λ c. SoundForest n (c .after .forest)) (calls at cs)
+forests-sound n [] at s = tt
+forests-sound n (c ∷ cs) at s = let r = call-keeps at s c in (r .1, forests-sound n cs (call at c .1) (r .1))
 
 pub never-asserts : NeverAsserts
 never-asserts = record {
-  in-calls = λ bytes limit f e cs. calls-keep (length (f .book)) cs f (made-sound bytes limit f e);
+  in-calls = λ bytes limit f e cs. calls-keep (length (f .book)) cs (sitting f) (made-sound bytes limit f e);
   in-reconsidering = λ x. passes-find (length (x .floundered-subgoals)) x (omega arith);
 }

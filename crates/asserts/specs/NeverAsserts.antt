@@ -18,7 +18,7 @@ use Rattle.definitions.specs.Tables.{Forest}
 use Rattle.definitions.specs.Logic.{InvalidAnswer}
 use Rattle.definitions.specs.Turn.{fail, stopped}
 use Rattle.definitions.specs.Forest.{make}
-use Rattle.definitions.specs.Calls.{Call, Reply, table, searched, peeked, calls}
+use Rattle.definitions.specs.Calls.{Call, Reply, table, searched, peeked, sitting, calls}
 use Rattle.definitions.specs.Model.{Each}
 
 -- the reply of a call that met no assert
@@ -42,5 +42,5 @@ PassesFind (suc i) x = elim (getElem? (x .floundered-subgoals) i) [
 pub record NeverAsserts : Type 0 where
   pub in-calls :
       (bytes : List ℕ) (clock-limit : ℕ) (f : Forest) → make bytes clock-limit ≡ accepted f →
-      (cs : List Call) → Each (λ c. NoAssert (c .reply)) (calls f cs)
+      (cs : List Call) → Each (λ c. NoAssert (c .reply)) (calls (sitting f) cs)
   pub in-reconsidering : (x : ExClause) → PassesFind (length (x .floundered-subgoals)) x

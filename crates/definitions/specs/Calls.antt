@@ -1,4 +1,4 @@
--- A list of calls (document 01, (e)): each gets the forest as the call before it left it, a refused one unchanged.
+-- A list of calls (document 01, (e)): each gets the sitting as the call before it left it, a refused one unchanged.
 use Prim.Native.Nat.{ℕ, _-_}
 use mathlib.Core.Bool.{Bool}
 use mathlib.Core.List.{List, [], _∷_}
@@ -8,6 +8,18 @@ use Rattle.definitions.specs.Stop.{Stops}
 use Rattle.definitions.specs.Tables.{Forest}
 use Rattle.definitions.specs.Turn.{Ending}
 use Rattle.definitions.specs.Forest.{open-goal, search, peek, SearchMade, peek-searches, most-passes, any-future-answer}
+
+-- what a call gets and leaves
+pub record Sitting : Type 0 where
+  pub forest : Forest
+
+-- on a forest just made
+abbrev pub sitting : Forest → Sitting
+sitting f = record { forest = f }
+
+-- with another forest
+abbrev pub with-forest : Sitting → Forest → Sitting
+with-forest s f = record { forest = f }
 
 pub data Call : Type 0 where
   opens : (goal : ℕ) → Call
@@ -23,35 +35,41 @@ pub data Reply : Type 0 where
   peeked : Ending → (index turns exceeded : ℕ) → Reply
   future : Bool → Reply
 
-abbrev pub call : Forest → Call → Reply × Forest
-call f (opens g) = elim (open-goal f g) [ refused n ↦ (refusal n, f) | accepted r ↦ (table (r .table), r .forest) ]
-call f (searches t i limit) = elim (search f t i limit) [
-  | refused n ↦ (refusal n, f)
-  | accepted r ↦ (searched (r .ending) (r .turns), r .forest)
+abbrev pub call : Sitting → Call → Reply × Sitting
+call s (opens g) = elim (open-goal (s .forest) g) [
+  | refused n ↦ (refusal n, s)
+  | accepted r ↦ (table (r .table), with-forest s (r .forest))
 ]
-call f (peeks t i rounds limit) = elim (peek f t i rounds limit) [
-  | refused n ↦ (refusal n, f)
-  | accepted r ↦ (peeked (r .ending) (r .index) (r .turns) (r .exceeded), r .forest)
+call s (searches t i limit) = elim (search (s .forest) t i limit) [
+  | refused n ↦ (refusal n, s)
+  | accepted r ↦ (searched (r .ending) (r .turns), with-forest s (r .forest))
 ]
-call f (asks-future t i v) = elim (any-future-answer f t i v) [ refused n ↦ (refusal n, f) | accepted b ↦ (future b, f) ]
+call s (peeks t i rounds limit) = elim (peek (s .forest) t i rounds limit) [
+  | refused n ↦ (refusal n, s)
+  | accepted r ↦ (peeked (r .ending) (r .index) (r .turns) (r .exceeded), with-forest s (r .forest))
+]
+call s (asks-future t i v) = elim (any-future-answer (s .forest) t i v) [ refused n ↦ (refusal n, s) | accepted b ↦ (future b, s) ]
 
 -- the searches that a call makes: a search is its own, a peek makes those of its loop, and a call that is refused makes none
-abbrev pub searches-made : Forest → Call → List SearchMade
-searches-made f (opens g) = []
-searches-made f (searches t i limit) = elim (search f t i limit) [ refused n ↦ [] | accepted r ↦ record { index = i; result = r } ∷ [] ]
-searches-made f (peeks t i rounds limit) = elim (peek f t i rounds limit) [
+abbrev pub searches-made : Sitting → Call → List SearchMade
+searches-made s (opens g) = []
+searches-made s (searches t i limit) = elim (search (s .forest) t i limit) [
   | refused n ↦ []
-  | accepted r ↦ peek-searches (most-passes rounds) (rounds - 1) limit t i f
+  | accepted r ↦ record { index = i; result = r } ∷ []
 ]
-searches-made f (asks-future t i v) = []
+searches-made s (peeks t i rounds limit) = elim (peek (s .forest) t i rounds limit) [
+  | refused n ↦ []
+  | accepted r ↦ peek-searches (most-passes rounds) (rounds - 1) limit t i (s .forest)
+]
+searches-made s (asks-future t i v) = []
 
--- the calls, each with the forest that it got, its reply and the forest that it left
+-- the calls, each with the sitting that it got, its reply and the sitting that it left
 pub record Called : Type 0 where
   pub asked : Call
-  pub before : Forest
+  pub before : Sitting
   pub reply : Reply
-  pub forest : Forest
+  pub after : Sitting
 
-abbrev pub calls : Forest → List Call → List Called
-calls f [] = []
-calls f (c ∷ cs) = let r = call f c in record { asked = c; before = f; reply = r .0; forest = r .1 } ∷ calls (r .1) cs
+abbrev pub calls : Sitting → List Call → List Called
+calls s [] = []
+calls s (c ∷ cs) = let r = call s c in record { asked = c; before = s; reply = r .0; after = r .1 } ∷ calls (r .1) cs

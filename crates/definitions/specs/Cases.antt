@@ -12,7 +12,7 @@ use Rattle.definitions.specs.Book.{Literal, Positive, Negative, Clause, 
 use Rattle.definitions.specs.Logic.{NoMoreSolutions}
 use Rattle.definitions.specs.Turn.{found, fail, cut, stopped}
 use Rattle.definitions.specs.Forest.{make}
-use Rattle.definitions.specs.Calls.{Call, opens, searches, peeks, Reply, refusal, table, searched, peeked, calls}
+use Rattle.definitions.specs.Calls.{Call, opens, searches, peeks, Reply, refusal, table, searched, peeked, sitting, calls}
 use Rattle.definitions.specs.Listing.{listing}
 
 -- What is run: the listing program, or calls on a forest made with that clock limit.
@@ -34,7 +34,7 @@ abbrev pub run-on : List ℕ → Run → Gives
 run-on book lists = prints (listing book)
 run-on book (runs limit cs) = elim (make book limit) [
   | refused n ↦ refuses n
-  | accepted f ↦ replies (map (λ c. c .reply) (calls f cs))
+  | accepted f ↦ replies (map (λ c. c .reply) (calls (sitting f) cs))
 ]
 
 -- Notation: `0 :- 1` is a goal with the clause `rule 0 (pos 1 ∷ [])`; `/v` is the variant, `rule`'s first argument.

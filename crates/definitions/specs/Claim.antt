@@ -3,6 +3,7 @@ use Prim.Native.Nat.{ℕ, _+_, _≤_}
 use mathlib.Core.Path.{_≡_}
 use mathlib.Core.Bool.{Bool, true, false, _||_}
 use mathlib.Core.Logic.{_⊎_}
+use mathlib.Core.Option.{Option, none, some}
 use mathlib.Core.List.{List, [], _∷_}
 use lib.ListN.{length}
 use Rattle.definitions.specs.{TableIndex}
@@ -15,7 +16,7 @@ use Rattle.definitions.specs.Logic.{NoMoreSolutions, Floundered, Quantum
 use Rattle.definitions.specs.Turn.{Ending, found, fail, cut, stopped}
 use Rattle.definitions.specs.Forest.{make, Opened, open-goal, is-exceeded, SearchMade}
 use Rattle.definitions.specs.Calls.{Call, opens, searches, peeks, asks-future, Reply, refusal, table, searched, peeked, future}
-use Rattle.definitions.specs.Calls.{searches-made, Called, calls}
+use Rattle.definitions.specs.Calls.{Sitting, sitting, searches-made, Called, calls}
 use Rattle.definitions.specs.Model.{Plain, Levelled, In}
 
 -- "An answer or 'no more solutions' of a search or peek names the goal whose open, right after that call, would give the same table."
@@ -43,13 +44,29 @@ pub record ReadOff (made : List SearchMade) (f : Forest) (e : Ending) (i turns k
   pub made-are : made ≡ push earlier (record { index = i; result = record { ending = e; turns = turns; forest = f } })
   pub count-is : k ≡ exceeded-among made
 
--- A refusal on a forest that no stop has marked: an open is refused by 9 alone, a search or a peek by 10, 11 or 12.
+-- What a search or a peek is about, known before it is made: the table and the index that it asks for.
+abbrev pub about : Sitting → Call → Option (TableIndex × ℕ)
+about s (opens goal) = none
+about s (searches t i limit) = some (t, i)
+about s (peeks t i rounds limit) = some (t, i)
+about s (asks-future t i v) = none
 
-abbrev pub OpenRefused : (number : ℕ) → Type 0
-OpenRefused n = n ≡ 9
+-- what is said of it; the ending of a search that nothing asked for would be wrong
+abbrev pub AboutSays : Option (TableIndex × ℕ) → (TableIndex → ℕ → Type 0) → Type 0
+AboutSays none Says = ⊥
+AboutSays (some (t, i)) Says = Says t i
+
+-- A refusal on a forest that no stop has marked: an open is refused by 9 alone, a search or a peek by 10, 11 or 12. Of one of
+-- `any_future_answer` nothing is said.
 
 abbrev pub SearchRefused : (number : ℕ) → Type 0
 SearchRefused n = (n ≡ 10) ⊎ (n ≡ 11) ⊎ (n ≡ 12)
+
+abbrev pub RefusedBy : Call → (number : ℕ) → Type 0
+RefusedBy (opens goal) n = n ≡ 9
+RefusedBy (searches t i limit) n = SearchRefused n
+RefusedBy (peeks t i rounds limit) n = SearchRefused n
+RefusedBy (asks-future t i v) n = Unit {0}
 
 -- an open never stops
 abbrev pub OpenSays : Stops TableIndex → Type 0
@@ -95,30 +112,21 @@ module _ (I : ℕ → Type 0) (clock-limit : ℕ) where
   EndingSays f t i cut = Unit {0}
   EndingSays f t i (stopped n) = (n ≡ 21) × (f .clock ≡ clock-limit)
 
-  -- What the reply of a call says, on a forest that no stop has marked; `made` are the searches that the call made. Of the reply of
-  -- `any_future_answer` nothing is said.
-  abbrev pub ReplySays : (made : List SearchMade) → Forest → Call → Reply → Type 0
-  ReplySays made f (opens goal) (refusal n) = OpenRefused n
-  ReplySays made f (opens goal) (table t) = OpenSays t
-  ReplySays made f (opens goal) (searched e turns) = ⊥
-  ReplySays made f (opens goal) (peeked e i turns k) = ⊥
-  ReplySays made f (opens goal) (future b) = ⊥
-  ReplySays made f (searches t i limit) (refusal n) = SearchRefused n
-  ReplySays made f (searches t i limit) (table t′) = ⊥
-  ReplySays made f (searches t i limit) (searched e turns) = EndingSays f t i e
-  ReplySays made f (searches t i limit) (peeked e i′ turns k) = ⊥
-  ReplySays made f (searches t i limit) (future b) = ⊥
-  ReplySays made f (peeks t i rounds limit) (refusal n) = SearchRefused n
-  ReplySays made f (peeks t i rounds limit) (table t′) = ⊥
-  ReplySays made f (peeks t i rounds limit) (searched e turns) = ⊥
-  ReplySays made f (peeks t i rounds limit) (peeked e i′ turns k) = EndingSays f t i′ e × ReadOff made f e i′ turns k
-  ReplySays made f (peeks t i rounds limit) (future b) = ⊥
-  ReplySays made f (asks-future t i v) r = Unit {0}
+  -- What a reply says, on a forest that no stop has marked: `Refuses` are the numbers by which the call is refused, `made` the searches that
+  -- it made, `at` what it is about, and f the forest that it left. Of the reply of `any_future_answer` nothing is said.
+  abbrev pub ReplySays :
+      (Refuses : ℕ → Type 0) (made : List SearchMade) (at : Option (TableIndex × ℕ)) → Forest → Reply → Type 0
+  ReplySays Refuses made at f (refusal n) = Refuses n
+  ReplySays Refuses made at f (table t) = OpenSays t
+  ReplySays Refuses made at f (searched e turns) = AboutSays at (λ t i. EndingSays f t i e)
+  ReplySays Refuses made at f (peeked e i turns k) = AboutSays at (λ t asked. EndingSays f t i e) × ReadOff made f e i turns k
+  ReplySays Refuses made at f (future b) = Unit {0}
 
   -- one call, on a forest that is marked or not
   abbrev pub CallSays : (marked : Bool) → Called → Type 0
   CallSays true c = MarkedSays (c .asked) (c .reply)
-  CallSays false c = ReplySays (searches-made (c .before) (c .asked)) (c .forest) (c .asked) (c .reply)
+  CallSays false c =
+      ReplySays (RefusedBy (c .asked)) (searches-made (c .before) (c .asked)) (about (c .before) (c .asked)) (c .after .forest) (c .reply)
 
   -- every call of the list
   abbrev pub AllSay : (marked : Bool) → List Called → Type 0
@@ -130,6 +138,18 @@ abbrev pub exceeded : List Called → ℕ
 exceeded [] = 0
 exceeded (c ∷ cs) = exceeded-among (searches-made (c .before) (c .asked)) + exceeded cs
 
+-- The allowance: how many more searches a reply lets end so. No reply grants any.
+abbrev pub granted : Reply → ℕ
+granted (refusal n) = 0
+granted (table t) = 0
+granted (searched e turns) = 0
+granted (peeked e i turns k) = 0
+granted (future b) = 0
+
+abbrev pub all-granted : List Called → ℕ
+all-granted [] = 0
+all-granted (c ∷ cs) = granted (c .reply) + all-granted cs
+
 -- Demand 3: for every byte string that makes a forest with this clock limit, every levelling of its book and every list of calls.
 -- Goals and clauses are those in the book's bytes.
 abbrev pub Demand3 : Type 0
@@ -137,4 +157,5 @@ Demand3 =
     (bytes : List ℕ) (clock-limit : ℕ) (f : Forest) → make bytes clock-limit ≡ accepted f →
     (level : ℕ → ℕ) → Plain (f .book) → Levelled (f .book) level →
     (cs : List Call) →
-    AllSay (In (f .book) level) clock-limit false (calls f cs) × (exceeded (calls f cs) ≤ length (f .book) + clause-count (f .book))
+    AllSay (In (f .book) level) clock-limit false (calls (sitting f) cs)
+    × (exceeded (calls (sitting f) cs) ≤ length (f .book) + clause-count (f .book) + all-granted (calls (sitting f) cs))

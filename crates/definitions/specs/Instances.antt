@@ -14,7 +14,7 @@ use Rattle.definitions.specs.Logic.{NoMoreSolutions, QuantumExceeded, In
 use Rattle.definitions.specs.Turn.{Ending, found, fail, cut, stopped}
 use Rattle.definitions.specs.Forest.{make, SearchMade}
 use Rattle.definitions.specs.Calls.{Call, opens, searches, peeks, asks-future, Reply, refusal, table, searched, peeked, future}
-use Rattle.definitions.specs.Calls.{searches-made, Called, calls}
+use Rattle.definitions.specs.Calls.{sitting, searches-made, Called, calls}
 use Rattle.definitions.specs.Cases.{pos, neg, rule, fact, one-rule, inductive, coinductive, yes-answer}
 use Rattle.definitions.specs.Model.{Each, PlainLiteral, PlainClause, PlainGoal, Plain, LevelLiteral, Levelled}
 use Rattle.definitions.specs.Claim.{AllSay, exceeded}
@@ -80,7 +80,7 @@ first-calls =
     ∷ opens 3 ∷ searches 7 0 100 ∷ searches 0 5 100 ∷ searches 0 0 0 ∷ asks-future 0 0 0 ∷ []
 
 pub first-replies :
-    replies-of (calls (just-made first-book 1000) first-calls)
+    replies-of (calls (sitting (just-made first-book 1000)) first-calls)
     ≡ table (go 0) ∷ searched cut 1 ∷ searched (fail QuantumExceeded) 3 ∷ peeked (found (yes-answer 0)) 0 6 1
     ∷ table (go 1) ∷ peeked (fail NoMoreSolutions) 0 1 0
     ∷ refusal 9 ∷ refusal 10 ∷ refusal 11 ∷ refusal 12 ∷ future true ∷ []
@@ -88,21 +88,21 @@ first-replies = refl
 
 -- the peek at goal 0 searched twice
 pub first-searches :
-    searches-of (calls (just-made first-book 1000) first-calls)
+    searches-of (calls (sitting (just-made first-book 1000)) first-calls)
     ≡ [] ∷ ((0, cut) ∷ []) ∷ ((0, fail QuantumExceeded) ∷ []) ∷ ((0, fail QuantumExceeded) ∷ (0, found (yes-answer 0)) ∷ [])
     ∷ [] ∷ ((0, fail NoMoreSolutions) ∷ []) ∷ [] ∷ [] ∷ [] ∷ [] ∷ [] ∷ []
 first-searches = refl
 
 -- two of six
-pub first-exceeded : exceeded (calls (just-made first-book 1000) first-calls) ≡ 2
+pub first-exceeded : exceeded (calls (sitting (just-made first-book 1000)) first-calls) ≡ 2
 first-exceeded = refl
 
 -- were no goal in the model, the claim would be false of these calls
-pub not-of-none : AllSay (λ goal. ⊥) 1000 false (calls (just-made first-book 1000) first-calls) → ⊥
+pub not-of-none : AllSay (λ goal. ⊥) 1000 false (calls (sitting (just-made first-book 1000)) first-calls) → ⊥
 not-of-none said = said .1 .1 .1 .0 .0 .1 .1 0 (_, refl, refl)
 
 -- and so it would, were every goal in it
-pub not-of-all : AllSay (λ goal. Unit {0}) 1000 false (calls (just-made first-book 1000) first-calls) → ⊥
+pub not-of-all : AllSay (λ goal. Unit {0}) 1000 false (calls (sitting (just-made first-book 1000)) first-calls) → ⊥
 not-of-all said = said .1 .1 .1 .1 .1 .0 .0 refl .1 2 (_, refl, refl) tt
 
 -- Second book: `0 :- 0`, where as many searches end in QuantumExceeded as there are goals and clauses.
@@ -114,13 +114,13 @@ abbrev pub second-calls : List Call
 second-calls = opens 0 ∷ searches 0 0 100 ∷ searches 0 0 100 ∷ searches 0 0 100 ∷ []
 
 pub second-replies :
-    replies-of (calls (just-made second-book 1000) second-calls)
+    replies-of (calls (sitting (just-made second-book 1000)) second-calls)
     ≡ table (go 0) ∷ searched (fail QuantumExceeded) 2 ∷ searched (fail QuantumExceeded) 2 ∷ searched (fail NoMoreSolutions) 1 ∷ []
 second-replies = refl
 
 -- With a clock limit of 1 the second search stops, and every call after it gets 20.
 pub second-stops :
-    replies-of (calls (just-made second-book 1) (opens 0 ∷ searches 0 0 100 ∷ searches 0 0 100 ∷ opens 0 ∷ asks-future 0 0 0 ∷ []))
+    replies-of (calls (sitting (just-made second-book 1)) (opens 0 ∷ searches 0 0 100 ∷ searches 0 0 100 ∷ opens 0 ∷ asks-future 0 0 0 ∷ []))
     ≡ table (go 0) ∷ searched (fail QuantumExceeded) 2 ∷ searched (stopped 21) 0 ∷ refusal 20 ∷ future true ∷ []
 second-stops = refl
 
@@ -133,6 +133,6 @@ abbrev pub third-calls : List Call
 third-calls = opens 0 ∷ peeks 0 0 10 100 ∷ opens 1 ∷ peeks 1 0 10 100 ∷ []
 
 pub third-searches :
-    searches-of (calls (just-made third-book 1000) third-calls)
+    searches-of (calls (sitting (just-made third-book 1000)) third-calls)
     ≡ [] ∷ ((0, found (yes-answer 0)) ∷ []) ∷ [] ∷ ((0, fail InvalidAnswer) ∷ (1, fail NoMoreSolutions) ∷ []) ∷ []
 third-searches = refl

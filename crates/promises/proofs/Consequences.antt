@@ -14,7 +14,7 @@ use Rattle.definitions.specs.Tables.{Forest}
 use Rattle.definitions.specs.Logic.{NoMoreSolutions, QuantumExceeded}
 use Rattle.definitions.specs.Turn.{found, fail}
 use Rattle.definitions.specs.Forest.{make, opened}
-use Rattle.definitions.specs.Calls.{Call, opens, searches, peeks, table, searched, peeked, Called, calls}
+use Rattle.definitions.specs.Calls.{Call, opens, searches, peeks, table, searched, peeked, sitting, Called, calls}
 use Rattle.definitions.specs.Model.{Each, Plain, LevelLiteral, Levelled, In}
 use Rattle.definitions.specs.Claim.{exceeded}
 use Rattle.promises.proofs.Demand.{demand-3}
@@ -104,7 +104,7 @@ abbrev asked : List Call
 asked = opens 0 ∷ peeks 0 0 10 100 ∷ opens 2 ∷ peeks 1 0 10 100 ∷ []
 
 -- what the calls reply
-pub replies : map (λ (c : Called). c .reply) (calls forest asked) ≡
+pub replies : map (λ (c : Called). c .reply) (calls (sitting forest) asked) ≡
     table (go 0)
     ∷ peeked (found (record { variant = 0; ambiguous = false })) 0 6 2
     ∷ table (go 1)
@@ -114,7 +114,7 @@ replies = refl
 
 -- the forest that the call at a place of the list leaves
 abbrev left-by : ℕ → Forest
-left-by n = getD (map (λ (c : Called). c .forest) (calls forest asked)) n forest
+left-by n = getD (map (λ (c : Called). c .after .forest) (calls (sitting forest) asked)) n forest
 
 -- so goal 0 is in the model
 pub zero-in : In book level 0
@@ -145,10 +145,10 @@ loop-made = refl
 abbrev loop-asked : List Call
 loop-asked = opens 0 ∷ searches 0 0 10 ∷ searches 0 0 10 ∷ searches 0 0 10 ∷ []
 
-pub loop-replies : map (λ (c : Called). c .reply) (calls loop-forest loop-asked) ≡
+pub loop-replies : map (λ (c : Called). c .reply) (calls (sitting loop-forest) loop-asked) ≡
     table (go 0) ∷ searched (fail QuantumExceeded) 2 ∷ searched (fail QuantumExceeded) 2 ∷ searched (fail NoMoreSolutions) 1 ∷ []
 loop-replies = refl
 
 -- the bound is reached
-pub bound-reached : exceeded (calls loop-forest loop-asked) ≡ length loop-book + clause-count loop-book
+pub bound-reached : exceeded (calls (sitting loop-forest) loop-asked) ≡ length loop-book + clause-count loop-book
 bound-reached = refl

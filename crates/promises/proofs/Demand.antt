@@ -15,9 +15,10 @@ use Rattle.definitions.specs.Tables.{Forest}
 use Rattle.definitions.specs.Turn.{root-answer}
 use Rattle.definitions.specs.Forest.{make, is-marked, opened, open-goal, not-made, index-above, search, peek, peek-rounds, SearchMade}
 use Rattle.definitions.specs.Forest.{any-future-answer}
-use Rattle.definitions.specs.Calls.{Call, opens, searches, peeks, asks-future, Reply, refusal, future, call, searches-made, calls}
+use Rattle.definitions.specs.Calls.{Sitting, sitting, Call, opens, searches, peeks, asks-future, Reply, refusal, future, call}
+use Rattle.definitions.specs.Calls.{searches-made, calls}
 use Rattle.definitions.specs.Model.{Plain, Levelled, In}
-use Rattle.definitions.specs.Claim.{MarkedSays, reply-stopped, AllSay, exceeded-among, exceeded, Demand3}
+use Rattle.definitions.specs.Claim.{MarkedSays, reply-stopped, AllSay, exceeded-among, exceeded, granted, all-granted, Demand3}
 use Rattle.definitions.proofs.Refusal.{not-accepted, all-pass}
 use Rattle.laws.proofs.Options.{no-such}
 use Rattle.laws.proofs.Bools.{both-false}
@@ -48,37 +49,39 @@ module _ (f : Forest) (marked : is-marked f ≡ true) where
       unless-stop (is-marked f refuses 20) (not-made f t refuses 10 ∷ index-above f t i refuses 11 ∷ (eqb r 0 || eqb n 0) refuses 12 ∷ [])
       (peek-rounds (r - 1) n 0 t i f) marked
 
-  marked-ask : (o : Refusable Bool) (r : Reply × Forest) → r ≡ elim o [ refused n ↦ (refusal n, f) | accepted b ↦ (future b, f) ]
-      → is-marked (r .1) ≡ true
-  marked-ask (refused n) r e = subst (λ (z : Reply × Forest). is-marked (z .1) ≡ true) (sym e) marked
-  marked-ask (accepted b) r e = subst (λ (z : Reply × Forest). is-marked (z .1) ≡ true) (sym e) marked
+module _ (s : Sitting) (marked : is-marked (s .forest) ≡ true) where
+  marked-ask : (o : Refusable Bool) (r : Reply × Sitting) → r ≡ elim o [ refused n ↦ (refusal n, s) | accepted b ↦ (future b, s) ]
+      → is-marked (r .1 .forest) ≡ true
+  marked-ask (refused n) r e = subst (λ (z : Reply × Sitting). is-marked (z .1 .forest) ≡ true) (sym e) marked
+  marked-ask (accepted b) r e = subst (λ (z : Reply × Sitting). is-marked (z .1 .forest) ≡ true) (sym e) marked
 
   -- a call that is refused, and makes no search
-  refused-with : (r : Reply × Forest) (made : List SearchMade) → r ≡ (refusal 20, f) → made ≡ []
-      → (r .0 ≡ refusal 20) × (is-marked (r .1) ≡ true) × (exceeded-among made ≡ 0)
+  refused-with : (r : Reply × Sitting) (made : List SearchMade) → r ≡ (refusal 20, s) → made ≡ []
+      → (r .0 ≡ refusal 20) × (is-marked (r .1 .forest) ≡ true) × (exceeded-among made ≡ 0)
   refused-with r made e m = (
-    ap (λ (z : Reply × Forest). z .0) e,
-    ap (λ (z : Reply × Forest). is-marked (z .1)) e
+    ap (λ (z : Reply × Sitting). z .0) e,
+    ap (λ (z : Reply × Sitting). is-marked (z .1 .forest)) e
         ∙ marked,
     ap exceeded-among m,
   )
 
-  marked-call : (c : Call) → MarkedSays c (call f c .0) × (is-marked (call f c .1) ≡ true) × (exceeded-among (searches-made f c) ≡ 0)
-  marked-call (opens g) = refused-with (call f (opens g)) (searches-made f (opens g)) (rw (open-turned g, call)) refl
+  marked-call : (c : Call)
+      → MarkedSays c (call s c .0) × (is-marked (call s c .1 .forest) ≡ true) × (exceeded-among (searches-made s c) ≡ 0)
+  marked-call (opens g) = refused-with (call s (opens g)) (searches-made s (opens g)) (rw (open-turned (s .forest) marked g, call)) refl
   marked-call (searches t i n) =
-      refused-with (call f (searches t i n)) (searches-made f (searches t i n)) (rw (search-turned t i n, call))
-      (rw (search-turned t i n, searches-made))
+      refused-with (call s (searches t i n)) (searches-made s (searches t i n)) (rw (search-turned (s .forest) marked t i n, call))
+      (rw (search-turned (s .forest) marked t i n, searches-made))
   marked-call (peeks t i r n) =
-      refused-with (call f (peeks t i r n)) (searches-made f (peeks t i r n)) (rw (peek-turned t i r n, call))
-      (rw (peek-turned t i r n, searches-made))
-  marked-call (asks-future t i v) = (tt, marked-ask (any-future-answer f t i v) (call f (asks-future t i v)) refl, refl)
+      refused-with (call s (peeks t i r n)) (searches-made s (peeks t i r n)) (rw (peek-turned (s .forest) marked t i r n, call))
+      (rw (peek-turned (s .forest) marked t i r n, searches-made))
+  marked-call (asks-future t i v) = (tt, marked-ask (any-future-answer (s .forest) t i v) (call s (asks-future t i v)) refl, refl)
 
-marked-calls : (I : ℕ → Type 0) (limit : ℕ) (cs : List Call) (f : Forest) → is-marked f ≡ true
-    → AllSay I limit true (calls f cs) × (exceeded (calls f cs) ≡ 0)
-marked-calls I limit [] f m = (tt, refl)
-marked-calls I limit (c ∷ cs) f m =
-    let x = marked-call f m c in
-    let r = marked-calls I limit cs (call f c .1) (x .1) in
+marked-calls : (I : ℕ → Type 0) (limit : ℕ) (cs : List Call) (s : Sitting) → is-marked (s .forest) ≡ true
+    → AllSay I limit true (calls s cs) × (exceeded (calls s cs) ≡ 0)
+marked-calls I limit [] s m = (tt, refl)
+marked-calls I limit (c ∷ cs) s m =
+    let x = marked-call s m c in
+    let r = marked-calls I limit cs (call s c .1) (x .1) in
     ((x .0, r .0), (let y = x .2 in let z = r .1 in omega arith))
 
 -- The whole list.
@@ -87,29 +90,33 @@ module _ (G : Premises) where
   abbrev measure : M.Forest → ℕ
   measure p = potential (setting-of G) p
 
-  abbrev AllOK : Forest → M.Forest → List Call → Type 0
-  AllOK f p cs = AllSay (In (G .book) (G .level)) (G .limit) false (calls f cs) × (exceeded (calls f cs) ≤ measure p)
+  abbrev AllOK : Sitting → M.Forest → List Call → Type 0
+  AllOK s p cs = AllSay (In (G .book) (G .level)) (G .limit) false (calls s cs)
+      × (exceeded (calls s cs) ≤ measure p + all-granted (calls s cs))
 
-  call-at : (f : Forest) (p : M.Forest) → Between G f p → (c : Call) → CallOK G p (searches-made f c) c (call f c .0) (call f c .1)
-  call-at f p b c = subst (λ (z : Forest). CallOK G p (searches-made z c) c (call z c .0) (call z c .1)) (sym (b .is))
-      (call-ok G (b .agree) (b .ready) c)
+  call-at : (s : Sitting) (p : M.Forest) → Between G (s .forest) p → (c : Call)
+      → CallOK G p s (searches-made s c) c (call s c .0) (call s c .1)
+  call-at s p b c =
+      subst (λ (z : Forest). CallOK G p (sitting z) (searches-made (sitting z) c) c (call (sitting z) c .0) (call (sitting z) c .1))
+      (sym (b .is)) (call-ok G (b .agree) (b .ready) c)
 
   -- the calls after one
-  rest-ok : (cs : List Call) → ((f : Forest) (p : M.Forest) → Between G f p → AllOK f p cs)
-      → (p : M.Forest) (k : ℕ) (r : Reply) (f : Forest) → Left G p k r f
-      → AllSay (In (G .book) (G .level)) (G .limit) (false || reply-stopped r) (calls f cs) × (k + exceeded (calls f cs) ≤ measure p)
-  rest-ok cs ih p k r f (goes-on p' e b fall) =
-      let x = ih f p' b in
-      (subst (λ (z : Bool). AllSay (In (G .book) (G .level)) (G .limit) z (calls f cs)) (sym e) (x .0), (let y = x .1 in omega arith))
-  rest-ok cs ih p k r f (is-over e m fall) =
-      let x = marked-calls (In (G .book) (G .level)) (G .limit) cs f m in
-      (subst (λ (z : Bool). AllSay (In (G .book) (G .level)) (G .limit) z (calls f cs)) (sym e) (x .0), (let y = x .1 in omega arith))
+  rest-ok : (cs : List Call) → ((s : Sitting) (p : M.Forest) → Between G (s .forest) p → AllOK s p cs)
+      → (p : M.Forest) (k : ℕ) (r : Reply) (s : Sitting) → Left G p k r s
+      → AllSay (In (G .book) (G .level)) (G .limit) (false || reply-stopped r) (calls s cs)
+      × (k + exceeded (calls s cs) ≤ measure p + (granted r + all-granted (calls s cs)))
+  rest-ok cs ih p k r s (goes-on p' e b fall) =
+      let x = ih s p' b in
+      (subst (λ (z : Bool). AllSay (In (G .book) (G .level)) (G .limit) z (calls s cs)) (sym e) (x .0), (let y = x .1 in omega arith))
+  rest-ok cs ih p k r s (is-over e m fall) =
+      let x = marked-calls (In (G .book) (G .level)) (G .limit) cs s m in
+      (subst (λ (z : Bool). AllSay (In (G .book) (G .level)) (G .limit) z (calls s cs)) (sym e) (x .0), (let y = x .1 in omega arith))
 
-  pub all-calls : (cs : List Call) (f : Forest) (p : M.Forest) → Between G f p → AllOK f p cs
-  all-calls [] f p b = (tt, omega arith)
-  all-calls (c ∷ cs) f p b =
-      let k = call-at f p b c in
-      let r = rest-ok cs (all-calls cs) p (exceeded-among (searches-made f c)) (call f c .0) (call f c .1) (k .left) in
+  pub all-calls : (cs : List Call) (s : Sitting) (p : M.Forest) → Between G (s .forest) p → AllOK s p cs
+  all-calls [] s p b = (tt, omega arith)
+  all-calls (c ∷ cs) s p b =
+      let k = call-at s p b c in
+      let r = rest-ok cs (all-calls cs) p (exceeded-among (searches-made s c)) (call s c .0) (call s c .1) (k .left) in
       ((k .says, r .0), r .1)
 
 -- a forest just made
@@ -123,8 +130,9 @@ start book = record {
 }
 
 from-start : (book : Book) (limit : ℕ) (level : ℕ → ℕ) → limit ≤ MAX → Good book → Plain book → Levelled book level → (cs : List Call)
-    → AllSay (In book level) limit false (calls (forest-of book limit 0 [] 0) cs)
-    × (exceeded (calls (forest-of book limit 0 [] 0) cs) ≤ length book + clause-count book)
+    → AllSay (In book level) limit false (calls (sitting (forest-of book limit 0 [] 0)) cs)
+    × (exceeded (calls (sitting (forest-of book limit 0 [] 0)) cs)
+    ≤ length book + clause-count book + all-granted (calls (sitting (forest-of book limit 0 [] 0)) cs))
 from-start book limit level room good plain levelled cs =
     let sums = clauses-total book in
     let G : Premises = record {
@@ -140,7 +148,7 @@ from-start book limit level room good plain levelled cs =
     let p = M.initial (book-of book) in
     let between : Between G (forest-of book limit 0 [] 0) p =
     record { goals = []; tables = []; is = refl; agree = start book; ready = initial-ok (setting-of G) } in
-    let r = all-calls G cs (forest-of book limit 0 [] 0) p between in
+    let r = all-calls G cs (sitting (forest-of book limit 0 [] 0)) p between in
     let most = initial-total (length book) (book-of book) in
     (r .0, (let x = r .1 in omega arith))
 
@@ -169,5 +177,6 @@ made-from bytes limit f e = go (read bytes) refl e
 pub demand-3 : Demand3
 demand-3 bytes limit f e level = let m = made-from bytes limit f e in
     subst (λ (z : Forest). Plain (z .book) → Levelled (z .book) level → (cs : List Call)
-    → AllSay (In (z .book) level) limit false (calls z cs) × (exceeded (calls z cs) ≤ length (z .book) + clause-count (z .book)))
+    → AllSay (In (z .book) level) limit false (calls (sitting z) cs)
+    × (exceeded (calls (sitting z) cs) ≤ length (z .book) + clause-count (z .book) + all-granted (calls (sitting z) cs)))
     (m .is) (from-start (m .book) limit level (m .room) (m .good))

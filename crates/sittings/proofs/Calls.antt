@@ -28,30 +28,35 @@ use Rattle.sittings.specs.Sittings.{opening-reply, outcome-reply, future
 -- ONE CALL. What the definitions' `call` makes of a result on a forest F, where the code's says the same and leaves G; a call that is
 -- refused leaves F.
 
-abbrev of-open : tables.Forest → Refusable forests.Opened → said.Reply × tables.Forest
-of-open F o = elim o [ refused n ↦ (said.refusal n, F) | accepted r ↦ (said.table (r .table), r .forest) ]
+abbrev of-open : said.Sitting → Refusable forests.Opened → said.Reply × said.Sitting
+of-open S o = elim o [ refused n ↦ (said.refusal n, S) | accepted r ↦ (said.table (r .table), said.with-forest S (r .forest)) ]
 
-abbrev of-search : tables.Forest → Refusable turns.Searched → said.Reply × tables.Forest
-of-search F o = elim o [ refused n ↦ (said.refusal n, F) | accepted r ↦ (said.searched (r .ending) (r .turns), r .forest) ]
-
-abbrev of-peek : tables.Forest → Refusable forests.Peeked → said.Reply × tables.Forest
-of-peek F o = elim o [
-  | refused n ↦ (said.refusal n, F)
-  | accepted r ↦ (said.peeked (r .ending) (r .index) (r .turns) (r .exceeded), r .forest)
+abbrev of-search : said.Sitting → Refusable turns.Searched → said.Reply × said.Sitting
+of-search S o = elim o [
+  | refused n ↦ (said.refusal n, S)
+  | accepted r ↦ (said.searched (r .ending) (r .turns), said.with-forest S (r .forest))
 ]
 
-abbrev of-future : tables.Forest → Refusable Bool → said.Reply × tables.Forest
-of-future F o = elim o [ refused n ↦ (said.refusal n, F) | accepted b ↦ (said.future b, F) ]
+abbrev of-peek : said.Sitting → Refusable forests.Peeked → said.Reply × said.Sitting
+of-peek S o = elim o [
+  | refused n ↦ (said.refusal n, S)
+  | accepted r ↦ (said.peeked (r .ending) (r .index) (r .turns) (r .exceeded), said.with-forest S (r .forest))
+]
+
+abbrev of-future : said.Sitting → Refusable Bool → said.Reply × said.Sitting
+of-future S o = elim o [ refused n ↦ (said.refusal n, S) | accepted b ↦ (said.future b, S) ]
 
 module _ (F G : tables.Forest) where
-  open-case : (o : Opening) → ((n : ℕ) → o ≡ openings.Refused n → G ≡ F) → of-open F (opened-by o G) ≡ (opening-reply o, G)
-  open-case (openings.Refused n) u = ap (λ (z : tables.Forest). (said.refusal n, z)) (sym (u n refl))
+  open-case : (o : Opening) → ((n : ℕ) → o ≡ openings.Refused n → G ≡ F) → of-open (said.sitting F) (opened-by o G)
+      ≡ (opening-reply o, said.sitting G)
+  open-case (openings.Refused n) u = ap (λ (z : tables.Forest). (said.refusal n, said.sitting z)) (sym (u n refl))
   open-case (openings.Table t) u = refl
   open-case (openings.Stopped n) u = refl
 
   search-case : (turns : ℕ) (o : Outcome) → ((n : ℕ) → o ≡ outcomes.Refused n → G ≡ F)
-      → of-search F (reply-by o (λ e. record { ending = e; turns = turns; forest = G })) ≡ (outcome-reply o (λ e. said.searched e turns), G)
-  search-case turns (outcomes.Refused n) u = ap (λ (z : tables.Forest). (said.refusal n, z)) (sym (u n refl))
+      → of-search (said.sitting F) (reply-by o (λ e. record { ending = e; turns = turns; forest = G }))
+      ≡ (outcome-reply o (λ e. said.searched e turns), said.sitting G)
+  search-case turns (outcomes.Refused n) u = ap (λ (z : tables.Forest). (said.refusal n, said.sitting z)) (sym (u n refl))
   search-case turns (outcomes.Found variant ambiguous) u = refl
   search-case turns outcomes.NoMoreSolutions u = refl
   search-case turns outcomes.Floundered u = refl
@@ -62,9 +67,9 @@ module _ (F G : tables.Forest) where
   search-case turns (outcomes.Stopped n) u = refl
 
   peek-case : (index turns exceeded : ℕ) (o : Outcome) → ((n : ℕ) → o ≡ outcomes.Refused n → G ≡ F)
-      → of-peek F (reply-by o (λ e. record { ending = e; index = index; turns = turns; exceeded = exceeded; forest = G }))
-      ≡ (outcome-reply o (λ e. said.peeked e index turns exceeded), G)
-  peek-case index turns exceeded (outcomes.Refused n) u = ap (λ (z : tables.Forest). (said.refusal n, z)) (sym (u n refl))
+      → of-peek (said.sitting F) (reply-by o (λ e. record { ending = e; index = index; turns = turns; exceeded = exceeded; forest = G }))
+      ≡ (outcome-reply o (λ e. said.peeked e index turns exceeded), said.sitting G)
+  peek-case index turns exceeded (outcomes.Refused n) u = ap (λ (z : tables.Forest). (said.refusal n, said.sitting z)) (sym (u n refl))
   peek-case index turns exceeded (outcomes.Found variant ambiguous) u = refl
   peek-case index turns exceeded outcomes.NoMoreSolutions u = refl
   peek-case index turns exceeded outcomes.Floundered u = refl
@@ -74,7 +79,7 @@ module _ (F G : tables.Forest) where
   peek-case index turns exceeded outcomes.Cut u = refl
   peek-case index turns exceeded (outcomes.Stopped n) u = refl
 
-future-case : (F : tables.Forest) (r : Future) → of-future F (future-means r) ≡ (future-reply r, F)
+future-case : (F : tables.Forest) (r : Future) → of-future (said.sitting F) (future-means r) ≡ (future-reply r, said.sitting F)
 future-case F (futures.Refused n) = refl
 future-case F (futures.Found any) = refl
 
@@ -91,21 +96,25 @@ pub peek-unchanged : (f : Forest) (table index rounds limit : ℕ) (r : Peeked) 
     → (n : ℕ) → r .outcome ≡ outcomes.Refused n → r .forest ≡ f
 peek-unchanged f table index rounds limit r g n e = ap (λ (z : Peeked). z .forest) (g .unchanged n e)
 
+-- the sitting of the definitions that has what a forest means
+abbrev pub at : Forest → said.Sitting
+at f = said.sitting (view f)
+
 -- what the definitions' call says is what the code's does
-pub call-told : (f : Forest) (t : Told) → Sound f → Gives f t → said.call (view f) (asked t) ≡ (reply t, view (left f t))
+pub call-told : (f : Forest) (t : Told) → Sound f → Gives f t → said.call (at f) (asked t) ≡ (reply t, at (left f t))
 call-told f (opens goal r) s g =
-    ap (of-open (view f)) (sym (g .says s))
+    ap (of-open (at f)) (sym (g .says s))
     ∙ open-case (view f) (view (r .forest)) (r .opening) (λ n e. ap (λ (z : Forest). view z) (open-unchanged f goal r g n e))
 call-told f (searches table index limit r) s g =
-    ap (of-search (view f)) (sym (g .says s))
+    ap (of-search (at f)) (sym (g .says s))
     ∙ search-case (view f) (view (r .forest)) (r .turns) (r .outcome)
     (λ n e. ap (λ (z : Forest). view z) (search-unchanged f table index limit r g n e))
 call-told f (peeks table index rounds limit r) s g =
-    ap (of-peek (view f)) (sym (g .says s))
+    ap (of-peek (at f)) (sym (g .says s))
     ∙ peek-case (view f) (view (r .forest)) (r .index) (r .turns) (r .exceeded) (r .outcome)
     (λ n e. ap (λ (z : Forest). view z) (peek-unchanged f table index rounds limit r g n e))
 call-told f (asks-future table index variant r) s g =
-    ap (of-future (view f)) (sym (g .says s))
+    ap (of-future (at f)) (sym (g .says s))
     ∙ future-case (view f) r
 
 -- and the forest left is sound
@@ -117,21 +126,21 @@ left-sound f (asks-future table index variant r) s g = s
 
 -- THE SITTING, in the words of the definitions
 abbrev pub told-call : Forest → Told → said.Called
-told-call f t = record { asked = asked t; before = view f; reply = reply t; forest = view (left f t) }
+told-call f t = record { asked = asked t; before = at f; reply = reply t; after = at (left f t) }
 
 abbrev pub told-calls : Forest → List Told → List said.Called
 told-calls f [] = []
 told-calls f (t ∷ ts) = told-call f t ∷ told-calls (left f t) ts
 
-calls-step : (F G : tables.Forest) (c : said.Call) (cs : List said.Call) (r : said.Reply) (rest : List said.Called)
+calls-step : (F G : said.Sitting) (c : said.Call) (cs : List said.Call) (r : said.Reply) (rest : List said.Called)
     → said.call F c ≡ (r, G) → said.calls G cs ≡ rest
-    → said.calls F (c ∷ cs) ≡ record { asked = c; before = F; reply = r; forest = G } ∷ rest
+    → said.calls F (c ∷ cs) ≡ record { asked = c; before = F; reply = r; after = G } ∷ rest
 calls-step F G c cs r rest e h =
-    ap (λ (z : said.Reply × tables.Forest). record { asked = c; before = F; reply = z .0; forest = z .1 } ∷ said.calls (z .1) cs) e
-    ∙ ap (λ (z : List said.Called). record { asked = c; before = F; reply = r; forest = G } ∷ z) h
+    ap (λ (z : said.Reply × said.Sitting). record { asked = c; before = F; reply = z .0; after = z .1 } ∷ said.calls (z .1) cs) e
+    ∙ ap (λ (z : List said.Called). record { asked = c; before = F; reply = r; after = G } ∷ z) h
 
-pub sits-calls : (ts : List Told) (f : Forest) → Sound f → Sits f ts → said.calls (view f) (map asked ts) ≡ told-calls f ts
+pub sits-calls : (ts : List Told) (f : Forest) → Sound f → Sits f ts → said.calls (at f) (map asked ts) ≡ told-calls f ts
 sits-calls [] f s g = refl
 sits-calls (t ∷ ts) f s g =
-    calls-step (view f) (view (left f t)) (asked t) (map asked ts) (reply t) (told-calls (left f t) ts) (call-told f t s (g .0))
+    calls-step (at f) (at (left f t)) (asked t) (map asked ts) (reply t) (told-calls (left f t) ts) (call-told f t s (g .0))
     (sits-calls ts (left f t) (left-sound f t s (g .0)) (g .1))

@@ -3,6 +3,7 @@ use Prim.Native.Nat.{ℕ, _+_, _≤_}
 use native.Mathlib.Omega.{arith}
 use mathlib.Core.Bool.{Bool, true, false, _||_}
 use mathlib.Core.List.{List, [], _∷_, map}
+use mathlib.Core.Option.{none, some}
 use mathlib.Core.Path.{_≡_, refl, sym, ap, subst, _∙_}
 use lib.Dec.{eqb, leb}
 use lib.ListN.{length}
@@ -21,6 +22,7 @@ use Rattle.definitions.specs.Turn as turns
 use Rattle.definitions.proofs.Refusal.{same-accepted, not-accepted, all-pass}
 use Rattle.asserts.proofs.Safe.{stop-go}
 use Rattle.promises.proofs.Demand as promised
+use Rattle.promises.proofs.Before.{none-granted}
 use Rattle.forest.specs.declared.Forest.{Forest}
 use Rattle.forest.specs.declared.any_future_answer.Future.{Future}
 use Rattle.forest.specs.declared.any_future_answer.Future.the-variants as futures
@@ -40,8 +42,8 @@ use Rattle.forest.specs.View.{view, Sound}
 use Rattle.sittings.specs.Sittings.{Told, opens, searches, peeks, asks-future, left, Gives, Sits, asked}
 use Rattle.sittings.specs.Sittings.{opening-reply, outcome-reply, future-reply, reply}
 use Rattle.sittings.specs.Claim.{Names, Named, MarkedSays, is-stopped, opening-stopped, stops, OpeningSays, OutcomeSays}
-use Rattle.sittings.specs.Claim.{UnmarkedSays, TellSays, AllTell, exceeded-by, exceeded-in, exceeded, Demand3}
-use Rattle.sittings.proofs.Calls.{left-sound, told-call, told-calls, sits-calls}
+use Rattle.sittings.specs.Claim.{UnmarkedSays, TellSays, AllTell, exceeded-by, exceeded-in, exceeded, granted, all-granted, Demand3}
+use Rattle.sittings.proofs.Calls.{left-sound, at, told-call, told-calls, sits-calls}
 
 -- A GOAL THAT IS NAMED. An open of the definitions that gives a table is one of the code that gives it, and the other way round.
 
@@ -74,52 +76,51 @@ module _ (f : Forest) (s : Sound f) (t : ℕ) where
 
 -- the searches that the definitions' call makes
 abbrev made-in : Forest → Told → List forests.SearchMade
-made-in f t = said.searches-made (view f) (asked t)
+made-in f t = said.searches-made (at f) (asked t)
 
 -- WHAT A REPLY SAYS, on a forest that no stop has marked
 
 module _ (I : ℕ → Type 0) (limit : ℕ) where
   opening-told : (made : List forests.SearchMade) (G : tables.Forest) (goal : ℕ) (o : Opening)
-      → claim.ReplySays I limit made G (said.opens goal) (opening-reply o) → OpeningSays I limit o
+      → claim.ReplySays I limit (claim.RefusedBy (said.opens goal)) made none G (opening-reply o) → OpeningSays I limit o
   opening-told made G goal (openings.Refused n) x = x
   opening-told made G goal (openings.Table t) x = tt
   opening-told made G goal (openings.Stopped n) x = x
 
-  search-told : (made : List forests.SearchMade) (f : Forest) → Sound f → (t i most turns : ℕ) (o : Outcome)
-      → claim.ReplySays I limit made (view f) (said.searches t i most) (outcome-reply o (λ e. said.searched e turns))
+  search-told : (made : List forests.SearchMade) (f : Forest) → Sound f → (t i turns : ℕ) (o : Outcome)
+      → claim.ReplySays I limit claim.SearchRefused made (some (t, i)) (view f) (outcome-reply o (λ e. said.searched e turns))
       → OutcomeSays I limit f t i o
-  search-told made f s t i most turns (outcomes.Refused n) x = x
-  search-told made f s t i most turns (outcomes.Found variant ambiguous) x = (x .0, named-told f s t I (x .1))
-  search-told made f s t i most turns outcomes.NoMoreSolutions x = λ z. named-told f s t (λ goal. I goal → ⊥) (x z)
-  search-told made f s t i most turns outcomes.Floundered x = x
-  search-told made f s t i most turns outcomes.QuantumExceeded x = tt
-  search-told made f s t i most turns outcomes.NegativeCycle x = x
-  search-told made f s t i most turns outcomes.InvalidAnswer x = x
-  search-told made f s t i most turns outcomes.Cut x = tt
-  search-told made f s t i most turns (outcomes.Stopped n) x = x
+  search-told made f s t i turns (outcomes.Refused n) x = x
+  search-told made f s t i turns (outcomes.Found variant ambiguous) x = (x .0, named-told f s t I (x .1))
+  search-told made f s t i turns outcomes.NoMoreSolutions x = λ z. named-told f s t (λ goal. I goal → ⊥) (x z)
+  search-told made f s t i turns outcomes.Floundered x = x
+  search-told made f s t i turns outcomes.QuantumExceeded x = tt
+  search-told made f s t i turns outcomes.NegativeCycle x = x
+  search-told made f s t i turns outcomes.InvalidAnswer x = x
+  search-told made f s t i turns outcomes.Cut x = tt
+  search-told made f s t i turns (outcomes.Stopped n) x = x
 
-  peek-told : (made : List forests.SearchMade) (f : Forest) → Sound f → (t i rounds most index turns k : ℕ) (o : Outcome)
-      → claim.ReplySays I limit made (view f) (said.peeks t i rounds most) (outcome-reply o (λ e. said.peeked e index turns k))
+  peek-told : (made : List forests.SearchMade) (f : Forest) → Sound f → (t i index turns k : ℕ) (o : Outcome)
+      → claim.ReplySays I limit claim.SearchRefused made (some (t, i)) (view f) (outcome-reply o (λ e. said.peeked e index turns k))
       → OutcomeSays I limit f t index o
-  peek-told made f s t i rounds most index turns k (outcomes.Refused n) x = x
-  peek-told made f s t i rounds most index turns k (outcomes.Found variant ambiguous) x = (x .0 .0, named-told f s t I (x .0 .1))
-  peek-told made f s t i rounds most index turns k outcomes.NoMoreSolutions x =
+  peek-told made f s t i index turns k (outcomes.Refused n) x = x
+  peek-told made f s t i index turns k (outcomes.Found variant ambiguous) x = (x .0 .0, named-told f s t I (x .0 .1))
+  peek-told made f s t i index turns k outcomes.NoMoreSolutions x =
       λ z. named-told f s t (λ goal. I goal → ⊥) (x .0 z)
-  peek-told made f s t i rounds most index turns k outcomes.Floundered x = x .0
-  peek-told made f s t i rounds most index turns k outcomes.QuantumExceeded x = tt
-  peek-told made f s t i rounds most index turns k outcomes.NegativeCycle x = x .0
-  peek-told made f s t i rounds most index turns k outcomes.InvalidAnswer x = x .0
-  peek-told made f s t i rounds most index turns k outcomes.Cut x = tt
-  peek-told made f s t i rounds most index turns k (outcomes.Stopped n) x = x .0
+  peek-told made f s t i index turns k outcomes.Floundered x = x .0
+  peek-told made f s t i index turns k outcomes.QuantumExceeded x = tt
+  peek-told made f s t i index turns k outcomes.NegativeCycle x = x .0
+  peek-told made f s t i index turns k outcomes.InvalidAnswer x = x .0
+  peek-told made f s t i index turns k outcomes.Cut x = tt
+  peek-told made f s t i index turns k (outcomes.Stopped n) x = x .0
 
   unmarked-told : (f : Forest) (t : Told) → Sound (left f t) → claim.CallSays I limit false (told-call f t) → UnmarkedSays I limit t
   unmarked-told f (opens goal r) s x =
       opening-told (made-in f (opens goal r)) (view (r .forest)) goal (r .opening) x
   unmarked-told f (searches table index most r) s x =
-      search-told (made-in f (searches table index most r)) (r .forest) s table index most (r .turns) (r .outcome) x
+      search-told (made-in f (searches table index most r)) (r .forest) s table index (r .turns) (r .outcome) x
   unmarked-told f (peeks table index rounds most r) s x =
-      peek-told (made-in f (peeks table index rounds most r)) (r .forest) s table index rounds most (r .index) (r .turns) (r .exceeded)
-      (r .outcome) x
+      peek-told (made-in f (peeks table index rounds most r)) (r .forest) s table index (r .index) (r .turns) (r .exceeded) (r .outcome) x
   unmarked-told f (asks-future table index variant r) s x = tt
 
 -- AND ON A MARKED ONE: a reply that is the refusal with 20 is read off an outcome that is it
@@ -219,19 +220,31 @@ refused-count : (f : Forest) (table index rounds most : ℕ) (r : Peeked) → Pe
 refused-count f table index rounds most r g n e = ap (λ (z : Peeked). z .exceeded) (g .unchanged n e)
 
 -- a peek that was not refused counts those that it made; one that was has none to count
-peek-count : (I : ℕ → Type 0) (limit : ℕ) (made : List forests.SearchMade) (G : tables.Forest) (t i rounds most index turns k : ℕ)
-    (o : Outcome) → ((n : ℕ) → o ≡ outcomes.Refused n → k ≡ 0)
-    → claim.ReplySays I limit made G (said.peeks t i rounds most) (outcome-reply o (λ e. said.peeked e index turns k))
+peek-count : (I : ℕ → Type 0) (limit : ℕ) (made : List forests.SearchMade) (G : tables.Forest) (t i index turns k : ℕ) (o : Outcome)
+    → ((n : ℕ) → o ≡ outcomes.Refused n → k ≡ 0)
+    → claim.ReplySays I limit claim.SearchRefused made (some (t, i)) G (outcome-reply o (λ e. said.peeked e index turns k))
     → k ≤ claim.exceeded-among made
-peek-count I limit made G t i rounds most index turns k (outcomes.Refused n) z x = none-at-most (claim.exceeded-among made) (z n refl)
-peek-count I limit made G t i rounds most index turns k (outcomes.Found variant ambiguous) z x = at-most (sym (x .1 .count-is))
-peek-count I limit made G t i rounds most index turns k outcomes.NoMoreSolutions z x = at-most (sym (x .1 .count-is))
-peek-count I limit made G t i rounds most index turns k outcomes.Floundered z x = at-most (sym (x .1 .count-is))
-peek-count I limit made G t i rounds most index turns k outcomes.QuantumExceeded z x = at-most (sym (x .1 .count-is))
-peek-count I limit made G t i rounds most index turns k outcomes.NegativeCycle z x = at-most (sym (x .1 .count-is))
-peek-count I limit made G t i rounds most index turns k outcomes.InvalidAnswer z x = at-most (sym (x .1 .count-is))
-peek-count I limit made G t i rounds most index turns k outcomes.Cut z x = at-most (sym (x .1 .count-is))
-peek-count I limit made G t i rounds most index turns k (outcomes.Stopped n) z x = at-most (sym (x .1 .count-is))
+peek-count I limit made G t i index turns k (outcomes.Refused n) z x = none-at-most (claim.exceeded-among made) (z n refl)
+peek-count I limit made G t i index turns k (outcomes.Found variant ambiguous) z x = at-most (sym (x .1 .count-is))
+peek-count I limit made G t i index turns k outcomes.NoMoreSolutions z x = at-most (sym (x .1 .count-is))
+peek-count I limit made G t i index turns k outcomes.Floundered z x = at-most (sym (x .1 .count-is))
+peek-count I limit made G t i index turns k outcomes.QuantumExceeded z x = at-most (sym (x .1 .count-is))
+peek-count I limit made G t i index turns k outcomes.NegativeCycle z x = at-most (sym (x .1 .count-is))
+peek-count I limit made G t i index turns k outcomes.InvalidAnswer z x = at-most (sym (x .1 .count-is))
+peek-count I limit made G t i index turns k outcomes.Cut z x = at-most (sym (x .1 .count-is))
+peek-count I limit made G t i index turns k (outcomes.Stopped n) z x = at-most (sym (x .1 .count-is))
+
+-- WHAT A REPLY GRANTS is what the result does
+
+grants-told : (t : Told) → claim.granted (reply t) ≡ granted t
+grants-told (opens goal r) = none-granted (reply (opens goal r))
+grants-told (searches table index most r) = none-granted (reply (searches table index most r))
+grants-told (peeks table index rounds most r) = none-granted (reply (peeks table index rounds most r))
+grants-told (asks-future table index variant r) = none-granted (reply (asks-future table index variant r))
+
+all-grants : (ts : List Told) (f : Forest) → claim.all-granted (told-calls f ts) ≡ all-granted ts
+all-grants [] f = refl
+all-grants (t ∷ ts) f = let x = grants-told t in let y = all-grants ts (left f t) in omega (arith, x, y)
 
 -- ONE CALL, and then all of them
 module _ (I : ℕ → Type 0) (limit : ℕ) where
@@ -247,8 +260,8 @@ module _ (I : ℕ → Type 0) (limit : ℕ) where
       none-at-most (claim.exceeded-among (made-in f (peeks table index rounds most r)))
       (refused-count f table index rounds most r g 20 (marked-told (peeks table index rounds most r) x))
   peek-counted false f table index rounds most r g x =
-      peek-count I limit (made-in f (peeks table index rounds most r)) (view (r .forest)) table index rounds most (r .index) (r .turns)
-      (r .exceeded) (r .outcome) (refused-count f table index rounds most r g) x
+      peek-count I limit (made-in f (peeks table index rounds most r)) (view (r .forest)) table index (r .index) (r .turns) (r .exceeded)
+      (r .outcome) (refused-count f table index rounds most r g) x
 
   counted : (marked : Bool) (f : Forest) (t : Told) → Sound f → Gives f t → claim.CallSays I limit marked (told-call f t)
       → exceeded-in t ≤ claim.exceeded-among (made-in f t)
@@ -294,23 +307,30 @@ pub is-made : (bytes : List ℕ) (limit : ℕ) (m : Made) → MakeSays bytes lim
 is-made bytes limit m says e = sym (says .says) ∙ ap (λ (z : Making). made-by z (view (m .forest))) e
 
 -- what the definitions promise, at that book
+abbrev Promised : (level : ℕ → ℕ) (limit : ℕ) (book : books.Book) → List said.Called → Type 0
+Promised level limit book told =
+    claim.AllSay (In book level) limit false told
+    × (claim.exceeded told ≤ length book + clause-count book + claim.all-granted told)
+
 promise : (bytes : List ℕ) (limit : ℕ) (F : tables.Forest) → forests.make bytes limit ≡ accepted F
     → (book : books.Book) → books.read bytes ≡ accepted book → (level : ℕ → ℕ) → Plain book → Levelled book level
-    → (cs : List said.Call) (told : List said.Called) → said.calls F cs ≡ told
-    → claim.AllSay (In book level) limit false told × (claim.exceeded told ≤ length book + clause-count book)
+    → (cs : List said.Call) (told : List said.Called) → said.calls (said.sitting F) cs ≡ told → Promised level limit book told
 promise bytes limit F e book k level plain levelled cs told same =
-    subst (λ (z : List said.Called). claim.AllSay (In book level) limit false z × (claim.exceeded z ≤ length book + clause-count book)) same
-    (subst (λ (b : books.Book). Plain b → Levelled b level
-    → claim.AllSay (In b level) limit false (said.calls F cs) × (claim.exceeded (said.calls F cs) ≤ length b + clause-count b))
+    subst (λ (z : List said.Called). Promised level limit book z) same
+    (subst (λ (b : books.Book). Plain b → Levelled b level → Promised level limit b (said.calls (said.sitting F) cs))
     (made-book bytes limit F book e k) (λ p l. promised.demand-3 bytes limit F e level p l cs) plain levelled)
 
-within : (a b c : ℕ) → a ≤ b → b ≤ c → a ≤ c
-within a b c p q = omega (arith, p, q)
+within : (a b c d e : ℕ) → a ≤ b → b ≤ c + d → d ≡ e → a ≤ c + e
+within a b c d e p q r = omega (arith, p, q, r)
 
 pub demand-3 : Demand3
 demand-3 bytes limit m says e book k level plain levelled ts g =
     let s = says .sound e in
-    let x = promise bytes limit (view (m .forest)) (is-made bytes limit m says e) book k level plain levelled (map asked ts)
-    (told-calls (m .forest) ts) (sits-calls ts (m .forest) s g) in
-    let y = all-told (In book level) limit ts false (m .forest) s g (x .0) in
-    (y .0, within (exceeded ts) (claim.exceeded (told-calls (m .forest) ts)) (length book + clause-count book) (y .1) (x .1))
+    let told-as = told-calls (m .forest) ts in
+    let x = promise bytes limit (view (m .forest)) (is-made bytes limit m says e) book k level plain levelled (map asked ts) told-as
+    (sits-calls ts (m .forest) s g) in
+    let y = all-told (In book level) limit ts false (m .forest) s g (x .0) in (
+      y .0,
+      within (exceeded ts) (claim.exceeded told-as) (length book + clause-count book) (claim.all-granted told-as) (all-granted ts)
+          (y .1) (x .1) (all-grants ts (m .forest)),
+    )

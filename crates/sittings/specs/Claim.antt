@@ -121,13 +121,24 @@ abbrev pub exceeded : List Told → ℕ
 exceeded [] = 0
 exceeded (t ∷ ts) = exceeded-in t + exceeded ts
 
+-- The allowance: how many more searches a result lets end so. None grants any.
+abbrev pub granted : Told → ℕ
+granted (opens goal r) = 0
+granted (searches table index limit r) = 0
+granted (peeks table index rounds limit r) = 0
+granted (asks-future table index variant r) = 0
+
+abbrev pub all-granted : List Told → ℕ
+all-granted [] = 0
+all-granted (t ∷ ts) = granted t + all-granted ts
+
 -- DEMAND 3 OF THE CODE: for every byte string and clock limit for which `make` made a forest, every levelling of its book and every sitting
 abbrev pub Demand3 : Type 0
 Demand3 =
     (bytes : List ℕ) (clock-limit : ℕ) (m : Made) → MakeSays bytes clock-limit m → m .making ≡ makings.Made →
     (book : books.Book) → books.read bytes ≡ accepted book → (level : ℕ → ℕ) → Plain book → Levelled book level →
     (ts : List Told) → Sits (m .forest) ts →
-    AllTell (In book level) clock-limit false ts × (exceeded ts ≤ length book + clause-count book)
+    AllTell (In book level) clock-limit false ts × (exceeded ts ≤ length book + clause-count book + all-granted ts)
 
 -- NO ASSERT, for every byte string, clock limit and sitting: whatever stops has a number of document 01
 abbrev pub NoAssert : Told → Type 0

@@ -1,2 +1,3 @@
 pub mod Sittings
 pub mod Claim
+pub mod Before

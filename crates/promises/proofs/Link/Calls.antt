@@ -15,10 +15,10 @@ use Rattle.definitions.specs.Turn.{Ending, Searched, root-answer}
 use Rattle.definitions.specs.Forest.{is-marked, Opened, opened, open-goal, not-made, index-above, search, Peeked, peek-rounds, peek}
 use Rattle.definitions.specs.Forest.{any-future-answer}
 use Rattle.definitions.specs.Forest.{is-exceeded, SearchMade, peek-searches, most-passes}
-use Rattle.definitions.specs.Calls.{Call, opens, searches, peeks, asks-future, Reply, refusal, table, searched, peeked, future, call}
-use Rattle.definitions.specs.Calls.{searches-made}
+use Rattle.definitions.specs.Calls.{Sitting, sitting, with-forest, Call, opens, searches, peeks, asks-future}
+use Rattle.definitions.specs.Calls.{Reply, refusal, table, searched, peeked, future, call, searches-made}
 use Rattle.definitions.specs.Model as D
-use Rattle.definitions.specs.Claim.{OpenRefused, SearchRefused, ReadOff, EndingSays, ReplySays, reply-stopped, one-if, exceeded-among}
+use Rattle.definitions.specs.Claim.{ReadOff, about, SearchRefused, RefusedBy, EndingSays, ReplySays, reply-stopped, one-if, exceeded-among, granted}
 use Rattle.laws.proofs.Lists.{at-place}
 use Rattle.laws.proofs.Bools.{both-false, not-zero}
 use Rattle.promises.proofs.Plain.Model as P
@@ -35,16 +35,17 @@ use Rattle.promises.proofs.Link.Models.{in-to, in-from}
 use Rattle.promises.proofs.Link.Naming.{Failed, Comes, turned-down, let-through, comes, Between, open-made, opened-is, named}
 
 module _ (G : Premises) where
-  -- what a call leaves: the machine's forest, its measure lower by the searches that ended in QuantumExceeded; or a mark
-  pub data Left (p : M.Forest) (k : ℕ) (r : Reply) (f : Forest) : Type 0 where
-    goes-on : (p' : M.Forest) → reply-stopped r ≡ false → Between G f p' → potential (setting-of G) p' + k ≤ potential (setting-of G) p
-        → Left p k r f
-    is-over : reply-stopped r ≡ true → is-marked f ≡ true → k ≤ potential (setting-of G) p → Left p k r f
+  -- what a call leaves: the machine's forest, its measure lower by the searches that ended in QuantumExceeded, but for those that the
+  -- reply grants; or a mark
+  pub data Left (p : M.Forest) (k : ℕ) (r : Reply) (s : Sitting) : Type 0 where
+    goes-on : (p' : M.Forest) → reply-stopped r ≡ false → Between G (s .forest) p'
+        → potential (setting-of G) p' + k ≤ potential (setting-of G) p + granted r → Left p k r s
+    is-over : reply-stopped r ≡ true → is-marked (s .forest) ≡ true → k ≤ potential (setting-of G) p + granted r → Left p k r s
 
-  -- a call, with the searches that it made
-  pub record CallOK (p : M.Forest) (made : List SearchMade) (c : Call) (r : Reply) (f : Forest) : Type 0 where
-    pub says : ReplySays (D.In (G .book) (G .level)) (G .limit) made f c r
-    pub left : Left p (exceeded-among made) r f
+  -- a call on a sitting, with the searches that it made and the sitting that it left
+  pub record CallOK (p : M.Forest) (before : Sitting) (made : List SearchMade) (c : Call) (r : Reply) (after : Sitting) : Type 0 where
+    pub says : ReplySays (D.In (G .book) (G .level)) (G .limit) (RefusedBy c) made (about before c) (after .forest) r
+    pub left : Left p (exceeded-among made) r after
 
   -- what an ending says
   ending-says : {mark : ℕ} {e : Ending} {o : M.Outcome} {gs : List ℕ} {ts : Tables} {p : M.Forest} → EndIs (G .limit) (p .clock) mark e o
@@ -69,38 +70,41 @@ module _ (G : Premises) where
   search-left : {mark : ℕ} {e : Ending} {o : M.Outcome} {gs : List ℕ} {ts : Tables} {p' : M.Forest} (p : M.Forest) (turns : ℕ)
       → EndIs (G .limit) (p' .clock) mark e o → Agree (G .book) gs ts p' → Ready (setting-of G) p'
       → potential (setting-of G) p' + M.counts o ≤ potential (setting-of G) p
-      → Left p (one-if (is-exceeded e) + 0) (searched e turns) (forest-in G mark ts (p' .clock))
-  search-left {p' = p'} p turns found-is a ready fall = goes-on p' refl (between-at a ready) fall
-  search-left {p' = p'} p turns none-is a ready fall = goes-on p' refl (between-at a ready) fall
-  search-left {p' = p'} p turns again-is a ready fall = goes-on p' refl (between-at a ready) fall
-  search-left {p' = p'} p turns cut-is a ready fall = goes-on p' refl (between-at a ready) fall
+      → Left p (one-if (is-exceeded e) + 0) (searched e turns) (sitting (forest-in G mark ts (p' .clock)))
+  search-left {p' = p'} p turns found-is a ready fall = goes-on p' refl (between-at a ready) (omega (arith, fall))
+  search-left {p' = p'} p turns none-is a ready fall = goes-on p' refl (between-at a ready) (omega (arith, fall))
+  search-left {p' = p'} p turns again-is a ready fall = goes-on p' refl (between-at a ready) (omega (arith, fall))
+  search-left {p' = p'} p turns cut-is a ready fall = goes-on p' refl (between-at a ready) (omega (arith, fall))
   search-left p turns (stopped-is o) a ready fall = is-over refl refl (omega arith)
 
   peek-left : {mark : ℕ} {e : Ending} {o : M.Outcome} {gs : List ℕ} {ts : Tables} {p' : M.Forest} (p : M.Forest) (i turns k j : ℕ)
       → EndIs (G .limit) (p' .clock) mark e o → Agree (G .book) gs ts p' → Ready (setting-of G) p'
       → potential (setting-of G) p' + j ≤ potential (setting-of G) p
-      → Left p j (peeked e i turns k) (forest-in G mark ts (p' .clock))
-  peek-left {p' = p'} p i turns k j found-is a ready fall = goes-on p' refl (between-at a ready) fall
-  peek-left {p' = p'} p i turns k j none-is a ready fall = goes-on p' refl (between-at a ready) fall
-  peek-left {p' = p'} p i turns k j again-is a ready fall = goes-on p' refl (between-at a ready) fall
-  peek-left {p' = p'} p i turns k j cut-is a ready fall = goes-on p' refl (between-at a ready) fall
+      → Left p j (peeked e i turns k) (sitting (forest-in G mark ts (p' .clock)))
+  peek-left {p' = p'} p i turns k j found-is a ready fall = goes-on p' refl (between-at a ready) (omega (arith, fall))
+  peek-left {p' = p'} p i turns k j none-is a ready fall = goes-on p' refl (between-at a ready) (omega (arith, fall))
+  peek-left {p' = p'} p i turns k j again-is a ready fall = goes-on p' refl (between-at a ready) (omega (arith, fall))
+  peek-left {p' = p'} p i turns k j cut-is a ready fall = goes-on p' refl (between-at a ready) (omega (arith, fall))
   peek-left p i turns k j (stopped-is o) a ready fall = is-over refl refl (omega arith)
 
   module _ {gs : List ℕ} {ts : Tables} {p : M.Forest} (a : Agree (G .book) gs ts p) (ready : Ready (setting-of G) p) where
     abbrev F : Forest
     F = forest-in G 0 ts (p .clock)
 
-    stays : (r : Reply) → reply-stopped r ≡ false → Left p 0 r (forest-in G 0 ts (p .clock))
+    abbrev S : Sitting
+    S = sitting F
+
+    stays : (r : Reply) → reply-stopped r ≡ false → Left p 0 r S
     stays r e = goes-on p e (between-at a ready) (omega arith)
 
     searched-ok : (t g i n : ℕ) → getElem? gs t ≡ some g → i ≤ length (answers-of (p .answered g))
-        → CallOK p (record { index = i; result = root-answer (suc n) t i F } ∷ []) (searches t i (suc n))
-        (searched (root-answer (suc n) t i F .ending) (root-answer (suc n) t i F .turns)) (root-answer (suc n) t i F .forest)
+        → CallOK p S (record { index = i; result = root-answer (suc n) t i F } ∷ []) (searches t i (suc n))
+        (searched (root-answer (suc n) t i F .ending) (root-answer (suc n) t i F .turns)) (sitting (root-answer (suc n) t i F .forest))
     searched-ok t g i n at o =
         let s = root-is G a ready t g n i at o in
         let k = search-ok (setting-of G) p g i (suc n) ready in
-        subst (λ (z : Forest). CallOK p (record { index = i; result = root-answer (suc n) t i F } ∷ []) (searches t i (suc n))
-        (searched (root-answer (suc n) t i F .ending) (root-answer (suc n) t i F .turns)) z) (sym (s .forest))
+        subst (λ (z : Forest). CallOK p S (record { index = i; result = root-answer (suc n) t i F } ∷ []) (searches t i (suc n))
+        (searched (root-answer (suc n) t i F .ending) (root-answer (suc n) t i F .turns)) (sitting z)) (sym (s .forest))
         (record {
           says = ending-says (s .ends) (s .agree) (k .rest) t g i (s .more t g at) (k .says);
           left = search-left p (root-answer (suc n) t i F .turns) (s .ends) (s .agree) (k .rest) (k .falls);
@@ -108,8 +112,8 @@ module _ (G : Premises) where
 
     peeked-ok : (t g i r n passes : ℕ) → r < passes → getElem? gs t ≡ some g → i ≤ length (answers-of (p .answered g)) → (R : Peeked)
         → peek-rounds r (suc n) 0 t i F ≡ R
-        → CallOK p (peek-searches passes r (suc n) t i F) (peeks t i (suc r) (suc n))
-        (peeked (R .ending) (R .index) (R .turns) (R .exceeded)) (R .forest)
+        → CallOK p S (peek-searches passes r (suc n) t i F) (peeks t i (suc r) (suc n))
+        (peeked (R .ending) (R .index) (R .turns) (R .exceeded)) (sitting (R .forest))
     peeked-ok t g i r n passes enough at o R e =
         let made = peek-searches passes r (suc n) t i F in
         let p' = M.rounds (limits-in G) (suc r) g i (suc n) p .2 in
@@ -127,14 +131,14 @@ module _ (G : Premises) where
           made-are = s .made-are;
           count-is = let y = s .exceeded in let z = s .among in omega arith;
         } in
-        let x : CallOK p made (peeks t i (suc r) (suc n)) (peeked (R .ending) i (R .turns) (R .exceeded)) left-forest =
+        let x : CallOK p S made (peeks t i (suc r) (suc n)) (peeked (R .ending) i (R .turns) (R .exceeded)) (sitting left-forest) =
         record {
           says = (says, subst (λ (z : Forest). ReadOff made z (R .ending) i (R .turns) (R .exceeded)) (s .forest) reads);
           left = peek-left p i (R .turns) (R .exceeded) (exceeded-among made) (s .ends) (s .agree) (k .rest) lower;
         } in
-        subst (λ (z : Forest). CallOK p made (peeks t i (suc r) (suc n)) (peeked (R .ending) (R .index) (R .turns) (R .exceeded)) z)
+        subst (λ (z : Forest). CallOK p S made (peeks t i (suc r) (suc n)) (peeked (R .ending) (R .index) (R .turns) (R .exceeded)) (sitting z))
         (sym (s .forest))
-        (subst (λ (z : ℕ). CallOK p made (peeks t i (suc r) (suc n)) (peeked (R .ending) z (R .turns) (R .exceeded)) left-forest)
+        (subst (λ (z : ℕ). CallOK p S made (peeks t i (suc r) (suc n)) (peeked (R .ending) z (R .turns) (R .exceeded)) (sitting left-forest))
         (sym (s .index)) x)
 
     -- the table is made
@@ -152,39 +156,39 @@ module _ (G : Premises) where
     searching : (t i n : ℕ) (o : Refusable Searched)
         → Comes (is-marked F refuses 20 ∷ not-made F t refuses 10 ∷ index-above F t i refuses 11 ∷ eqb n 0 refuses 12 ∷ [])
         (root-answer n t i F) o
-        → (r : Reply × Forest) → r ≡ elim o [ refused n ↦ (refusal n, F) | accepted r ↦ (searched (r .ending) (r .turns), r .forest) ]
+        → (r : Reply × Sitting) → r ≡ elim o [ refused n ↦ (refusal n, S) | accepted r ↦ (searched (r .ending) (r .turns), with-forest S (r .forest)) ]
         → (made : List SearchMade) → made ≡ elim o [ refused n ↦ [] | accepted r ↦ record { index = i; result = r } ∷ [] ]
-        → CallOK p made (searches t i n) (r .0) (r .1)
+        → CallOK p S made (searches t i n) (r .0) (r .1)
     searching t i n (refused k) (turned-down x) r e made q =
-        subst (λ (z : Reply × Forest). CallOK p made (searches t i n) (z .0) (z .1)) (sym e)
-        (subst (λ ss. CallOK p ss (searches t i n) (refusal k) F) (sym q)
+        subst (λ (z : Reply × Sitting). CallOK p S made (searches t i n) (z .0) (z .1)) (sym e)
+        (subst (λ ss. CallOK p S ss (searches t i n) (refusal k) S) (sym q)
         (record { says = search-refused (not-made F t) (index-above F t i) (eqb n 0) k x; left = stays (refusal k) refl }))
     searching t i zero (accepted R) (let-through x) r e made q = let y : true ≡ false = x .1 .1 .1 .0 in let z : _≡_ {A = ℕ} 0 1 =
         cc in absurd (omega arith)
     searching t i (suc n) (accepted R) (let-through x) r e made q =
         let g = place-named t (x .1 .0) in
-        subst (λ (z : Reply × Forest). CallOK p made (searches t i (suc n)) (z .0) (z .1)) (sym e)
-        (subst (λ ss. CallOK p ss (searches t i (suc n)) (searched (R .ending) (R .turns)) (R .forest)) (sym q)
+        subst (λ (z : Reply × Sitting). CallOK p S made (searches t i (suc n)) (z .0) (z .1)) (sym e)
+        (subst (λ ss. CallOK p S ss (searches t i (suc n)) (searched (R .ending) (R .turns)) (sitting (R .forest))) (sym q)
         (searched-ok t (g .0) i n (g .1) (index-within (G .limit) 0 (p .clock) a t (g .0) i (g .1) (x .1 .1 .0))))
 
-    call-search : (t i n : ℕ) → CallOK p (searches-made F (searches t i n)) (searches t i n) (call F (searches t i n) .0)
-        (call F (searches t i n) .1)
+    call-search : (t i n : ℕ) → CallOK p S (searches-made S (searches t i n)) (searches t i n) (call S (searches t i n) .0)
+        (call S (searches t i n) .1)
     call-search t i n = searching t i n (search F t i n)
         (comes (is-marked F refuses 20 ∷ not-made F t refuses 10 ∷ index-above F t i refuses 11 ∷ eqb n 0 refuses 12 ∷ [])
-        (root-answer n t i F)) (call F (searches t i n)) refl (searches-made F (searches t i n)) refl
+        (root-answer n t i F)) (call S (searches t i n)) refl (searches-made S (searches t i n)) refl
 
     -- with the limits of rounds and turns as numbers that are not 0
     peeked-at : (t g i r n passes : ℕ) → r - 1 < passes → getElem? gs t ≡ some g → i ≤ length (answers-of (p .answered g)) → 0 < r → 0 < n
         → (R : Peeked) → peek-rounds (r - 1) n 0 t i F ≡ R
-        → CallOK p (peek-searches passes (r - 1) n t i F) (peeks t i r n) (peeked (R .ending) (R .index) (R .turns) (R .exceeded))
-        (R .forest)
+        → CallOK p S (peek-searches passes (r - 1) n t i F) (peeks t i r n) (peeked (R .ending) (R .index) (R .turns) (R .exceeded))
+        (sitting (R .forest))
     peeked-at t g i r n passes enough at o some-r some-n R e =
         let r-is : suc (r - 1) ≡ r = omega arith in
         let n-is : suc (n - 1) ≡ n = omega arith in
-        subst (λ (z : ℕ). CallOK p (peek-searches passes (r - 1) n t i F) (peeks t i z n)
-        (peeked (R .ending) (R .index) (R .turns) (R .exceeded)) (R .forest)) r-is
-        (subst (λ (z : ℕ). CallOK p (peek-searches passes (r - 1) z t i F) (peeks t i (suc (r - 1)) z)
-        (peeked (R .ending) (R .index) (R .turns) (R .exceeded)) (R .forest)) n-is
+        subst (λ (z : ℕ). CallOK p S (peek-searches passes (r - 1) n t i F) (peeks t i z n)
+        (peeked (R .ending) (R .index) (R .turns) (R .exceeded)) (sitting (R .forest))) r-is
+        (subst (λ (z : ℕ). CallOK p S (peek-searches passes (r - 1) z t i F) (peeks t i (suc (r - 1)) z)
+        (peeked (R .ending) (R .index) (R .turns) (R .exceeded)) (sitting (R .forest))) n-is
         (peeked-ok t g i (r - 1) (n - 1) passes enough at o R (ap (λ z. peek-rounds (r - 1) z 0 t i F) n-is ∙ e)))
 
     neither : (r n : ℕ) → (eqb r 0 || eqb n 0) ≡ false → (0 < r) × (0 < n)
@@ -192,67 +196,67 @@ module _ (G : Premises) where
 
     peeking : (t i r n : ℕ) (R : Peeked) → peek-rounds (r - 1) n 0 t i F ≡ R → (o : Refusable Peeked)
         → Comes (is-marked F refuses 20 ∷ not-made F t refuses 10 ∷ index-above F t i refuses 11 ∷ (eqb r 0 || eqb n 0) refuses 12 ∷ []) R o
-        → (s : Reply × Forest) → s ≡ elim o [
-          | refused n ↦ (refusal n, F)
-          | accepted r ↦ (peeked (r .ending) (r .index) (r .turns) (r .exceeded), r .forest)
+        → (s : Reply × Sitting) → s ≡ elim o [
+          | refused n ↦ (refusal n, S)
+          | accepted r ↦ (peeked (r .ending) (r .index) (r .turns) (r .exceeded), with-forest S (r .forest))
         ]
         → (made : List SearchMade) → made ≡ elim o [ refused k ↦ [] | accepted q ↦ peek-searches (most-passes r) (r - 1) n t i F ]
-        → CallOK p made (peeks t i r n) (s .0) (s .1)
+        → CallOK p S made (peeks t i r n) (s .0) (s .1)
     peeking t i r n R q (refused k) (turned-down x) s e made m =
-        subst (λ (z : Reply × Forest). CallOK p made (peeks t i r n) (z .0) (z .1)) (sym e)
-        (subst (λ ss. CallOK p ss (peeks t i r n) (refusal k) F) (sym m)
+        subst (λ (z : Reply × Sitting). CallOK p S made (peeks t i r n) (z .0) (z .1)) (sym e)
+        (subst (λ ss. CallOK p S ss (peeks t i r n) (refusal k) S) (sym m)
         (record { says = search-refused (not-made F t) (index-above F t i) (eqb r 0 || eqb n 0) k x; left = stays (refusal k) refl }))
     peeking t i r n R q (accepted R') (let-through x) s e made m =
         let g = place-named t (x .1 .0) in
         let some-of = neither r n (x .1 .1 .1 .0) in
         let some-r = some-of .0 in
-        subst (λ (z : Reply × Forest). CallOK p made (peeks t i r n) (z .0) (z .1)) (sym e)
-        (subst (λ ss. CallOK p ss (peeks t i r n) (peeked (R .ending) (R .index) (R .turns) (R .exceeded)) (R .forest)) (sym m)
+        subst (λ (z : Reply × Sitting). CallOK p S made (peeks t i r n) (z .0) (z .1)) (sym e)
+        (subst (λ ss. CallOK p S ss (peeks t i r n) (peeked (R .ending) (R .index) (R .turns) (R .exceeded)) (sitting (R .forest))) (sym m)
         (peeked-at t (g .0) i r n (most-passes r) (omega arith) (g .1)
         (index-within (G .limit) 0 (p .clock) a t (g .0) i (g .1) (x .1 .1 .0)) (some-of .0) (some-of .1) R q))
 
-    call-peek : (t i r n : ℕ) → CallOK p (searches-made F (peeks t i r n)) (peeks t i r n) (call F (peeks t i r n) .0)
-        (call F (peeks t i r n) .1)
+    call-peek : (t i r n : ℕ) → CallOK p S (searches-made S (peeks t i r n)) (peeks t i r n) (call S (peeks t i r n) .0)
+        (call S (peeks t i r n) .1)
     call-peek t i r n = peeking t i r n (peek-rounds (r - 1) n 0 t i F) refl (peek F t i r n)
         (comes (is-marked F refuses 20 ∷ not-made F t refuses 10 ∷ index-above F t i refuses 11 ∷ (eqb r 0 || eqb n 0) refuses 12 ∷ [])
-        (peek-rounds (r - 1) n 0 t i F)) (call F (peeks t i r n)) refl (searches-made F (peeks t i r n)) refl
+        (peek-rounds (r - 1) n 0 t i F)) (call S (peeks t i r n)) refl (searches-made S (peeks t i r n)) refl
 
     made-ready : (h : ℕ) → Ready (setting-of G) (M.make p h)
     made-ready h = record { fine = ready .fine; bound = ready .bound; live = ready .live }
 
-    open-refused : (b : Bool) (n : ℕ) → Failed n (false refuses 20 ∷ b refuses 9 ∷ []) → OpenRefused n
+    open-refused : (b : Bool) (n : ℕ) → Failed n (false refuses 20 ∷ b refuses 9 ∷ []) → n ≡ 9
     open-refused b n (inl (e, k)) = absurd (let z : _≡_ {A = ℕ} 0 1 = cc in omega arith)
     open-refused b n (inr (inl (e, k))) = sym k
     open-refused b n (inr (inr x)) = absurd x
 
     opening : (g : ℕ) (o : Refusable Opened) → Comes (is-marked F refuses 20 ∷ leb (length (G .book)) g refuses 9 ∷ []) (opened 0 F g) o
-        → (s : Reply × Forest) → s ≡ elim o [ refused n ↦ (refusal n, F) | accepted r ↦ (table (r .table), r .forest) ]
-        → CallOK p [] (opens g) (s .0) (s .1)
-    opening g (refused k) (turned-down x) s e = subst (λ (z : Reply × Forest). CallOK p [] (opens g) (z .0) (z .1)) (sym e) (record {
+        → (s : Reply × Sitting) → s ≡ elim o [ refused n ↦ (refusal n, S) | accepted r ↦ (table (r .table), with-forest S (r .forest)) ]
+        → CallOK p S [] (opens g) (s .0) (s .1)
+    opening g (refused k) (turned-down x) s e = subst (λ (z : Reply × Sitting). CallOK p S [] (opens g) (z .0) (z .1)) (sym e) (record {
       says = open-refused (leb (length (G .book)) g) k x;
       left = stays (refusal k) refl;
     })
     opening g (accepted R) (let-through x) s e =
         let lt = leb-false (length (G .book)) g (x .1 .0) in
         let m = open-made G a ready g lt in
-        subst (λ (z : Reply × Forest). CallOK p [] (opens g) (z .0) (z .1)) (sym e)
-        (subst (λ (z : Opened). CallOK p [] (opens g) (table (z .table)) (z .forest)) (sym (opened-is G a ready g lt))
+        subst (λ (z : Reply × Sitting). CallOK p S [] (opens g) (z .0) (z .1)) (sym e)
+        (subst (λ (z : Opened). CallOK p S [] (opens g) (table (z .table)) (sitting (z .forest))) (sym (opened-is G a ready g lt))
         (record { says = tt; left = goes-on (M.make p g) refl (between-at (m .agree) (made-ready g)) (omega arith) }))
 
-    call-open : (g : ℕ) → CallOK p [] (opens g) (call F (opens g) .0) (call F (opens g) .1)
+    call-open : (g : ℕ) → CallOK p S [] (opens g) (call S (opens g) .0) (call S (opens g) .1)
     call-open g = opening g (open-goal F g) (comes (is-marked F refuses 20 ∷ leb (length (G .book)) g refuses 9 ∷ []) (opened 0 F g))
-        (call F (opens g)) refl
+        (call S (opens g)) refl
 
-    asking : (t i v : ℕ) (o : Refusable Bool) (s : Reply × Forest) → s ≡ elim o [ refused n ↦ (refusal n, F) | accepted b ↦ (future b, F) ]
-        → CallOK p [] (asks-future t i v) (s .0) (s .1)
-    asking t i v (refused n) s e = subst (λ (z : Reply × Forest). CallOK p [] (asks-future t i v) (z .0) (z .1)) (sym e)
+    asking : (t i v : ℕ) (o : Refusable Bool) (s : Reply × Sitting) → s ≡ elim o [ refused n ↦ (refusal n, S) | accepted b ↦ (future b, S) ]
+        → CallOK p S [] (asks-future t i v) (s .0) (s .1)
+    asking t i v (refused n) s e = subst (λ (z : Reply × Sitting). CallOK p S [] (asks-future t i v) (z .0) (z .1)) (sym e)
         (record { says = tt; left = stays (refusal n) refl })
-    asking t i v (accepted b) s e = subst (λ (z : Reply × Forest). CallOK p [] (asks-future t i v) (z .0) (z .1)) (sym e)
+    asking t i v (accepted b) s e = subst (λ (z : Reply × Sitting). CallOK p S [] (asks-future t i v) (z .0) (z .1)) (sym e)
         (record { says = tt; left = stays (future b) refl })
 
     -- every call
-    pub call-ok : (c : Call) → CallOK p (searches-made F c) c (call F c .0) (call F c .1)
+    pub call-ok : (c : Call) → CallOK p S (searches-made S c) c (call S c .0) (call S c .1)
     call-ok (opens g) = call-open g
     call-ok (searches t i n) = call-search t i n
     call-ok (peeks t i r n) = call-peek t i r n
-    call-ok (asks-future t i v) = asking t i v (any-future-answer F t i v) (call F (asks-future t i v)) refl
+    call-ok (asks-future t i v) = asking t i v (any-future-answer F t i v) (call S (asks-future t i v)) refl
