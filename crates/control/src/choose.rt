@@ -63,7 +63,7 @@ fn on_stack(t: u8, entry_table: &[u8; 64], coinductive: &[u8; 64], depth: usize)
 }
 
 // The answer at an index of the table, or else where the table is.
-fn look_at(
+pub fn look_at(
     t: u8,
     index: u16,
     entry_table: &[u8; 64],

@@ -24,7 +24,7 @@ pub enum Idle {
     PartOfCycle,
 }
 
-fn waits_on_not(w: u8) -> bool
+pub fn waits_on_not(w: u8) -> bool
     ensures { λ r. ⌜ r ≡ waits-on-not w ⌝ }
 {
     if w < WAITS_NOT {

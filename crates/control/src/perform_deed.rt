@@ -76,7 +76,7 @@ pub struct Pushed {
 
 // The last lines of `on_subgoal_selected`: the strand waits in its entry, and the table that it waits on is pushed, at the clock's next
 // time.
-fn push_table(
+pub fn push_table(
     entry_table: &mut [u8; 64],
     entry_clock: &mut [u64; 64],
     positive: &mut [u64; 64],

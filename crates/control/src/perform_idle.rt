@@ -120,7 +120,7 @@ fn caller_table(entry_table: &[u8; 64], depth: usize) -> u8
 }
 
 // The cycle goes on below the top: the caller meets it with the top's minimums, and its strand goes back to its table's queue.
-fn rejoin_cycle(
+pub fn rejoin_cycle(
     next: &mut [u8; 256],
     tail: &mut [u8; 256],
     len: &mut [u16; 256],
