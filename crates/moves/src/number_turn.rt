@@ -30,7 +30,7 @@ ghost use Rattle.control.specs.MakeTables.{tables-of};
 ghost use Rattle.control.specs.PerformDeed.{stack-of, answers-of, left-rings, left-active};
 ghost use Rattle.control.specs.PerformStrand.{lent-of};
 ghost use Rattle.control.specs.UnwindStack.{Rings};
-ghost use Rattle.moves.specs.NumberTurn.{push-unless, move-by-look, strand-move, idle-move, move-for, moves};
+ghost use Rattle.moves.specs.NumberTurn.{push-unless, move-by-look, strand-move, idle-move, move-for};
 ghost use Rattle.moves.specs.NumberTurn.{moved, numbered-by, number-turn};
 
 // What the numbers settle: nothing, a push of a table, a cycle with the entry at a height, or that the top is part of a cycle.
@@ -151,17 +151,6 @@ fn move_for(
     }
     let idle = on_no_strands_left(top, len, waits, positive, negative, active);
     idle_move(idle)
-}
-
-fn moves(m: Move) -> bool
-    ensures { λ r. ⌜ r ≡ moves m ⌝ }
-{
-    match m {
-        Move::Nothing => false,
-        Move::Pushes(_) => true,
-        Move::Cycles(_) => true,
-        Move::Rejoins => true,
-    }
 }
 
 // Whether the turn is done, and the stack's depth and the clock then.
