@@ -1,5 +1,5 @@
 -- The ways out of the functions of each file over variables (Cases), what makes the loop of searches end (Falls), the loop's passes over
--- variables (Looping); what is read of the answers that are stored, what is done before a search's first turn (Starting): what it means,
+-- variables (Looping), and its turns by numbers (Settling); what is read of the answers that are stored, what is done before a search's first turn (Starting): what it means,
 -- what it leaves, and how a peek goes by it; one pass of the loop (Passing): that it is one step of a search, and what it leaves; and what
 -- a search and a peek come to, from stores between two searches on (Answering); and a search by value, by turns and put back
 -- (SolveStates).
@@ -8,6 +8,7 @@ pub mod RootAnswerFalls
 pub mod EnsureRootAnswerCases
 pub mod Bytes
 pub mod Looping
+pub mod Settling
 pub mod StoredAnswers
 pub mod Starting
 pub mod StartingSound
@@ -15,6 +16,7 @@ pub mod StartingPeeks
 pub mod StartingValid
 pub mod Passing
 pub mod PassingSound
+pub mod PassingByNumbers
 pub mod PassingSearch
 pub mod PassingPeeks
 pub mod Answering

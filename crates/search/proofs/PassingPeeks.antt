@@ -31,9 +31,11 @@ use Rattle.search.specs.Course.{is-turn, is-peek}
 use Rattle.search.specs.Means.{Rests, stores-of, searched-of, standing-of, peeked-of, peeked-by, PeekedBy}
 use Rattle.search.specs.RootAnswer.{stored-by, one-more, ending-of, is-invalid, is-exceeded, last-index, skip-by, round-by}
 use Rattle.search.specs.RootAnswer.{next-search}
-use Rattle.search.specs.Walk.{Walk, walk, put-back-in, course-ended, pass, Comes, is-over, goes-further}
+use Rattle.search.specs.Walk.{Walk, walk, put-back-in, course-ended, pass, settled-walk}
+use Rattle.search.specs.Walk.{Comes, is-over, goes-further, goes-by-numbers}
 use Rattle.search.proofs.Passing.{counts, before, left, after, concluded, further, finished, finished-walk, noted}
 use Rattle.search.proofs.Passing.{stepped, step-ends, step-goes-on}
+use Rattle.search.proofs.PassingByNumbers.{settled-is-pass}
 use Rattle.search.proofs.PassingSearch.{Underway}
 use Rattle.search.proofs.PassingSound.{goes, pass-further, pass-ended, further-sound, further-left, answered-ended, backed-ended}
 use Rattle.search.proofs.PassingSound.{backed-rests, finished-rests}
@@ -337,6 +339,18 @@ module _ (b : Book) (asked : Asked) (few : asked .limit ≤ MAX) (no-turn : is-t
   peek-comes first false {v = v} {u = u} e s (goes-further x h) =
       let on = pass-peeks first v e s in
       let rest = peek-comes (on .next-first) (pass b asked v .course .over) refl (on .settled) h in
+      record {
+        came = subst (λ (over : Bool). peeked-by b asked over first v (peeked-of b asked u)) e
+            (on .leads (peeked-of b asked u) (rest .came));
+        is-over = rest .is-over;
+        rests = rest .rests;
+      }
+  peek-comes first true e s (goes-by-numbers x m n h) = absurd (false≢true (sym x ∙ e))
+  peek-comes first false {v = v} {u = u} e s (goes-by-numbers x m n h) =
+      let stands = s .stands in
+      let same = settled-is-pass b asked first v (stands .sound) (stands .numbers) m n in
+      let on = subst (Peeks-on b asked first v) (sym same) (pass-peeks first v e s) in
+      let rest = peek-comes (on .next-first) (settled-walk b asked v .course .over) refl (on .settled) h in
       record {
         came = subst (λ (over : Bool). peeked-by b asked over first v (peeked-of b asked u)) e
             (on .leads (peeked-of b asked u) (rest .came));

@@ -18,9 +18,11 @@ use Rattle.search.specs.declared.course.Asked.{Asked}
 use Rattle.search.specs.declared.course.Course.{Course}
 use Rattle.search.specs.Course.{is-turn, is-peek}
 use Rattle.search.specs.Means.{Rests, stores-of, searched-of, standing-of, progress-by, progress-of}
-use Rattle.search.specs.Walk.{Walk, walk, put-back-in, course-ended, pass, Comes, is-over, goes-further}
+use Rattle.search.specs.Walk.{Walk, walk, put-back-in, course-ended, pass, settled-walk}
+use Rattle.search.specs.Walk.{Comes, is-over, goes-further, goes-by-numbers}
 use Rattle.search.proofs.RootAnswerCases.{next-none, end-over}
 use Rattle.search.proofs.Passing.{before, left, after, concluded, further, finished, finished-walk, stepped, step-ends, step-goes-on}
+use Rattle.search.proofs.PassingByNumbers.{settled-is-pass}
 use Rattle.search.proofs.PassingSound.{goes, pass-further, pass-ended, further-sound, further-left, finished-rests}
 use Rattle.search.proofs.StoredAnswers.{stored-in}
 
@@ -126,6 +128,17 @@ module _ (b : Book) (asked : Asked) (few : asked .limit ≤ MAX) (no-turn : is-t
       let rest = search-comes first (pass b asked v .course .over) refl (pass-keeps first v e s) h in
       record {
         ends = after-step (subst (λ (p : Progress). Ends p (searched-of b asked u)) (pass-steps first v e s) (rest .ends));
+        is-over = rest .is-over;
+        rests = rest .rests;
+      }
+  search-comes first true e s (goes-by-numbers x m n h) = absurd (false≢true (sym x ∙ e))
+  search-comes first false {v = v} {u = u} e s (goes-by-numbers x m n h) =
+      let same = settled-is-pass b asked first v (s .sound) (s .numbers) m n in
+      let keeps = subst (λ (y : Walk). Settled (y .course .over) b asked first y) (sym same) (pass-keeps first v e s) in
+      let rest = search-comes first (settled-walk b asked v .course .over) refl keeps h in
+      record {
+        ends = after-step (subst (λ (p : Progress). Ends p (searched-of b asked u))
+            (ap (progress-of b asked first) same ∙ pass-steps first v e s) (rest .ends));
         is-over = rest .is-over;
         rests = rest .rests;
       }

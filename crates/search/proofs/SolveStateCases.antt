@@ -19,10 +19,11 @@ use Rattle.search.specs.declared.course.Ending.the-variants as endings
 use Rattle.search.specs.declared.course.Mode.the-variants as modes
 use Rattle.search.specs.declared.solve_state.Search.{Search}
 use Rattle.search.specs.declared.solve_state.Turned.{Turned}
+use Rattle.search.specs.Course.{is-turn}
 use Rattle.search.specs.Means.{stores-of}
 use Rattle.search.specs.RootAnswer.{one-more}
 use Rattle.search.specs.SolveState.{book-in, stores-in, with-stores, is-stop, left-by, turn-so, turn-of, cut-of}
-use Rattle.search.specs.Walk.{Walk, walk, pass, Comes, is-over, goes-further}
+use Rattle.search.specs.Walk.{Walk, walk, may-settle-by, may-settle, pass, Comes, is-over, goes-further, goes-by-numbers}
 
 -- A SEARCH PUT BACK, by the rings that are left
 abbrev pub with-rings : Places → Search → Search
@@ -34,15 +35,22 @@ pub cut-is : (s : Search) (p : Places) → p ≡ all-back (s .«entry_table») (
     → with-rings p s ≡ cut-of s
 cut-is s p e = ap (λ (p : Places). with-rings p s) e
 
--- ONE PASS: what is over comes to itself, and where a pass ends it, to what that pass leaves
+-- ONE PASS: what is over comes to itself, and where one turn was asked for and its pass ends it, to what that pass leaves
 module _ (b : Book) (asked : Asked) where
   comes-itself : {v u : Walk} → Comes b asked v u → v .course .over ≡ true → v ≡ u
   comes-itself (is-over e) h = refl
   comes-itself (goes-further e k) h = absurd (false≢true (sym e ∙ h))
+  comes-itself (goes-by-numbers e m n k) h = absurd (false≢true (sym e ∙ h))
 
-  pub comes-once : {v u : Walk} → Comes b asked v u → v .course .over ≡ false → pass b asked v .course .over ≡ true → pass b asked v ≡ u
-  comes-once (is-over e) h over = absurd (false≢true (sym h ∙ e))
-  comes-once (goes-further e k) h over = comes-itself k over
+  -- one turn is not settled by numbers
+  none-settled : is-turn (asked .mode) ≡ true → (done : ℕ) → may-settle asked done ≡ false
+  none-settled turns done = ap (λ (b : Bool). may-settle-by b (one-more done) (asked .limit)) turns
+
+  pub comes-once : {v u : Walk} → Comes b asked v u → is-turn (asked .mode) ≡ true → v .course .over ≡ false
+      → pass b asked v .course .over ≡ true → pass b asked v ≡ u
+  comes-once (is-over e) turns h over = absurd (false≢true (sym h ∙ e))
+  comes-once (goes-further e k) turns h over = comes-itself k over
+  comes-once {v = v} (goes-by-numbers e m n k) turns h over = absurd (false≢true (sym (none-settled turns (v .course .done)) ∙ m))
 
 -- A TURN
 module _ (s : Search) where
@@ -74,7 +82,7 @@ module _ (s : Search) where
   search-at v n = with-stores (stores-of (book-in s) asked-in v) n s
 
   pub turns-once : {u : Walk} → Comes (book-in s) asked-in walk-in u → pass (book-in s) asked-in walk-in ≡ u
-  turns-once k = comes-once (book-in s) asked-in k refl refl
+  turns-once k = comes-once (book-in s) asked-in k refl refl refl
 
   flow-is : {u : Walk} → Comes (book-in s) asked-in walk-in u → turn-done (stores-in s) .flow ≡ u .course .flow
   flow-is k = ap (λ (v : Walk). v .course .flow) (turns-once k)

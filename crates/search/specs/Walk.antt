@@ -24,6 +24,7 @@ use Rattle.control.specs.PerformDeed.{stack-of, answers-of, bare}
 use Rattle.control.specs.Performing.{put}
 use Rattle.control.specs.PerformStrand.{Lent, lent-of, TurnDone}
 use Rattle.control.specs.UnwindStack.{all-back}
+use Rattle.moves.specs.NumberTurn.{NumberTurn, number-turn}
 use Rattle.search.specs.declared.course.Asked.{Asked}
 use Rattle.search.specs.declared.course.Course.{Course}
 use Rattle.search.specs.declared.ensure_root_answer.Looked.{Looked}
@@ -110,6 +111,27 @@ conclude-by false false asked c w =
 abbrev pub conclude : Asked → Course → Lent → Walk
 conclude asked c w = conclude-by (goes-on asked c) (is-turn (asked .mode)) asked c w
 
+-- BY NUMBERS: a turn may be settled so where a search runs and this is not the last turn that is left to it
+
+abbrev pub may-settle-by : (turns : Bool) → (done limit : ℕ) → Bool
+may-settle-by true done limit = false
+may-settle-by false done limit = ltb done limit
+
+abbrev pub may-settle : Asked → (done : ℕ) → Bool
+may-settle asked done = may-settle-by (is-turn (asked .mode)) (one-more done) (asked .limit)
+
+abbrev pub settled-flow : (settled : Bool) → Flow → Flow
+settled-flow true f = flow.Continue
+settled-flow false f = f
+
+abbrev pub settled-done : (settled : Bool) → (done : ℕ) → ℕ
+settled-done true done = one-more done
+settled-done false done = done
+
+abbrev pub settles-on : (settled : Bool) → Asked → (done : ℕ) → Bool
+settles-on true asked done = may-settle asked done
+settles-on false asked done = false
+
 -- a book by its arrays
 abbrev pub book-of : (goals clauses : ℕ)
     → (goal-flags goal-first goal-len clause-variant clause-flags clause-len literal-kind literal-goal literal-want : List ℕ) → Book
@@ -164,7 +186,18 @@ module _ (b : Book) (asked : Asked) where
       let k = picked-in l w in
       pass-with (v .course) l k (getD (w .answers .answers) (k .chosen .place) unread-answer) w
 
-  -- WHAT IT COMES TO: pass after pass, until the course is over
+  -- A TURN THAT NUMBERS SETTLE: of a search that goes on after it
+  abbrev pub settles : Walk → NumberTurn
+  settles v = number-turn (leb (asked .«clock_limit») (v .course .clock)) (v .lent)
+
+  abbrev pub settled-walk : Walk → Walk
+  settled-walk v =
+      let w = settles v .lent in
+      walk (one-done (carry flow.Continue (numbers-of w) (v .course))) w
+
+  -- WHAT IT COMES TO: pass after pass, or turn after turn by numbers alone, until the course is over
   pub data Comes : Walk → Walk → Type 0 where
     is-over : {v : Walk} → v .course .over ≡ true → Comes v v
     goes-further : {v u : Walk} → v .course .over ≡ false → Comes (pass v) u → Comes v u
+    goes-by-numbers : {v u : Walk} → v .course .over ≡ false → may-settle asked (v .course .done) ≡ true → settles v .settled ≡ true
+        → Comes (settled-walk v) u → Comes v u

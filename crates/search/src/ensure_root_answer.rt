@@ -7,6 +7,7 @@ use crate::course::carry;
 use crate::course::is_turn;
 use crate::root_answer::end_search;
 use crate::root_answer::one_more;
+use crate::settle::settle;
 use control::choose::Chosen;
 use control::choose::choose;
 use control::choose::decide;
@@ -480,6 +481,28 @@ pub fn ensure_root_answer<'a>(
     let mut answers = first_answers;
     let mut course = from;
     while !course.over {
+        course = settle(
+            asked,
+            course,
+            coinductive,
+            floundered,
+            complete,
+            next,
+            tail,
+            len,
+            time,
+            ambiguous,
+            waits,
+            wants,
+            answer_next,
+            answer_tail,
+            answer_len,
+            entry_table,
+            entry_clock,
+            positive,
+            negative,
+            active,
+        );
         let l = look(
             course.depth,
             entry_table,

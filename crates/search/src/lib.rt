@@ -2,4 +2,5 @@
 pub mod course;
 pub mod ensure_root_answer;
 pub mod root_answer;
+pub mod settle;
 pub mod solve_state;

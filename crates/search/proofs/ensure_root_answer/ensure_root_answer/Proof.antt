@@ -2,7 +2,8 @@
 use Prim.Native.Nat.{ℕ}
 use mathlib.Core.List.{List}
 use mathlib.Core.Bool.{true, false}
-use mathlib.Core.Path.{_≡_, refl}
+use mathlib.Core.Path.{_≡_, refl, _∙_}
+use native.Mathlib.Nat.{lt-of-lt-of-le}
 use native.Mathlib.Omega.{arith}
 use Rattle.search.specs.Falls.{left-of}
 use Rattle.search.specs.Walk.{Walk, walk, book-of, Comes, is-over}
@@ -35,6 +36,9 @@ abbrev μ-loop : tie.MeasureT-loop
 
 loop-holds : tie.Need-loop-holds Inv-loop μ-loop
 loop-holds c = λ goals clauses x h. h
+
+settle-requires : tie.Need-settle-requires Inv-loop μ-loop
+settle-requires c κs = tt
 
 look-requires : tie.Need-look-requires Inv-loop μ-loop
 look-requires c κs = tt
@@ -95,39 +99,51 @@ loop-less c =
     let passing = c .before .before .before .before .before .before .before in
     let picking = passing .before .before .before .before .before .before .before .before .before .before .before .before .before .before .before .before .before .before .before .before .before .before .before .before .before .before .before in
     let looking = picking .before .before .before .before .before .before .before .before .before .before .before .before .before in
-    let test = looking .before .before .before .before .before .before .before .before .before .before .before .before .before .before in
+    let settling = looking .before .before .before .before .before .before .before .before .before .before .before .before .before .before in
+    let lending = settling .before .before .before .before .before .before .before .before .before .before in
+    let test = lending .before .before .before .before .before .before .before .before .before in
+    let r = settling .settle .result in
+    let n = settling .settle .last .1 .1 .1 .1 .1 in
+    let k = n .1 .1 .1 .1 .1 .1 .1 .1 .1 .1 in
     let l = test .before .before .loop in
     let a = test .before .before .before .args in
-    falls (a .asked) (wide-fits (a .asked .limit) (test .before .before .before .good .0 .1 .1 .1 .1 .0 .1))
+    lt-of-lt-of-le (falls (a .asked) (wide-fits (a .asked .limit) (test .before .before .before .good .0 .1 .1 .1 .1 .0 .1))
     (book-of 0 0 (a .goal-flags .now) (a .goal-first .now) (a .goal-len .now) (a .clause-variant .now) (a .clause-flags .now) (a
     .clause-len .now) (a .literal-kind .now) (a .literal-goal .now) (a .literal-want .now))
-    (walk (l .course) (lent-with (l .strands) (l .answers) (l .goal) (l .coinductive) (l .floundered) (l .complete) (l .next) (l .tail)
-    (l .len) (l .time) (l .ambiguous) (l .variant) (l .waits) (l .wants) (l .answer-next) (l .answer-tail) (l .answer-len) (l
-    .answer-variant) (l .answer-key) (l .answer-ambiguous) (l .entry-table) (l .entry-clock) (l .positive) (l .negative) (l .active) (l
-    .course)))
+    (walk r (lent-with (l .strands) (l .answers) (l .goal) (l .coinductive) (l .floundered) (l .complete) (n .0) (n .1 .0) (n .1 .1 .0)
+    (n .1 .1 .1 .0) (l .ambiguous) (l .variant) (l .waits) (l .wants) (l .answer-next) (l .answer-tail) (l .answer-len) (l
+    .answer-variant) (l .answer-key) (l .answer-ambiguous) (k .0) (k .1 .0) (k .1 .1 .0) (k .1 .1 .1 .0) (k .1 .1 .1 .1 .0) r))
     (looking .look .result) (looking .look .ensures) (picking .pick .result) (picking .pick .ensures)
     _ (passing .pass .ensures 0 0 (a .clause-len .now) (a .literal-kind .now) (a .literal-goal .now) (a .literal-want .now) (l .strands)
-    (l .answers)) (still-on (l .course .over) (test .if1 .taken))
+    (l .answers)) (settling .settle .ensures .0 ∙ still-on (l .course .over) (test .if1 .taken))) (settling .settle .ensures .1)
 
 loop-again : tie.Need-loop-again Inv-loop μ-loop
 loop-again c =
     let passing = c .before .before .before .before .before .before .before in
     let picking = passing .before .before .before .before .before .before .before .before .before .before .before .before .before .before .before .before .before .before .before .before .before .before .before .before .before .before .before in
     let looking = picking .before .before .before .before .before .before .before .before .before .before .before .before .before in
-    let test = looking .before .before .before .before .before .before .before .before .before .before .before .before .before .before in
+    let settling = looking .before .before .before .before .before .before .before .before .before .before .before .before .before .before in
+    let lending = settling .before .before .before .before .before .before .before .before .before .before in
+    let test = lending .before .before .before .before .before .before .before .before .before in
+    let r = settling .settle .result in
+    let n = settling .settle .last .1 .1 .1 .1 .1 in
+    let k = n .1 .1 .1 .1 .1 .1 .1 .1 .1 .1 in
     let l = test .before .before .loop in
     let a = test .before .before .before .args in
-    λ goals clauses x h. l .inv goals clauses x (further
+    λ goals clauses x h. l .inv goals clauses x (settling .settle .ensures .2
+    (book-of goals clauses (a .goal-flags .now) (a .goal-first .now) (a .goal-len .now) (a .clause-variant .now) (a .clause-flags .now)
+    (a .clause-len .now) (a .literal-kind .now) (a .literal-goal .now) (a .literal-want .now))
+    (l .goal) (l .variant) (l .strands) (l .answers) (l .answer-variant) (l .answer-key) (l .answer-ambiguous) x
+    (still-on (l .course .over) (test .if1 .taken)) (further
     (book-of goals clauses (a .goal-flags .now) (a .goal-first .now) (a .goal-len .now) (a .clause-variant .now) (a .clause-flags .now)
     (a .clause-len .now) (a .literal-kind .now) (a .literal-goal .now) (a .literal-want .now))
     (a .asked)
-    (walk (l .course) (lent-with (l .strands) (l .answers) (l .goal) (l .coinductive) (l .floundered) (l .complete) (l .next) (l .tail)
-    (l .len) (l .time) (l .ambiguous) (l .variant) (l .waits) (l .wants) (l .answer-next) (l .answer-tail) (l .answer-len) (l
-    .answer-variant) (l .answer-key) (l .answer-ambiguous) (l .entry-table) (l .entry-clock) (l .positive) (l .negative) (l .active) (l
-    .course)))
+    (walk r (lent-with (l .strands) (l .answers) (l .goal) (l .coinductive) (l .floundered) (l .complete) (n .0) (n .1 .0) (n .1 .1 .0)
+    (n .1 .1 .1 .0) (l .ambiguous) (l .variant) (l .waits) (l .wants) (l .answer-next) (l .answer-tail) (l .answer-len) (l
+    .answer-variant) (l .answer-key) (l .answer-ambiguous) (k .0) (k .1 .0) (k .1 .1 .0) (k .1 .1 .1 .0) (k .1 .1 .1 .1 .0) r))
     (looking .look .result) (looking .look .ensures) (picking .pick .result) (picking .pick .ensures)
     _ x (passing .pass .ensures goals clauses (a .clause-len .now) (a .literal-kind .now) (a .literal-goal .now) (a .literal-want .now)
-    (l .strands) (l .answers)) (still-on (l .course .over) (test .if1 .taken)) h)
+    (l .strands) (l .answers)) (settling .settle .ensures .0 ∙ still-on (l .course .over) (test .if1 .taken)) h))
 
 returns : tie.Need-returns Inv-loop μ-loop
 returns c =
@@ -141,6 +157,7 @@ ensure-root-answer-spec =
     Inv-loop
     μ-loop
     loop-holds
+    settle-requires
     look-requires
     cast-pick
     mul-pick
