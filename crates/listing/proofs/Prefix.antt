@@ -1,0 +1,12 @@
+-- How a byte string is listed is settled by its first 16,384 bytes, as how it is read is.
+use Prim.Native.Nat.{ℕ}
+use mathlib.Core.List.{List}
+use mathlib.Core.Path.{_≡_}
+use lib.ListN.{take}
+use Rattle.definitions.specs.Book.{read-ahead}
+use Rattle.definitions.specs.Forest.{make}
+use Rattle.definitions.specs.Listing.{lines, listing}
+use Rattle.definitions.proofs.Prefix.{read-take}
+
+pub listing-take : (bytes : List ℕ) → listing (take read-ahead bytes) ≡ listing bytes
+listing-take bytes = rw (listing, lines, make, read-take bytes)

@@ -1,0 +1,46 @@
+-- `list`: by whether the book was accepted.
+use Rattle.listing.proofs.Loops.{made-ready, listing-made, listing-refused}
+use borrow.Author.Needs.{needs}
+use Rattle.listing.proofs.goals.list.Statement.{statement}
+use Rattle.listing.proofs.goals.list.Tie as tie
+
+make-requires : tie.Need-make-requires
+make-requires c κs = search needs
+
+enum-known-making : tie.Need-enum-known-making
+enum-known-making c = search needs
+
+refusal-requires : tie.Need-refusal-requires
+refusal-requires c κs = search needs
+
+enum-told : tie.Need-enum-told
+enum-told c = search needs
+
+list-goals-requires : tie.Need-list-goals-requires
+list-goals-requires c κs = search made-ready
+
+same-length : tie.Need-same-length
+same-length c = search needs
+
+returns : tie.Need-returns
+returns c = search listing-refused
+
+same-length-2 : tie.Need-same-length-2
+same-length-2 c = search needs
+
+returns-2 : tie.Need-returns-2
+returns-2 c = search listing-made
+
+pub list-spec : {M : Type 1} → statement M
+list-spec =
+    tie.close
+    (tie.spec
+    make-requires
+    enum-known-making
+    refusal-requires
+    enum-told
+    list-goals-requires
+    same-length
+    returns
+    same-length-2
+    returns-2)
