@@ -32,7 +32,7 @@ def name_of_the_folder(room):
 
 
 def seed(crate, proved, folder, room):
-    """Puts the modules that were checked of the crate below `proved` where `rt dev` takes them in the folder; says whether there were any."""
+    """Puts what was checked of the crate below `proved` where `rt dev` takes it in the folder; says whether there was any."""
     checked = os.path.join(proved, "target", "rlib", crate + ".rlib", "toolchain", "checked")
     if not os.path.isdir(checked):
         return False
