@@ -9,7 +9,8 @@ pub enum Future {
     Found(bool),
 }
 
-// The answers from an index on, and then the queue. Refused with 10 alone, on a marked forest too.
+// The answers from an index on, and then the queue. Refused with 10 alone, on a marked forest too. Numbers are copied before they are lent:
+// where a forest's own are lent, the compiler copies the whole forest.
 pub fn any_future_answer(f: Forest, table: u64, index: u64, variant: u64) -> Future
     ensures { λ r. ⌜ FutureSays f table index variant r ⌝ }
 {
@@ -22,18 +23,28 @@ pub fn any_future_answer(f: Forest, table: u64, index: u64, variant: u64) -> Fut
     let t = (table % 256) as u8;
     let v = (variant % 65536) as u16;
     let from = if index > 256 { 256 } else { index as usize };
+    let answer_next = f.answer_next;
+    let answer_tail = f.answer_tail;
+    let answer_len = f.answer_len;
+    let answer_variant = f.answer_variant;
+    let answer_key = f.answer_key;
     if any_answer(
-        &f.answer_next,
-        &f.answer_tail,
-        &f.answer_len,
+        &answer_next,
+        &answer_tail,
+        &answer_len,
         t,
         from,
-        &f.answer_variant,
+        &answer_variant,
         v,
-        &f.answer_key,
+        &answer_key,
     ) {
         return Future::Found(true);
     }
-    let any = any_strand(&f.next, &f.tail, &f.len, t, &f.variant, v, &f.time);
+    let next = f.next;
+    let tail = f.tail;
+    let len = f.len;
+    let strand_variant = f.variant;
+    let time = f.time;
+    let any = any_strand(&next, &tail, &len, t, &strand_variant, v, &time);
     Future::Found(any)
 }

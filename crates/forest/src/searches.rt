@@ -67,7 +67,8 @@ fn refusal(f: Forest, table: u64, index: u64) -> u8
         return 10;
     }
     let t = (table % 256) as u8;
-    if flag_at(&f.floundered, t) {
+    let floundered = f.floundered;
+    if flag_at(&floundered, t) {
         return 0;
     }
     if index > wide_len(f.answer_len[t as usize]) {
@@ -126,21 +127,29 @@ fn renumbered(f: Forest, c: Course) -> Forest
     }
 }
 
-// The first search is started, and where that ends it there is nothing to run.
+// The first search is started, and where that ends it there is nothing to run. Numbers are copied before they are lent: where a forest's
+// own are lent, the compiler copies the whole forest.
 fn run(f: Forest, asked: Asked, index: u64, more: u64) -> Ran
     ensures { λ r. ⌜ Runs f asked (start asked (f .floundered) (f .«answer_next») (f .«answer_tail») (f .«answer_len»)
         (f .«answer_variant») (f .«answer_key») (f .«answer_ambiguous») (course-in f index more)) r ⌝ }
 {
+    let floundered = f.floundered;
+    let answer_next = f.answer_next;
+    let answer_tail = f.answer_tail;
+    let answer_len = f.answer_len;
+    let answer_variant = f.answer_variant;
+    let answer_key = f.answer_key;
+    let answer_ambiguous = f.answer_ambiguous;
     let c = start(
         asked,
         first_course(f, index, more),
-        &f.floundered,
-        &f.answer_next,
-        &f.answer_tail,
-        &f.answer_len,
-        &f.answer_variant,
-        &f.answer_key,
-        &f.answer_ambiguous,
+        &floundered,
+        &answer_next,
+        &answer_tail,
+        &answer_len,
+        &answer_variant,
+        &answer_key,
+        &answer_ambiguous,
     );
     if c.over {
         return Ran {

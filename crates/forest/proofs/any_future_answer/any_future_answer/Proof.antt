@@ -16,7 +16,7 @@ use Rattle.forest.proofs.any_future_answer.any_future_answer.Tie as tie
 returns : tie.Need-returns
 returns c =
     let a = c .before .args in
-    says-unmade (a .t1) (a .table) (a .index) (a .variant) (c .if1 .taken)
+    says-unmade (a .f) (a .table) (a .index) (a .variant) (c .if1 .taken)
 
 -- the numbers of an array fit their width
 small : (xs : List ℕ) (us : List Val) → shadow (each ℕ (UInt w16 .own) (map (λ (v : ℕ). v) xs) us) → (q : ℕ) → getD xs q 0 < 65536
@@ -28,9 +28,9 @@ returns-2 c =
     let a = l .args in
     let numbers = l .good .0 .1 .1 .1 .1 .1 .1 .1 .1 .1 .1 .1 .1 .1 .1 .1 .1 .1 .1 .1 .1 .1 .1 .1 .1 in
     let after = numbers .1 .1 .1 .1 .1 .1 .1 .1 in
-    says-large (a .t1) (a .table) (a .index) (a .variant) (c .before .if1 .left) (c .if2 .taken)
-    (small (a .t1 .variant) (numbers .0 .0) (numbers .0 .1 .1))
-    (small (a .t1 .«answer_variant») (after .0 .0) (after .0 .1 .1))
+    says-large (a .f) (a .table) (a .index) (a .variant) (c .before .if1 .left) (c .if2 .taken)
+    (small (a .f .variant) (numbers .0 .0) (numbers .0 .1 .1))
+    (small (a .f .«answer_variant») (after .0 .0) (after .0 .1 .1))
 
 cast-t : tie.Need-cast-t
 cast-t c = search needs
@@ -44,11 +44,11 @@ any-answer-requires c κs = search needs
 returns-3 : tie.Need-returns-3
 returns-3 c =
     let found = c .before in
-    let from = found .before .before .before .before .before .before .before in
+    let from = found .before .before .before .before .before .before .before .before .before .before .before in
     let test = from .before in
     let l = test .before .before in
     let a = l .args in
-    says-stored (a .t1) (a .table) (a .index) (a .variant) (test .before .if1 .left) (test .if2 .left) (from .if3 .from)
+    says-stored (a .f) (a .table) (a .index) (a .variant) (test .before .if1 .left) (test .if2 .left) (from .if3 .from)
     (⊎-elim (λ w. inl (w .0 .taken, w .1)) (λ w. inr (w .0 .left, w .1)) (from .if3 .came))
     (found .any-answer .result) (found .any-answer .ensures) (c .if4 .taken)
 
@@ -57,13 +57,13 @@ any-strand-requires c κs = search needs
 
 returns-4 : tie.Need-returns-4
 returns-4 c =
-    let none = c .before .before .before .before .before .before .before in
+    let none = c .before .before .before .before .before .before .before .before .before .before .before in
     let found = none .before in
-    let from = found .before .before .before .before .before .before .before in
+    let from = found .before .before .before .before .before .before .before .before .before .before .before in
     let test = from .before in
     let l = test .before .before in
     let a = l .args in
-    says-queued (a .t1) (a .table) (a .index) (a .variant) (test .before .if1 .left) (test .if2 .left) (from .if3 .from)
+    says-queued (a .f) (a .table) (a .index) (a .variant) (test .before .if1 .left) (test .if2 .left) (from .if3 .from)
     (⊎-elim (λ w. inl (w .0 .taken, w .1)) (λ w. inr (w .0 .left, w .1)) (from .if3 .came))
     (found .any-answer .result) (found .any-answer .ensures) (none .if4 .left) (c .any-strand .result) (c .any-strand .ensures)
 

@@ -17,9 +17,9 @@ returns : tie.Need-returns
 returns c =
     let test = c .before in
     let starting = test .before in
-    let first = starting .before .before .before .before .before .before .before .before .before in
-    let a = first .before .args in
-    let f = a .t1 in
+    let first = starting .before .before .before .before .before .before .before .before in
+    let a = first .before .before .before .before .before .before .before .before .args in
+    let f = a .f in
     let s = starting .start in
     runs-started f (a .asked) (a .index) (a .more) (first .first-course .result) (first .first-course .ensures) (s .result)
     (s .ensures) _
@@ -32,9 +32,9 @@ returns-2 : tie.Need-returns-2
 returns-2 c =
     let test = c .before in
     let starting = test .before in
-    let first = starting .before .before .before .before .before .before .before .before .before in
-    let a = first .before .args in
-    let f = a .t1 in
+    let first = starting .before .before .before .before .before .before .before .before in
+    let a = first .before .before .before .before .before .before .before .before .args in
+    let f = a .f in
     let s = starting .start in
     runs-started f (a .asked) (a .index) (a .more) (first .first-course .result) (first .first-course .ensures) (s .result)
     (s .ensures) _
