@@ -112,6 +112,42 @@ def largest():
     return "\n".join(lines)
 
 
+# A release paper, goal by goal: what it says, and its clauses.
+# Variants: blanks 1 zirconia, 2 wax, 3 acrylic; holders 1 clamp, 2 vacuum plate.
+RELEASE = [
+    ("the crown job may run unattended, from this blank", "0/1 :- 3/1, 6/1, 9, not 15", "0/2 :- 3/2, 6/2, 10, not 15"),
+    ("the bridge job may run unattended, from this blank", "1/1 :- 3/1, 6/1, 9, 12, not 15", "1/3 :- 3/3, 6/2, 11, 12, not 15"),
+    ("the splint job may run unattended, from this blank", "2/3 :- 3/3, 6/2, 11, not 16, not 15"),
+    ("this blank is sound", "3/1 :- 4/1, not 5", "3/2 :- 4/2", "3/3 :- 4/3"),
+    ("this blank is on the shelf", "4/1", "4/3"),
+    ("a zirconia blank has a crack",),
+    ("this holder is locked", "6/1 :- 7/1, 8", "6/2 :- 7/2, 8"),
+    ("this holder fits the machine", "7/1", "7/2"),
+    ("the holder's bolts were checked", "8"),
+    ("the diamond burr is sharp", "9 :- 13, not 14"),
+    ("the wax burr is sharp", "10 :- 13"),
+    ("the acrylic burr is sharp: nobody has measured it", "11 [cannot prove] :- 13"),
+    ("the dust hood draws", "12 :- 17, not 18"),
+    ("the burrs are in the rack", "13"),
+    ("the diamond burr is past its hours",),
+    ("somebody has to stay", "15 :- 16", "15 :- not 8"),
+    ("the coolant is low", "16 :- not 19"),
+    ("the dust hood is on", "17"),
+    ("the filter is full",),
+    ("the coolant was filled", "19"),
+    ("the machine may be left for the night", "20 :- 0, 1, 2"),
+    ("nothing may run", "21 :- not 0, not 1, not 2"),
+]
+
+
+def release():
+    return "\n".join("\n".join(["goal %d" % goal, *said[1:]]) for goal, said in enumerate(RELEASE))
+
+
+def release_names():
+    return "".join("%d %s\n" % (goal, said[0]) for goal, said in enumerate(RELEASE))
+
+
 PAPERS = [
     ("p1", "a positive literal, a \"not\", two variants, and a goal that rests on itself",
      "goal 0\n0 :- 1, not 2\ngoal 1\n1/1\n1/2\ngoal 2\n2 :- 2"),
@@ -130,6 +166,7 @@ PAPERS = [
     ("p9-empty", "no bytes: refused 1", None),
     ("p9-end", "the end alone: refused 8", ""),
     ("p9-one-goal", "one goal and no clause: the smallest book", "goal 0"),
+    ("release", "a release paper of 22 goals; `release.names` says what each stands for", release()),
     ("goals-64", "64 goals, each of which rests on the next; the last is a fact", chain(64)),
     ("goals-65", "the same with 65 goals: refused 5", chain(65)),
     ("clauses-256", "256 facts of one goal, each of its own variant", facts(256)),
@@ -141,9 +178,10 @@ PAPERS = [
 
 HEADER = """# Sample papers
 
-Each file `NAME.book` holds the bytes of a book. p1 to p9 are the cases of document 01; the others are the sizes at the limits and one
-past them, and the largest book. `inspect` prints what a book says. `tools/papers.py` makes the files and this page from a notation
-that can be read; `tools/papers.py --check` says whether they are those.
+Each file `NAME.book` holds the bytes of a book. p1 to p9 are the cases of document 01, `release` is a paper as the
+workshop has it; the others are the sizes at the limits and one past them, and the largest book. `inspect` prints what a book says,
+`listing` what follows from it. `tools/papers.py` makes the files and this page from a notation that can be read;
+`tools/papers.py --check` says whether they are those.
 
 | file | bytes | what it is | in hex |
 |---|---|---|---|
@@ -159,6 +197,7 @@ def files():
         shown = "`%s`" % data.hex(" ").upper() if 0 < len(data) <= 64 else ""
         rows += "| %s.book | %d | %s | %s |\n" % (name, len(data), says, shown)
     out["README.md"] = (HEADER + rows).encode()
+    out["release.names"] = release_names().encode()
     return out
 
 

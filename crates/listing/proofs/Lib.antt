@@ -1,6 +1,6 @@
--- The code's listing is the definitions'. `Marks`: only a stop marks a forest; `Listing`: what the definitions' listing asks is accepted, and
--- a line with what is behind it; `Words`: the words of a line; `Told`: one peek and one open of the code; `Loops`: the loops; `Prefix`: the
--- first bytes settle the listing.
+-- The code's listing is the definitions'. `Marks`: only a stop marks a forest; `Listing`: what the definitions' listing asks is accepted,
+-- and a line with what is behind it; `Words`: the words of a line; `Told`: one peek of the code; `Loops`: one open, and the loops;
+-- `Prefix`: the first bytes settle the listing.
 pub mod Marks
 pub mod Listing
 pub mod Words

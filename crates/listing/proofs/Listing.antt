@@ -129,7 +129,8 @@ TableMarks m (stop n) = Unit {0}
 TableMarks m (go r) = r .1 .mark ≡ m
 
 table-marks : (others : ℕ) (f : Forest) (goal : ℕ) → TableMarks (f .mark) (get-or-create-table-for-ucanonical-goal others f goal)
-table-marks others f goal = case-option (TableMarks (f .mark)) (index-of goal (f .tables)) (λ e. built (build-table (f .book) goal)) (λ t e. refl)
+table-marks others f goal =
+    case-option (TableMarks (f .mark)) (index-of goal (f .tables)) (λ e. built (build-table (f .book) goal)) (λ t e. refl)
   where
     kept : (b : Bool) (r : TableIndex × Forest) → r .1 .mark ≡ f .mark → TableMarks (f .mark) (stop-if b 22 >> go r)
     kept true r h = tt
@@ -146,7 +147,10 @@ module _ (n : ℕ) (f : Forest) (s : SoundForest n f) (goal : ℕ) (named : goal
   Opens o = (t : ℕ) → o .table ≡ go t → OpensTable n (f .mark) t (o .forest)
 
   both : {r : Stops (TableIndex × Forest)} → Safe (λ r. MadeAt n 0 f (r .0) (r .1)) r → TableMarks (f .mark) r
-      → Opens (elim r as (λ _. Opened) [ stop m ↦ record { table = stop m; forest = with-mark f m } | go r ↦ record { table = go (r .0); forest = r .1 } ])
+      → Opens (elim r as (λ _. Opened) [
+        | stop m ↦ record { table = stop m; forest = with-mark f m }
+        | go r ↦ record { table = go (r .0); forest = r .1 }
+      ])
   both (stops z) x t e = stop-go e
   both (goes {a = r} m) x t e =
       let same : r .0 ≡ t = cc in
@@ -202,4 +206,5 @@ goals-past n goal f h = ap (λ (left : ℕ). list-goals left goal f) (none-left 
 
 pub bytes-append : (a b : List Line) → lines-bytes (a ++ b) ≡ lines-bytes a ++ lines-bytes b
 bytes-append [] b = refl
-bytes-append (l ∷ a) b = ap (λ (z : List ℕ). line-bytes l ++ z) (bytes-append a b) ∙ sym (append-assoc (line-bytes l) (lines-bytes a) (lines-bytes b))
+bytes-append (l ∷ a) b =
+    ap (λ (z : List ℕ). line-bytes l ++ z) (bytes-append a b) ∙ sym (append-assoc (line-bytes l) (lines-bytes a) (lines-bytes b))

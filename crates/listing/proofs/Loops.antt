@@ -122,11 +122,6 @@ module _ (f : Forest) (goal table : ℕ) (p : Pen) (g : Forest) (index : ℕ) (q
 
 -- ONE GOAL
 
-opened-told : (o : Opening) (G : tables.Forest) (r : said.Opened) → opened-by o G ≡ accepted r → (t : Stops ℕ) × (r ≡ record { table = t; forest = G })
-opened-told (openings.Refused n) G r e = absurd (not-accepted e)
-opened-told (openings.Table t) G r e = (go t, sym (same-accepted e))
-opened-told (openings.Stopped n) G r e = (stop n, sym (same-accepted e))
-
 module _ (f : Forest) (x : Ready f) (goal : ℕ) (p : Pen) (o : Opened) (says : OpenSays f goal o) where
   abbrev F : tables.Forest
   F = view f
@@ -181,7 +176,8 @@ module _ (f : Forest) (x : Ready f) (goal : ℕ) (p : Pen) (o : Opened) (says : 
     is-table : OpensTable (f .goals) 0 t G
     is-table =
         let y = opens-table (f .goals) F (x .sound .forest) goal (subst (λ (n : ℕ). goal < n) (x .sound .forest .goals) (named (go t) m)) in
-        let z = subst (λ (r : said.Opened). (u : ℕ) → r .table ≡ go u → OpensTable (f .goals) (f .mark) u (r .forest)) (is-opened (go t) m) y t refl in
+        let z = subst (λ (r : said.Opened). (u : ℕ) → r .table ≡ go u → OpensTable (f .goals) (f .mark) u (r .forest))
+        (is-opened (go t) m) y t refl in
         subst (λ (k : ℕ). OpensTable (f .goals) k t G) (x .unmarked) z
 
     pub goal-stands : Stands (o .forest) t 0
@@ -266,7 +262,10 @@ module _ (f : Forest) (p : Pen) (g : Forest) (goal : ℕ) (q : Pen) (a : Amid f 
 
 -- what is printed, by what making gave
 abbrev listing-of : Refusable tables.Forest → List ℕ
-listing-of m = elim (elim m as (λ _. Refusable (List Line)) [ refused n ↦ refused n | accepted f ↦ accepted (list-goals (length (f .book)) 0 f) ]) [
+listing-of m = elim (elim m as (λ _. Refusable (List Line)) [
+  | refused n ↦ refused n
+  | accepted f ↦ accepted (list-goals (length (f .book)) 0 f)
+]) [
   | refused n ↦ ascii "refused" ++ ascii " " ++ decimal n ++ ascii "\n"
   | accepted ls ↦ lines-bytes ls
 ]
@@ -284,7 +283,10 @@ made-unmarked bytes limit f e = on (read bytes) (eqb limit 0 || leb MAX limit) e
 
 module _ (bytes : List ℕ) (r : Made) (says : MakeSays bytes listing-clock r) (p q : Pen) where
   pub made-ready : r .making ≡ makings.Made → Ready (r .forest)
-  made-ready e = record { sound = says .sound e; unmarked = unmarked-by (sym (says .says) ∙ ap (λ (m : Making). made-by m (view (r .forest))) e) }
+  made-ready e = record {
+    sound = says .sound e;
+    unmarked = unmarked-by (sym (says .says) ∙ ap (λ (m : Making). made-by m (view (r .forest))) e);
+  }
     where
       unmarked-by : said.make bytes listing-clock ≡ accepted (view (r .forest)) → view (r .forest) .mark ≡ 0
       unmarked-by k = made-unmarked bytes listing-clock (view (r .forest)) k

@@ -110,7 +110,9 @@ deed-mark (answers a empties) s = answered-mark a (top-table _ s) ∙ table-mark
 idle-mark : (strand : Strand) (literal : _) (f : Forest) (es : Stack)
     → flow-mark (perform (part-of-cycle strand literal) (record { forest = f; stack = es })) ≡ f .mark
 idle-mark strand literal f [] = refl
-idle-mark strand literal f (e ∷ es) = table-mark _ (top-entry _ (record { forest = f; stack = es })) ∙ entry-mark _ (record { forest = f; stack = es })
+idle-mark strand literal f (e ∷ es) =
+    let below : SolveState = record { forest = f; stack = es } in
+    table-mark _ (top-entry _ below) ∙ entry-mark _ below
 
 perform-mark : (a : Act) (s : SolveState) → flow-mark (perform a s) ≡ mark-of s
 perform-mark (takes origin made deed) s =
@@ -124,8 +126,8 @@ perform-mark negative-cycle s = gone-mark s
 perform-mark (clears tables) s = gone-mark (with-forest s (emptied tables (s .forest))) ∙ emptied-mark tables (s .forest)
 perform-mark (part-of-cycle strand literal) s = idle-mark strand literal (s .forest) (s .stack)
 
-matched-mark : (s : SolveState) {r : Stops Flow} {d : Stops Act} (flow : Flow) → Matches (λ flow act. flow ≡ perform act s) r d → r ≡ go flow
-    → flow-mark flow ≡ mark-of s
+matched-mark : (s : SolveState) {r : Stops Flow} {d : Stops Act} (flow : Flow) → Matches (λ flow act. flow ≡ perform act s) r d
+    → r ≡ go flow → flow-mark flow ≡ mark-of s
 matched-mark s flow asserts e = stop-go e
 matched-mark s flow both-stop e = stop-go e
 matched-mark s flow (both-go {a = a} {b = act} x) e =
@@ -211,7 +213,8 @@ module _ (m root index : ℕ) where
       (λ flow e. on flow (turn-mark s flow e ∙ h) (turns-mark limit (suc done)))
     where
       on : (flow : Flow) → flow-mark flow ≡ m
-          → ((s′ : SolveState) → mark-of s′ ≡ m → SearchMarks m (search-turns limit (suc done) root index s′)) → SearchMarks m (elim flow as (λ _. Searched) [
+          → ((s′ : SolveState) → mark-of s′ ≡ m → SearchMarks m (search-turns limit (suc done) root index s′))
+          → SearchMarks m (elim flow as (λ _. Searched) [
             | continue s′ ↦ search-turns limit (suc done) root index s′
             | return-ok s′ ↦ put-back (ok-ending s′ root index) (suc done) s′
             | return-err e s′ ↦ put-back (fail e) (suc done) s′

@@ -59,9 +59,6 @@ Follows o e =
 follows-found : (a : CompleteAnswer) (o : Outcome) → is-found o ≡ true → Follows o (found a)
 follows-found a o f = (λ q. refl, λ q. absurd (true≢false (sym f ∙ q)), λ q. absurd (true≢false (sym f ∙ q)))
 
-follows-goal : (e : Ending) (o : Outcome) → next e ≡ next-goal → is-found o ≡ false → is-stopped o ≡ false → Follows o e
-follows-goal e o n f s = (λ q. absurd (true≢false (sym q ∙ f)), λ q r. n, λ q r. absurd (true≢false (sym r ∙ s)))
-
 follows-end : (n : ℕ) (o : Outcome) → is-found o ≡ false → is-stopped o ≡ true → Follows o (stopped n)
 follows-end n o f s = (λ q. absurd (true≢false (sym q ∙ f)), λ q r. absurd (true≢false (sym s ∙ r)), λ q r. refl)
 
@@ -69,17 +66,22 @@ follows-end n o f s = (λ q. absurd (true≢false (sym q ∙ f)), λ q r. absurd
 follows-told : (o : Outcome) (d e : Ending) → ending-of o ≡ accepted d → ending-of o ≡ accepted e → Follows o d → Follows o e
 follows-told o d e x y f = subst (λ (z : Ending). Follows o z) (same-accepted (sym x ∙ y)) f
 
+follows-goal : (o : Outcome) (d e : Ending) → ending-of o ≡ accepted d → ending-of o ≡ accepted e → next d ≡ next-goal → is-found o ≡ false
+    → is-stopped o ≡ false → Follows o e
+follows-goal o d e x y n f s =
+    follows-told o d e x y (λ q. absurd (true≢false (sym q ∙ f)), λ q r. n, λ q r. absurd (true≢false (sym r ∙ s)))
+
 follows : (o : Outcome) (e : Ending) → ending-of o ≡ accepted e → Follows o e
 follows (outcomes.Refused n) e x = absurd (not-accepted x)
 follows (outcomes.Found variant ambiguous) e x =
     let a = complete variant ambiguous in
     follows-told (outcomes.Found variant ambiguous) (found a) e refl x (follows-found a (outcomes.Found variant ambiguous) refl)
-follows outcomes.NoMoreSolutions e x = follows-told outcomes.NoMoreSolutions (fail logic.NoMoreSolutions) e refl x (follows-goal (fail logic.NoMoreSolutions) outcomes.NoMoreSolutions refl refl refl)
-follows outcomes.Floundered e x = follows-told outcomes.Floundered (fail logic.Floundered) e refl x (follows-goal (fail logic.Floundered) outcomes.Floundered refl refl refl)
-follows outcomes.QuantumExceeded e x = follows-told outcomes.QuantumExceeded (fail logic.QuantumExceeded) e refl x (follows-goal (fail logic.QuantumExceeded) outcomes.QuantumExceeded refl refl refl)
-follows outcomes.NegativeCycle e x = follows-told outcomes.NegativeCycle (fail logic.NegativeCycle) e refl x (follows-goal (fail logic.NegativeCycle) outcomes.NegativeCycle refl refl refl)
-follows outcomes.InvalidAnswer e x = follows-told outcomes.InvalidAnswer (fail logic.InvalidAnswer) e refl x (follows-goal (fail logic.InvalidAnswer) outcomes.InvalidAnswer refl refl refl)
-follows outcomes.Cut e x = follows-told outcomes.Cut cut e refl x (follows-goal cut outcomes.Cut refl refl refl)
+follows outcomes.NoMoreSolutions e x = follows-goal outcomes.NoMoreSolutions (fail logic.NoMoreSolutions) e refl x refl refl refl
+follows outcomes.Floundered e x = follows-goal outcomes.Floundered (fail logic.Floundered) e refl x refl refl refl
+follows outcomes.QuantumExceeded e x = follows-goal outcomes.QuantumExceeded (fail logic.QuantumExceeded) e refl x refl refl refl
+follows outcomes.NegativeCycle e x = follows-goal outcomes.NegativeCycle (fail logic.NegativeCycle) e refl x refl refl refl
+follows outcomes.InvalidAnswer e x = follows-goal outcomes.InvalidAnswer (fail logic.InvalidAnswer) e refl x refl refl refl
+follows outcomes.Cut e x = follows-goal outcomes.Cut cut e refl x refl refl refl
 follows (outcomes.Stopped n) e x = follows-told (outcomes.Stopped n) (stopped n) e refl x (follows-end n (outcomes.Stopped n) refl refl)
 
 next-found : (e : Ending) → next e ≡ next-index → stored.is-found e ≡ true
@@ -114,7 +116,8 @@ module _ (f : Forest) (t i : ℕ) (x : Stands f t i) (r : Peeked) (says : PeekSa
 
   is-told : (e : Ending) × (ending-of (r .outcome) ≡ accepted e) × (made ≡ told e)
   is-told = told-by (r .outcome) told made
-      (says .says (x .ready .sound) ∙ peek-asked (f .goals) t i (view f) stands-ended (x .ready .unmarked) listing-rounds listing-turns refl)
+      (says .says (x .ready .sound)
+      ∙ peek-asked (f .goals) t i (view f) stands-ended (x .ready .unmarked) listing-rounds listing-turns refl)
 
   abbrev ending : Ending
   ending = is-told .0
@@ -208,7 +211,8 @@ module _ (f : Forest) (t i : ℕ) (x : Stands f t i) (r : Peeked) (says : PeekSa
         }
 
     ends-by : (stops : Bool) → stops ≡ is-stopped (r .outcome) → is-found (r .outcome) ≡ false
-        → (stops ≡ false → Ready (r .forest)) × ((more : ℕ) → whole more ≡ record { lines = here ∷ []; stops = stops; forest = view (r .forest) })
+        → (stops ≡ false → Ready (r .forest))
+        × ((more : ℕ) → whole more ≡ record { lines = here ∷ []; stops = stops; forest = view (r .forest) })
     ends-by true s e = (
       λ z. absurd (true≢false z),
       λ more. all-over more goal t i (view f) (told ending) (is-told .2) (after .2 e (sym s)),

@@ -79,10 +79,12 @@ unfolding refusal-line
 refusal-said n p q r s e f g = put-two (ascii "refused ") _ p q s e (put-two (decimal n) (ascii "\n") q r s f g)
 
 -- the line of an outcome is the definitions' line, for the ending that it stands for
-joined : (a b c : List ℕ) → (a ++ ascii " ") ++ ((b ++ ascii " ") ++ (c ++ ascii "\n")) ≡ a ++ ascii " " ++ b ++ ascii " " ++ c ++ ascii "\n"
+joined : (a b c : List ℕ)
+    → (a ++ ascii " ") ++ ((b ++ ascii " ") ++ (c ++ ascii "\n")) ≡ a ++ ascii " " ++ b ++ ascii " " ++ c ++ ascii "\n"
 joined a b c = simp append-assoc
 
-pub line-is : (goal index : ℕ) (o : Outcome) (e : Ending) → ending-of o ≡ accepted e → outcome-line goal index o ≡ line-bytes (line goal index e)
+pub line-is : (goal index : ℕ) (o : Outcome) (e : Ending) → ending-of o ≡ accepted e
+    → outcome-line goal index o ≡ line-bytes (line goal index e)
 unfolding outcome-line spaced reply-words
 line-is goal index o e x =
     ap (λ (z : Refusable Ending). (decimal goal ++ ascii " ") ++ ((decimal index ++ ascii " ") ++ (reply-words z ++ ascii "\n"))) x
