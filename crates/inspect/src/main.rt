@@ -2,35 +2,7 @@
 // No contract can speak of what is read or written: the program's run on its file `stdin`, held to its file `stdout`, guards that.
 mod words;
 
-ghost use Rattle.io.specs.Counts.{Counts};
-
-// What was read: whether the input came to its end, or to the buffer's, without an error, and how many bytes there are.
-struct Got {
-    whole: bool,
-    count: usize,
-}
-
-// Reads until the input ends or the buffer is full. The end is asked for once, so that at a terminal one end-of-input is enough.
-fn input(bytes: &mut [u8]) -> Got
-    ensures { λ r. ⌜ Counts (r .count) (now (bytes .exit)) ⌝ }
-{
-    let mut n: usize = 0;
-    while n < bytes.len() {
-        let got = libc::read(0, &mut bytes[n..]);
-        let k = io::count(got, &bytes[n..]);
-        if k == 0 {
-            return Got {
-                whole: got == 0,
-                count: n,
-            };
-        }
-        n += k;
-    }
-    Got {
-        whole: true,
-        count: n,
-    }
-}
+use intake::input;
 
 // How an input is read is settled by its first 16,384 bytes (`read-take`, in the proofs of `definitions`): at most 13,440 bytes of commands
 // are accepted before one is refused or ends the book, and that one needs six at most. So what follows is not read.

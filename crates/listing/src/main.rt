@@ -3,35 +3,7 @@
 mod goals;
 mod lines;
 
-ghost use Rattle.io.specs.Counts.{Counts};
-
-// What was read: whether the input came to its end, or to the buffer's, without an error, and how many bytes there are.
-struct Got {
-    whole: bool,
-    count: usize,
-}
-
-// Reads until the input ends or the buffer is full. The end is asked for once, so that at a terminal one end-of-input is enough.
-fn input(bytes: &mut [u8]) -> Got
-    ensures { λ r. ⌜ Counts (r .count) (now (bytes .exit)) ⌝ }
-{
-    let mut n: usize = 0;
-    while n < bytes.len() {
-        let got = libc::read(0, &mut bytes[n..]);
-        let k = io::count(got, &bytes[n..]);
-        if k == 0 {
-            return Got {
-                whole: got == 0,
-                count: n,
-            };
-        }
-        n += k;
-    }
-    Got {
-        whole: true,
-        count: n,
-    }
-}
+use intake::input;
 
 // How an input is listed is settled by its first 16,384 bytes (`listing-take`), so what follows is not read.
 // A listing has at most 320 lines of at most 20 bytes: a line for each goal, and a yes or maybe for each clause. So it is all in the
