@@ -12,6 +12,7 @@ use calls::Sitting;
 use forest::dump::LONGEST_DUMP;
 use forest::dump::dump;
 use line::Line;
+ghost use Rattle.io.specs.Counts.{Counts};
 
 // What is said of the forest, or its hash.
 fn state(out: &mut [u8], at: usize, said: &[u8], quiet: bool) -> usize {
@@ -72,10 +73,8 @@ struct Ran {
     sitting: Sitting,
 }
 
-// Between two characters of the script: how much of the output's buffer is in use, the line so far and the forest at hand. `over` is set
-// at the end of the input.
+// Between two characters of the script: how much of the output's buffer is in use, the line so far and the forest at hand.
 struct Midst {
-    over: bool,
     at: usize,
     line: Line,
     sitting: Sitting,
@@ -89,7 +88,6 @@ fn newline(out: &mut [u8], bytes: &[u8], room: &mut [u8], m: Midst, quiet: bool)
     let next = line::following(l);
     let after = r.sitting;
     Midst {
-        over: m.over,
         at: r.at,
         line: next,
         sitting: after,
@@ -121,22 +119,18 @@ fn chunk(
     now
 }
 
-// One read of the input, which is worked through.
-fn some(out: &mut [u8], bytes: &mut [u8], room: &mut [u8], m: Midst, quiet: bool) -> Midst {
-    let mut input = io::large_buffer();
-    let got = libc::read(0, &mut input);
-    let n = io::count(got, &input);
+// One read of the input: how many bytes there are, none at its end.
+fn some(input: &mut [u8]) -> usize
+    ensures { λ r. ⌜ Counts r (now (input .exit)) ⌝ }
+{
+    let got = libc::read(0, input);
+    let n = io::count(got, input);
     if n == 0 {
         if got != 0 {
             io::write_all(2, b"replay: the input can't be read\n");
         }
-        return Midst { over: true, ..m };
     }
-    chunk(out, bytes, room, m, &input[..n], quiet)
-}
-
-fn goes_on(m: Midst) -> bool {
-    !m.over
+    n
 }
 
 // The last line may lack its newline.
@@ -152,14 +146,16 @@ fn all(out: &mut [u8], bytes: &mut [u8], room: &mut [u8], quiet: bool) {
     let l = line::start();
     let s = calls::start();
     let mut m = Midst {
-        over: false,
         at: 0,
         line: l,
         sitting: s,
     };
+    let mut input = io::buffer();
+    let mut n = some(&mut input);
     let mut turns = u64::MAX;
-    while turns > 0 && goes_on(m) {
-        m = some(out, bytes, room, m, quiet);
+    while turns > 0 && n > 0 {
+        m = chunk(out, bytes, room, m, &input[..n], quiet);
+        n = some(&mut input);
         turns -= 1;
     }
     close(out, bytes, room, m, quiet);
@@ -178,7 +174,7 @@ fn is_quiet() -> bool {
 
 fn main() {
     let quiet = is_quiet();
-    let mut out = io::large_buffer();
+    let mut out = io::buffer();
     let mut bytes = [0u8; 16384];
     let mut room = [0u8; LONGEST_DUMP];
     all(&mut out, &mut bytes, &mut room, quiet);
