@@ -53,15 +53,15 @@ fn searched_forest(r: Searched) -> Forest
     r.forest
 }
 
-fn peek_reply(r: Peeked) -> PeekReply
-    ensures { λ z. ⌜ z ≡ peek-reply r ⌝ }
+fn peek_reply(p: Peeked) -> PeekReply
+    ensures { λ z. ⌜ z ≡ peek-reply p ⌝ }
 {
-    let outcome = r.outcome;
+    let outcome = p.outcome;
     PeekReply {
         outcome,
-        index: r.index,
-        turns: r.turns,
-        exceeded: r.exceeded,
+        index: p.index,
+        turns: p.turns,
+        exceeded: p.exceeded,
     }
 }
 
