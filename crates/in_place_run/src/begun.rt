@@ -1,0 +1,208 @@
+// A search for the first answer of goal 0 of a book, before its first turn.
+use book::Book;
+use book::read;
+use control::make_tables::make_tables;
+use control::select_subgoal::Made;
+use search::root_answer::one_more;
+use search::solve_state::Search;
+use stores::queue::blank_strands;
+use stores::stack::blank_stack;
+use stores::stack::push_entry;
+use stores::table::blank_answers;
+use stores::tables::blank_tables;
+use strands::times::TimeStamp;
+
+// The book, with blank stores.
+fn blank(b: Book) -> Search {
+    let ts = blank_tables();
+    let s = blank_strands();
+    let p = s.places;
+    let a = blank_answers();
+    let q = a.places;
+    let k = blank_stack();
+    let goal_flags = b.goal_flags;
+    let goal_first = b.goal_first;
+    let goal_len = b.goal_len;
+    let clause_variant = b.clause_variant;
+    let clause_flags = b.clause_flags;
+    let clause_len = b.clause_len;
+    let literal_kind = b.literal_kind;
+    let literal_goal = b.literal_goal;
+    let literal_want = b.literal_want;
+    let goal = ts.goal;
+    let coinductive = ts.coinductive;
+    let floundered = ts.floundered;
+    let complete = ts.complete;
+    let strands = s.strands;
+    let next = p.next;
+    let tail = p.tail;
+    let len = p.len;
+    let time = s.time;
+    let ambiguous = s.ambiguous;
+    let variant = s.variant;
+    let waits = s.waits;
+    let wants = s.wants;
+    let answers = a.answers;
+    let answer_next = q.next;
+    let answer_tail = q.tail;
+    let answer_len = q.len;
+    let answer_variant = a.variant;
+    let answer_key = a.key;
+    let answer_ambiguous = a.ambiguous;
+    let entry_table = k.table;
+    let entry_clock = k.clock;
+    let positive = k.positive;
+    let negative = k.negative;
+    let active = k.active;
+    Search {
+        goals: b.goals,
+        clauses: b.clauses,
+        goal_flags,
+        goal_first,
+        goal_len,
+        clause_variant,
+        clause_flags,
+        clause_len,
+        literal_kind,
+        literal_goal,
+        literal_want,
+        count: ts.count,
+        goal,
+        coinductive,
+        floundered,
+        complete,
+        strands,
+        next,
+        tail,
+        len,
+        time,
+        ambiguous,
+        variant,
+        waits,
+        wants,
+        used: p.top,
+        answers,
+        answer_next,
+        answer_tail,
+        answer_len,
+        answer_variant,
+        answer_key,
+        answer_ambiguous,
+        answer_used: q.top,
+        clock_limit: 1000000,
+        mark: 0,
+        clock: 0,
+        depth: 0,
+        entry_table,
+        entry_clock,
+        positive,
+        negative,
+        active,
+        table: 0,
+        index: 0,
+        limit: 1000,
+        done: 0,
+    }
+}
+
+// With the table of goal 0.
+fn tabled(s: Search) -> Search {
+    let mut goal = s.goal;
+    let mut coinductive = s.coinductive;
+    let mut floundered = s.floundered;
+    let mut complete = s.complete;
+    let mut next = s.next;
+    let mut tail = s.tail;
+    let mut len = s.len;
+    let mut time = s.time;
+    let mut ambiguous = s.ambiguous;
+    let mut variant = s.variant;
+    let mut waits = s.waits;
+    let mut wants = s.wants;
+    let goal_flags = s.goal_flags;
+    let goal_first = s.goal_first;
+    let goal_len = s.goal_len;
+    let clause_variant = s.clause_variant;
+    let clause_flags = s.clause_flags;
+    let mut used = s.used;
+    let made = Made {
+        count: 1,
+        goals: [0, 0, 0, 0, 0, 0, 0, 0],
+    };
+    let count = make_tables(
+        &mut goal,
+        &mut coinductive,
+        &mut floundered,
+        &mut complete,
+        &mut next,
+        &mut tail,
+        &mut len,
+        &mut used,
+        &mut time,
+        &mut ambiguous,
+        &mut variant,
+        &mut waits,
+        &mut wants,
+        &goal_flags,
+        &goal_first,
+        &goal_len,
+        &clause_variant,
+        &clause_flags,
+        s.count,
+        made,
+    );
+    Search {
+        count,
+        goal,
+        coinductive,
+        floundered,
+        complete,
+        next,
+        tail,
+        len,
+        time,
+        ambiguous,
+        variant,
+        waits,
+        wants,
+        used,
+        ..s
+    }
+}
+
+// With the root's entry alone on the stack.
+pub(crate) fn rooted(s: Search) -> Search {
+    let clock = one_more(s.clock);
+    let mut entry_table = s.entry_table;
+    let mut entry_clock = s.entry_clock;
+    let mut positive = s.positive;
+    let mut negative = s.negative;
+    let mut active = s.active;
+    let depth = push_entry(
+        &mut entry_table,
+        &mut entry_clock,
+        &mut positive,
+        &mut negative,
+        &mut active,
+        0,
+        s.table,
+        clock,
+        TimeStamp::MAX.clock,
+    );
+    Search {
+        clock,
+        depth,
+        entry_table,
+        entry_clock,
+        positive,
+        negative,
+        active,
+        ..s
+    }
+}
+
+pub(crate) fn begun(bytes: &[u8]) -> Search {
+    let r = read(bytes);
+    let b = r.book;
+    rooted(tabled(blank(b)))
+}
