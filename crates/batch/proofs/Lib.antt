@@ -1,0 +1,3 @@
+-- The ways out of the functions of each file, over variables.
+pub mod CallsCases
+pub mod RefusalCases

@@ -96,7 +96,7 @@ fn full(s: Serving) -> Serving
     }
 }
 
-fn serve_open(
+fn serve_open<'a>(
     s: Serving,
     goals: usize,
     goal_asked: u64,
@@ -112,11 +112,11 @@ fn serve_open(
     variant: &mut [u16; 256],
     waits: &mut [u8; 256],
     wants: &mut [u16; 256],
-    goal_flags: &[u8; 64],
-    goal_first: &[u16; 64],
-    goal_len: &[u16; 64],
-    clause_variant: &[u16; 256],
-    clause_flags: &[u8; 256],
+    goal_flags: &'a [u8; 64],
+    goal_first: &'a [u16; 64],
+    goal_len: &'a [u16; 64],
+    clause_variant: &'a [u16; 256],
+    clause_flags: &'a [u8; 256],
 ) -> Serving
     ensures { λ r. ⌜ ((clauses : ℕ) (clause-len literal-kind literal-goal literal-want : List ℕ) (strands : List Strand) (answers : Answers)
         (stack : Stack) (clock : ℕ) (replies : List ℕ)
@@ -190,19 +190,19 @@ fn serve_open(
 }
 
 // A search or a peek that is not refused: its first search is started, and the root's entry is written whether it runs or not.
-fn begin(
+fn begin<'a>(
     s: Serving,
     said: Said,
     asked: Asked,
     index: u64,
     more: u64,
-    floundered: &[u8; 64],
-    answer_next: &[u8; 256],
-    answer_tail: &[u8; 256],
-    answer_len: &[u16; 256],
-    answer_variant: &[u16; 256],
-    answer_key: &[u64; 256],
-    answer_ambiguous: &[u8; 256],
+    floundered: &'a [u8; 64],
+    answer_next: &'a [u8; 256],
+    answer_tail: &'a [u8; 256],
+    answer_len: &'a [u16; 256],
+    answer_variant: &'a [u16; 256],
+    answer_key: &'a [u64; 256],
+    answer_ambiguous: &'a [u8; 256],
     entry_table: &mut [u8; 64],
     entry_clock: &mut [u64; 64],
     positive: &mut [u64; 64],
@@ -264,17 +264,17 @@ fn begin(
 }
 
 // A search, refused with 20, 10, 11 and 12 in this order.
-fn serve_search(
+fn serve_search<'a>(
     s: Serving,
     clock_limit: u64,
     call: Call,
-    floundered: &[u8; 64],
-    answer_next: &[u8; 256],
-    answer_tail: &[u8; 256],
-    answer_len: &[u16; 256],
-    answer_variant: &[u16; 256],
-    answer_key: &[u64; 256],
-    answer_ambiguous: &[u8; 256],
+    floundered: &'a [u8; 64],
+    answer_next: &'a [u8; 256],
+    answer_tail: &'a [u8; 256],
+    answer_len: &'a [u16; 256],
+    answer_variant: &'a [u16; 256],
+    answer_key: &'a [u64; 256],
+    answer_ambiguous: &'a [u8; 256],
     entry_table: &mut [u8; 64],
     entry_clock: &mut [u64; 64],
     positive: &mut [u64; 64],
@@ -328,17 +328,17 @@ fn serve_search(
 }
 
 // A peek, refused in the same order.
-fn serve_peek(
+fn serve_peek<'a>(
     s: Serving,
     clock_limit: u64,
     call: Call,
-    floundered: &[u8; 64],
-    answer_next: &[u8; 256],
-    answer_tail: &[u8; 256],
-    answer_len: &[u16; 256],
-    answer_variant: &[u16; 256],
-    answer_key: &[u64; 256],
-    answer_ambiguous: &[u8; 256],
+    floundered: &'a [u8; 64],
+    answer_next: &'a [u8; 256],
+    answer_tail: &'a [u8; 256],
+    answer_len: &'a [u16; 256],
+    answer_variant: &'a [u16; 256],
+    answer_key: &'a [u64; 256],
+    answer_ambiguous: &'a [u8; 256],
     entry_table: &mut [u8; 64],
     entry_clock: &mut [u64; 64],
     positive: &mut [u64; 64],
@@ -475,11 +475,11 @@ fn tell(s: Serving, replies: &mut [u64; NUMBERS]) -> Serving
     }
 }
 
-pub fn serve(
+pub fn serve<'a>(
     s: Serving,
     goals: usize,
     clock_limit: u64,
-    calls: &[u64; NUMBERS],
+    calls: &'a [u64; NUMBERS],
     replies: &mut [u64; NUMBERS],
     goal: &mut [u8; 64],
     coinductive: &mut [u8; 64],
@@ -493,22 +493,22 @@ pub fn serve(
     variant: &mut [u16; 256],
     waits: &mut [u8; 256],
     wants: &mut [u16; 256],
-    answer_next: &[u8; 256],
-    answer_tail: &[u8; 256],
-    answer_len: &[u16; 256],
-    answer_variant: &[u16; 256],
-    answer_key: &[u64; 256],
-    answer_ambiguous: &[u8; 256],
+    answer_next: &'a [u8; 256],
+    answer_tail: &'a [u8; 256],
+    answer_len: &'a [u16; 256],
+    answer_variant: &'a [u16; 256],
+    answer_key: &'a [u64; 256],
+    answer_ambiguous: &'a [u8; 256],
     entry_table: &mut [u8; 64],
     entry_clock: &mut [u64; 64],
     positive: &mut [u64; 64],
     negative: &mut [u64; 64],
     active: &mut [u16; 64],
-    goal_flags: &[u8; 64],
-    goal_first: &[u16; 64],
-    goal_len: &[u16; 64],
-    clause_variant: &[u16; 256],
-    clause_flags: &[u8; 256],
+    goal_flags: &'a [u8; 64],
+    goal_first: &'a [u16; 64],
+    goal_len: &'a [u16; 64],
+    clause_variant: &'a [u16; 256],
+    clause_flags: &'a [u8; 256],
 ) -> Serving
     ensures { λ r. ⌜ ((clauses : ℕ) (clause-len literal-kind literal-goal literal-want : List ℕ) (strands : List Strand)
         (answers : List Answer)
