@@ -1,3 +1,4 @@
 -- The ways out of the functions of each file, over variables.
 pub mod CallsCases
 pub mod RefusalCases
+pub mod ServeCases

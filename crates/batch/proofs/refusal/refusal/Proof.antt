@@ -27,8 +27,8 @@ returns-3 c =
     let made = flag .before in
     let sane = made .before in
     let a = sane .before .args in
-    refusal-floundered (a .mark) (a .count) (a .floundered .now) (a .answer-len .now) (a .table) (a .index) (sane .if1 .left) (made .if2 .left)
-    (flag .flag-at .result) (flag .flag-at .ensures) (c .if3 .taken)
+    refusal-floundered (a .mark) (a .count) (a .floundered .now) (a .answer-len .now) (a .table) (a .index) (sane .if1 .left)
+    (made .if2 .left) (flag .flag-at .result) (flag .flag-at .ensures) (c .if3 .taken)
 
 cast-wide-len : tie.Need-cast-wide-len
 cast-wide-len c = search needs
