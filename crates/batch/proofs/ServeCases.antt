@@ -120,18 +120,19 @@ module _ (s : Serving) (w : Lent) (replies : List ℕ) where
   -- A SEARCH OR A PEEK BEGINS: its course, and the root's entry in each array of the stack
   module _ (said : Said) (asked : Asked) (index more : ℕ) where
     abbrev begun-as : Course → (table clock positive negative active : List ℕ) → Stage
-    begun-as c et ec ps ng ac =
+    begun-as c tables clocks positives negatives actives =
         stage (record { at = s .at; busy = true; said = said; asked = asked; course = c })
-        (lent-of (w .tables) (w .strands) (w .answers) (stack-of 0 et ec ps ng ac) (w .clock)) replies
+        (lent-of (w .tables) (w .strands) (w .answers) (stack-of 0 tables clocks positives negatives actives) (w .clock)) replies
 
-    pub begins-so : (c : Course) → c ≡ started asked w (first-course index more (s .course)) → (et ec ps ng ac : List ℕ)
-        → et ≡ written-at 0 (asked .table) (w .stack .table) → ec ≡ written-at 0 (c .clock) (w .stack .clock)
-        → ps ≡ written-at 0 MAX (w .stack .positive) → ng ≡ written-at 0 MAX (w .stack .negative)
-        → ac ≡ written-at 0 256 (w .stack .active)
+    pub begins-so : (c : Course) → c ≡ started asked w (first-course index more (s .course))
+        → (tables clocks positives negatives actives : List ℕ)
+        → tables ≡ written-at 0 (asked .table) (w .stack .table) → clocks ≡ written-at 0 (c .clock) (w .stack .clock)
+        → positives ≡ written-at 0 MAX (w .stack .positive) → negatives ≡ written-at 0 MAX (w .stack .negative)
+        → actives ≡ written-at 0 256 (w .stack .active)
         → stage (record { at = s .at; busy = true; said = said; asked = asked; course = c })
-        (lent-of (w .tables) (w .strands) (w .answers) (stack-of 0 et ec ps ng ac) (w .clock)) replies
+        (lent-of (w .tables) (w .strands) (w .answers) (stack-of 0 tables clocks positives negatives actives) (w .clock)) replies
         ≡ begins said asked index more (stage s w replies)
-    begins-so c is et ec ps ng ac e1 e2 e3 e4 e5 =
+    begins-so c is tables clocks positives negatives actives e1 e2 e3 e4 e5 =
         (λ i. begun-as c (e1 i) (e2 i) (e3 i) (e4 i) (e5 i))
         ∙ ap (λ (d : Course). begun-as d (written-at 0 (asked .table) (w .stack .table)) (written-at 0 (d .clock) (w .stack .clock))
         (written-at 0 MAX (w .stack .positive)) (written-at 0 MAX (w .stack .negative)) (written-at 0 256 (w .stack .active))) is
