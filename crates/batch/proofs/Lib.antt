@@ -2,3 +2,4 @@
 pub mod CallsCases
 pub mod RefusalCases
 pub mod ServeCases
+pub mod ServeAllCases

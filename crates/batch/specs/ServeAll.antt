@@ -1,5 +1,5 @@
 -- The loop over the calls: what it comes to, call after call.
-use Prim.Native.Nat.{ℕ, _+_, _*_, _-_}
+use Prim.Native.Nat.{ℕ, _+_, _*_, _-_, min}
 use mathlib.Core.Bool.{Bool, true, false}
 use mathlib.Core.List.{List}
 use mathlib.Core.Path.{_≡_}
@@ -55,7 +55,7 @@ abbrev pub most-left : ℕ
 most-left = (18446744073709551615 * 258 + 257) * 18446744073709551616 + 18446744073709551616
 
 abbrev pub share-left : (busy : Bool) → (course-left : ℕ) → ℕ
-share-left true n = n
+share-left true n = min n most-left
 share-left false n = most-left + 1
 
 abbrev pub serving-left : (count : ℕ) → Serving → ℕ

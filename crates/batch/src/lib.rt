@@ -2,3 +2,4 @@
 pub mod calls;
 pub mod refusal;
 pub mod serve;
+pub mod serve_all;
