@@ -3,3 +3,4 @@ pub mod Make
 pub mod Open
 pub mod Searches
 pub mod AnyFutureAnswer
+pub mod Sittings

@@ -22,7 +22,7 @@ use Rattle.forest.specs.AnyFutureAnswer.{future-means}
 use Rattle.forest.specs.Open.{opened-by}
 use Rattle.forest.specs.Searches.{reply-by}
 use Rattle.forest.specs.View.{view, Sound}
-use Rattle.sittings.specs.Sittings.{Told, opens, searches, peeks, asks-future, left, Gives, Sits, asked}
+use Rattle.forest.specs.Sittings.{Told, opens, searches, peeks, asks-future, left, Gives, Sits, asked}
 use Rattle.sittings.specs.Sittings.{opening-reply, outcome-reply, future-reply, reply}
 
 -- ONE CALL. What the definitions' `call` makes of a result on a forest F, where the code's says the same and leaves G; a call that is

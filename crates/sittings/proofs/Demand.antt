@@ -39,7 +39,7 @@ use Rattle.forest.specs.Make.{MakeSays, made-by}
 use Rattle.forest.specs.Open.{OpenSays, opened-by}
 use Rattle.forest.specs.Searches.{PeekSays, reply-by}
 use Rattle.forest.specs.View.{view, Sound}
-use Rattle.sittings.specs.Sittings.{Told, opens, searches, peeks, asks-future, left, Gives, Sits, asked}
+use Rattle.forest.specs.Sittings.{Told, opens, searches, peeks, asks-future, left, Gives, Sits, asked}
 use Rattle.sittings.specs.Sittings.{opening-reply, outcome-reply, future-reply, reply}
 use Rattle.sittings.specs.Claim.{Names, Named, MarkedSays, is-stopped, opening-stopped, stops, OpeningSays, OutcomeSays}
 use Rattle.sittings.specs.Claim.{UnmarkedSays, TellSays, AllTell, exceeded-by, exceeded-in, exceeded, granted, all-granted, Demand3}
