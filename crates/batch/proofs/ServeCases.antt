@@ -1,16 +1,21 @@
 -- The ways out of the functions of serve.rt, over variables: the model at the tests that led there.
 use Prim.Native.Nat.{ℕ, _+_, _-_, _%_, _≤_, _<_}
+use native.Mathlib.Nat.{mod-eq-of-lt}
+use native.Mathlib.Omega.{arith}
 use mathlib.Core.Bool.{Bool, true, false}
-use mathlib.Core.List.{List}
+use mathlib.Core.List.{List, [], _∷_}
 use mathlib.Core.Path.{_≡_, refl, sym, ap, ap₂, _∙_}
 use lib.Dec.{eqb, leb, ltb}
-use lib.ListN.{getD}
+use lib.ListN.{drop, getD}
 use borrow.Author.Tests.{lt-ltb, le-ltb, le-leb, lt-leb, eq-eqb, ne-eqb}
 use Rattle.definitions.specs.{MAX}
 use Rattle.definitions.specs.Book.{bit1}
 use Rattle.book.specs.Access.{entry}
 use Rattle.book.specs.declared.Book.{Book}
+use Rattle.rings.specs.Rings.{ring-of}
 use Rattle.stores.specs.Numbers.{free, first-at, within, written-at}
+use Rattle.stores.specs.Places as numbers
+use Rattle.stores.specs.Places.{found-or, found-in}
 use Rattle.control.specs.PerformDeed.{stack-of}
 use Rattle.control.specs.PerformStrand.{Lent, lent-of}
 use Rattle.control.specs.SelectSubgoal.{strands-by}
@@ -28,6 +33,11 @@ use Rattle.batch.specs.Serve.{tables-made, opened-with, open-by, table-o
 use Rattle.batch.specs.Serve.{first-course, started, begins, asked-for, refusal-at, search-by, searches, peek-by, peeks}
 use Rattle.batch.specs.Serve.{from-index, future-by, stored-from, queued-in, asks-future}
 use Rattle.batch.specs.Serve.{next-call, begun-by, begun, served-by, served}
+
+-- nothing is found where no place passes
+pub found-none : (test : ℕ → Bool) → ((q : ℕ) → test q ≡ false) → (l : List ℕ) → ltb (found-in test l) 256 ≡ false
+found-none test never [] = refl
+found-none test never (q ∷ l) = ap (λ (b : Bool). ltb (found-or b q (found-in test l)) 256) (never q) ∙ found-none test never l
 
 -- of `from_index`
 module _ (index : ℕ) where
@@ -190,37 +200,51 @@ module _ (s : Serving) (w : Lent) (replies : List ℕ) where
 
   -- WHAT MAY COME
   module _ (table index variant : ℕ) where
-    abbrev stored-in : (from : ℕ) → Bool
-    stored-in from = stored-from (table % 256) from (variant % 65536) w
+    abbrev stored-in : (from variant : ℕ) → Bool
+    stored-in from x = stored-from (table % 256) from x w
 
-    abbrev queue-has : Bool
-    queue-has = queued-in (table % 256) (variant % 65536) w
+    abbrev queue-has : (variant : ℕ) → Bool
+    queue-has x = queued-in (table % 256) x w
 
-    comes-as : (missing large stored queued : Bool) → leb (s .course .count) table ≡ missing → ltb 65535 variant ≡ large
-        → stored-in (from-index (ltb 256 index) index) ≡ stored → queue-has ≡ queued → (r : Serving)
-        → r ≡ said-at-once (future-by missing large stored queued) s → left r ≡ asks-future table index variant v
-    comes-as missing large stored queued e1 e2 e3 e4 r er =
-        ap left er ∙ (λ i. left (said-at-once (future-by (sym e1 i) (sym e2 i) (sym e3 i) (sym e4 i)) s))
+    comes-as : (missing stored queued : Bool) → leb (s .course .count) table ≡ missing
+        → stored-in (from-index (ltb 256 index) index) variant ≡ stored → queue-has variant ≡ queued → (r : Serving)
+        → r ≡ said-at-once (future-by missing stored queued) s → left r ≡ asks-future table index variant v
+    comes-as missing stored queued e1 e2 e3 r er =
+        ap left er ∙ (λ i. left (said-at-once (future-by (sym e1 i) (sym e2 i) (sym e3 i)) s))
 
     pub comes-missing : s .course .count ≤ table → (r : Serving) → r ≡ said-at-once (saying.Refused 10) s
         → stage r w replies ≡ asks-future table index variant (stage s w replies)
-    comes-missing h r er = comes-as true _ _ _ (le-leb (s .course .count) table h) refl refl refl r er
+    comes-missing h r er = comes-as true _ _ (le-leb (s .course .count) table h) refl refl r er
 
     module _ (made : table < s .course .count) where
       made-test : leb (s .course .count) table ≡ false
       made-test = lt-leb (s .course .count) table made
 
-      pub comes-large : 65535 < variant → (r : Serving) → r ≡ said-at-once (saying.Future false) s
+      -- no variant is above 65535
+      pub comes-large : 65535 < variant → ((q : ℕ) → getD (w .strands .variant) q 0 < 65536)
+          → ((q : ℕ) → getD (w .answers .variant) q 0 < 65536) → (r : Serving) → r ≡ said-at-once (saying.Future false) s
           → stage r w replies ≡ asks-future table index variant (stage s w replies)
-      comes-large h r er = comes-as false true _ _ made-test (lt-ltb 65535 variant h) refl refl r er
+      comes-large h small small′ r er =
+          let a = w .answers in
+          let z = w .strands in
+          comes-as false false false made-test
+          (found-none (numbers.numbered false (a .variant) variant (a .key) 0)
+          (λ q. ne-eqb (getD (a .variant) q 0) variant (λ e. omega (arith, e, h, small′ q)))
+          (drop (from-index (ltb 256 index) index) (ring-of (a .places .next) (a .places .tail) (a .places .len) (table % 256))))
+          (found-none (numbers.numbered false (z .variant) variant (z .time) 0)
+          (λ q. ne-eqb (getD (z .variant) q 0) variant (λ e. omega (arith, e, h, small q)))
+          (ring-of (z .places .next) (z .places .tail) (z .places .len) (table % 256))) r er
 
       -- whether an answer is stored from there on
       module _ (small : variant ≤ 65535) (from : ℕ) (is-from : from ≡ from-index (ltb 256 index) index) (stored : Bool)
           (is : stored ≡ stored-from (table % 256) from (variant % 65536) w) where
-        comes-stored-as : (x queued : Bool) → stored ≡ x → queue-has ≡ queued → (r : Serving)
-            → r ≡ said-at-once (future-by false false x queued) s → left r ≡ asks-future table index variant v
+        same-variant : variant % 65536 ≡ variant
+        same-variant = mod-eq-of-lt (omega arith)
+
+        comes-stored-as : (x queued : Bool) → stored ≡ x → queue-has variant ≡ queued → (r : Serving)
+            → r ≡ said-at-once (future-by false x queued) s → left r ≡ asks-future table index variant v
         comes-stored-as x queued e =
-            comes-as false false x queued made-test (le-ltb 65535 variant small) (sym (ap stored-in is-from) ∙ sym is ∙ e)
+            comes-as false x queued made-test (sym (ap₂ stored-in is-from same-variant) ∙ sym is ∙ e)
 
         pub comes-stored : stored ≡ true → (r : Serving) → r ≡ said-at-once (saying.Future true) s
             → stage r w replies ≡ asks-future table index variant (stage s w replies)
@@ -228,7 +252,7 @@ module _ (s : Serving) (w : Lent) (replies : List ℕ) where
 
         pub comes-queued : stored ≡ false → (queued : Bool) → queued ≡ queued-in (table % 256) (variant % 65536) w → (r : Serving)
             → r ≡ said-at-once (saying.Future queued) s → stage r w replies ≡ asks-future table index variant (stage s w replies)
-        comes-queued e queued eq r er = comes-stored-as false queued e (sym eq) r er
+        comes-queued e queued eq r er = comes-stored-as false queued e (sym (ap queue-has same-variant) ∙ sym eq) r er
 
   -- ONE OR THE OTHER
   module _ (b : Book) (clock-limit : ℕ) (calls : List ℕ) where

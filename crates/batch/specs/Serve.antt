@@ -180,11 +180,10 @@ abbrev pub from-index : (above : Bool) → (index : ℕ) → ℕ
 from-index true index = 256
 from-index false index = index
 
-abbrev pub future-by : (missing large stored queued : Bool) → Said
-future-by true large stored queued = saying.Refused 10
-future-by false true stored queued = saying.Future false
-future-by false false true queued = saying.Future true
-future-by false false false queued = saying.Future queued
+abbrev pub future-by : (missing stored queued : Bool) → Said
+future-by true stored queued = saying.Refused 10
+future-by false true queued = saying.Future true
+future-by false false queued = saying.Future queued
 
 abbrev pub stored-from : (t from variant : ℕ) → Lent → Bool
 stored-from t from variant w =
@@ -201,9 +200,8 @@ queued-in t variant w =
 abbrev pub future-said : (table index variant : ℕ) → Stage → Said
 future-said table index variant v =
     let w = v .lent in
-    future-by (leb (v .serving .course .count) table) (ltb 65535 variant)
-    (stored-from (table % 256) (from-index (ltb 256 index) index) (variant % 65536) w)
-    (queued-in (table % 256) (variant % 65536) w)
+    future-by (leb (v .serving .course .count) table) (stored-from (table % 256) (from-index (ltb 256 index) index) variant w)
+    (queued-in (table % 256) variant w)
 
 abbrev pub asks-future : (table index variant : ℕ) → Stage → Stage
 asks-future table index variant v = stage (said-at-once (future-said table index variant v) (v .serving)) (v .lent) (v .replies)

@@ -26,8 +26,9 @@ use stores::tables::index_of;
 use strands::times::TimeStamp;
 ghost use mathlib.Core.Path.{_≡_};
 ghost use mathlib.Core.List.{List};
-ghost use Prim.Native.Nat.{ℕ, _+_};
+ghost use Prim.Native.Nat.{ℕ, _+_, _<_};
 ghost use lib.Dec.{ltb};
+ghost use lib.ListN.{getD};
 ghost use Rattle.definitions.specs.Book.{bit1};
 ghost use Rattle.book.specs.Access.{entry};
 ghost use Rattle.strands.specs.declared.Answer.{Answer};
@@ -404,6 +405,15 @@ fn from_index(index: u64) -> usize
     index as usize
 }
 
+fn nothing() {}
+
+// Numbers of 16 bits are below 65536: a proof learns it of a lent array by handing it on as a slice.
+fn all_small(numbers: &[u16])
+    ensures { λ u. ⌜ ((q : ℕ) → getD (now (numbers .entry)) q 0 < 65536) ⌝ }
+{
+    nothing()
+}
+
 // `any_future_answer`, refused with 10 alone.
 fn serve_future<'a>(
     s: Serving,
@@ -440,6 +450,8 @@ fn serve_future<'a>(
         return at_once(s, Said::Refused(10));
     }
     if call.c > 65535 {
+        all_small(variant);
+        all_small(answer_variant);
         return at_once(s, Said::Future(false));
     }
     let t = (call.a % 256) as u8;

@@ -38,18 +38,27 @@ returns c =
     comes-missing (a .s) (lent l goals coinductives flounderings modes strands flags waiting wanted answers ambiguities stack clock) replies
     (a .call .a) (a .call .b) (a .call .c) (test .if1 .taken) (c .at-once .result) (c .at-once .ensures)
 
+all-small-requires : tie.Need-all-small-requires
+all-small-requires c κs = search needs
+
+all-small-requires-2 : tie.Need-all-small-requires-2
+all-small-requires-2 c κs = search needs
+
 at-once-requires-2 : tie.Need-at-once-requires-2
 at-once-requires-2 c κs = search needs
 
 returns-2 : tie.Need-returns-2
 returns-2 c =
-    let large = c .before in
+    let answers = c .before in
+    let strands = answers .before .before in
+    let large = strands .before .before in
     let made = large .before .before in
     let l = made .before .before .before in
     let a = l .args in
-    λ goals coinductives flounderings modes strands flags waiting wanted answers ambiguities stack clock replies.
-    comes-large (a .s) (lent l goals coinductives flounderings modes strands flags waiting wanted answers ambiguities stack clock) replies
-    (a .call .a) (a .call .b) (a .call .c) (made .if1 .left) (large .if2 .taken) (c .at-once2 .result) (c .at-once2 .ensures)
+    λ goals coinductives flounderings modes owned flags waiting wanted stored ambiguities stack clock replies.
+    comes-large (a .s) (lent l goals coinductives flounderings modes owned flags waiting wanted stored ambiguities stack clock) replies
+    (a .call .a) (a .call .b) (a .call .c) (made .if1 .left) (large .if2 .taken) (strands .all-small .ensures)
+    (answers .all-small2 .ensures) (c .at-once2 .result) (c .at-once2 .ensures)
 
 cast-t : tie.Need-cast-t
 cast-t c = search needs
@@ -108,6 +117,8 @@ serve-future-spec =
     (tie.spec
     at-once-requires
     returns
+    all-small-requires
+    all-small-requires-2
     at-once-requires-2
     returns-2
     cast-t
