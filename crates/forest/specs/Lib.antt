@@ -4,3 +4,4 @@ pub mod Open
 pub mod Searches
 pub mod AnyFutureAnswer
 pub mod Sittings
+pub mod ServeCalls
