@@ -1,7 +1,7 @@
 -- The calls that are handed over, one after the other, are a sitting; and the way out of `serve_calls` over variables.
 use Prim.Native.Nat.{ℕ, suc, _-_, _≤_, _<_, min}
 use native.Mathlib.Omega.{arith}
-use mathlib.Core.Bool.{Bool}
+use mathlib.Core.Bool.{Bool, false}
 use mathlib.Core.List.{List, [], _∷_, map}
 use mathlib.Core.Path.{_≡_, refl, sym, ap, ap₂, subst, _∙_}
 use lib.Dec.{eqb}
@@ -11,9 +11,9 @@ use Rattle.definitions.specs.{MAX}
 use Rattle.definitions.specs.Calls as said
 use Rattle.stores.specs.Stack.{blank-stack}
 use Rattle.stores.proofs.StackViews.{blank-stack-sound}
-use Rattle.control.specs.PerformStrand.{Lent}
+use Rattle.control.specs.PerformDeed.{stack-of}
 use Rattle.search.specs.RootAnswer.{one-more-by, one-more}
-use Rattle.search.specs.Walk.{Walk, numbered, Comes}
+use Rattle.search.specs.Walk.{Walk, numbered, book-of, Comes}
 use Rattle.batch.specs.declared.calls.Serving.{Serving}
 use Rattle.batch.specs.Calls.{call-at, reply-put}
 use Rattle.batch.specs.Serve.{Stage, stage, told}
@@ -97,22 +97,34 @@ module _ (f : Forest) (calls : List ℕ) (fit : (i : ℕ) → getD calls i 0 ≤
       and-then v u (began v) x (ltb-true (v .serving .at) n e) c
       (sitting rest refl (subst Sound (sym (c .leaves)) (left-sound (forest-at f v) (c .tells) o (c .gives))) (c .idle))
 
--- THE WAY OUT of `serve_calls`: from the forest's own stage on, with nothing on the stack
-pub calls-served : (f : Forest) (count n : ℕ) (calls before : List ℕ) → n ≡ min count 256 → ((i : ℕ) → getD calls i 0 ≤ MAX)
-    → (from : Serving) → from ≡ first-serving f → (s : Serving) (w : Lent) (after : List ℕ)
-    → Serves (book-in f) (f .«clock_limit») calls n (stage from (lent-with f blank-stack) before) (stage s w after)
-    → Sound f → ServeCallsSays f count calls before (forest-of f (s .course) w) after
-calls-served f count n calls before clamped fit from is s w after h o =
-    let most : n ≤ 256 = omega arith in
-    let all : n - 0 ≡ min count 256 = omega arith in
-    let x = sitting f calls fit n most
-    (subst (λ (z : Serving). Serves (book-in f) (f .«clock_limit») calls n (stage z (lent-with f blank-stack) before) (stage s w after))
-    is h) refl o (record { sound = blank-stack-sound; empty = refl }) in
-    record {
-      told = x .tells;
-      sits = x .sits;
-      asks = x .asks ∙ ap (all-asked calls 0) all;
-      replies = x .replies;
-      left = x .leaves;
-      sound = x .sound;
-    }
+-- THE WAY OUT of `serve_calls`: from the forest's own stage on, with nothing on the stack, to the forest that carries the last course
+module _ (f : Forest) (count n : ℕ) (clamped : n ≡ min count 256) (calls before : List ℕ) (fit : (i : ℕ) → getD calls i 0 ≤ MAX)
+    (from : Serving) (is : from ≡ first-serving f) (s : Serving) (r : Forest) (after tables clocks positives negatives actives : List ℕ) where
+  abbrev serves : (clauses : ℕ) → Serving → Type 0
+  serves clauses z =
+      Serves (book-of (f .goals) clauses (f .«goal_flags») (f .«goal_first») (f .«goal_len») (f .«clause_variant») (f .«clause_flags»)
+      (f .«clause_len») (f .«literal_kind») (f .«literal_goal») (f .«literal_want»)) (f .«clock_limit») calls n
+      (stage z (lent-with f blank-stack) before)
+      (stage s (lent-with r (stack-of (s .course .depth) tables clocks positives negatives actives)) after)
+
+  pub calls-served : ((clauses : ℕ) → from .busy ≡ false
+      → Serves (book-of (f .goals) clauses (f .«goal_flags») (f .«goal_first») (f .«goal_len») (f .«clause_variant») (f .«clause_flags»)
+      (f .«clause_len») (f .«literal_kind») (f .«literal_goal») (f .«literal_want»)) (f .«clock_limit») calls n
+      (stage from (lent-with f blank-stack) before)
+      (stage s (lent-with r (stack-of (s .course .depth) tables clocks positives negatives actives)) after))
+      → r ≡ forest-of f (s .course) (lent-with r (stack-of (s .course .depth) tables clocks positives negatives actives))
+      → Sound f → ServeCallsSays f count calls before r after
+  calls-served h e o =
+      let most : n ≤ 256 = omega arith in
+      let all : n - 0 ≡ min count 256 = omega arith in
+      let x = sitting f calls fit n most
+      (subst (serves (f .clauses)) is (h (f .clauses) (ap (λ (z : Serving). z .busy) is))) refl o
+      (record { sound = blank-stack-sound; empty = refl }) in
+      record {
+        told = x .tells;
+        sits = x .sits;
+        asks = x .asks ∙ ap (all-asked calls 0) all;
+        replies = x .replies;
+        left = e ∙ x .leaves;
+        sound = subst Sound (sym e) (x .sound);
+      }
