@@ -11,21 +11,17 @@ use lib.ListN.{drop, getD, length, drop-of-length-le}
 use borrow.Author.Tests.{le-leb, lt-leb, ne-eqb}
 use Rattle.definitions.specs.Forest as said
 use Rattle.definitions.specs.Refusal.{Refusable, accepted, _refuses_, unless}
-use Rattle.stores.specs.Places.{ring, found-or, found-in, numbered}
+use Rattle.stores.specs.Places.{ring, found-in, numbered}
 use Rattle.stores.proofs.PlacesViews.{length-ring}
 use Rattle.stores.proofs.TableFuture.{future-view}
 use Rattle.control.specs.Stores.{Stores, first-strands}
 use Rattle.search.proofs.StoredAnswers.{answers-few}
+use Rattle.batch.proofs.ServeCases.{found-none}
 use Rattle.forest.specs.declared.Forest.{Forest}
 use Rattle.forest.specs.declared.any_future_answer.Future.the-variants as futures
 use Rattle.forest.specs.AnyFutureAnswer.{FutureSays}
 use Rattle.forest.specs.View.{stores-in, view, Sound}
 use Rattle.forest.proofs.Running.{tables-counted}
-
--- nothing is found where no place passes
-found-none : (test : ℕ → Bool) → ((q : ℕ) → test q ≡ false) → (l : List ℕ) → ltb (found-in test l) 256 ≡ false
-found-none test never [] = refl
-found-none test never (q ∷ l) = ap (λ (b : Bool). ltb (found-or b q (found-in test l)) 256) (never q) ∙ found-none test never l
 
 -- an index, or 256 in place of a larger one
 abbrev pub Within : (i from : ℕ) → Type 0
@@ -38,6 +34,10 @@ drop-alike l from i few came =
     (λ c. ap (λ (n : ℕ). drop n l) (c .1) ∙ drop-of-length-le l {i = 256} few
     ∙ sym (drop-of-length-le l {i = i} (omega (arith, few, c .0))))
     (λ c. ap (λ (n : ℕ). drop n l) (c .1)) came
+
+-- a variant of 16 bits
+pub low-variant : (variant : ℕ) → variant ≤ 65535 → variant % 65536 ≡ variant
+low-variant variant low = mod-eq-of-lt (omega (arith, low))
 
 module _ (f : Forest) (table index variant : ℕ) where
   abbrev z : Stores
@@ -85,33 +85,31 @@ module _ (f : Forest) (table index variant : ℕ) where
         (λ q. ne-eqb (getD (f .variant) q 0) variant (λ e. omega (arith, e, large, small q)))
         (ring (z .strands .places) table)))
 
-    module _ (low : variant ≤ 65535) (from : ℕ) (came : Within index from) where
+    -- the variant, by a number that is the same
+    module _ (v : ℕ) (same-variant : v ≡ variant) (from : ℕ) (came : Within index from) where
       same-table : Sound f → table % 256 ≡ table
       same-table s = mod-eq-of-lt (omega (arith, made, s .sounds .tables .few))
-
-      same-variant : variant % 65536 ≡ variant
-      same-variant = mod-eq-of-lt (omega (arith, low))
 
       few : Sound f → length (ring (z .answers .places) table) ≤ 256
       few s = omega (arith, length-ring (z .answers .places) table, answers-few z (s .sounds) table made)
 
-      same-stored : Sound f → stored-at (table % 256) from (variant % 65536) ≡ stored-at table index variant
+      same-stored : Sound f → stored-at (table % 256) from v ≡ stored-at table index variant
       same-stored s =
           let a = z .answers in
-          ap₂ (λ (t v : ℕ). stored-at t from v) (same-table s) same-variant
+          ap₂ (λ (t x : ℕ). stored-at t from x) (same-table s) same-variant
           ∙ ap (λ (l : List ℕ). ltb (found-in (numbered false (a .variant) variant (a .key) 0) l) 256)
           (drop-alike (ring (a .places) table) from index (few s) came)
 
       -- an answer is stored
-      pub says-stored : (stored : Bool) → stored ≡ stored-at (table % 256) from (variant % 65536) → stored ≡ true
+      pub says-stored : (stored : Bool) → stored ≡ stored-at (table % 256) from v → stored ≡ true
           → FutureSays f table index variant (futures.Found true)
       says-stored stored is e = found-as true
           (λ s. in-view s ∙ ap (λ (b : Bool). b || queued-at table variant) (sym (same-stored s) ∙ sym is ∙ e))
 
       -- none is, and the queue is looked through
-      pub says-queued : (stored : Bool) → stored ≡ stored-at (table % 256) from (variant % 65536) → stored ≡ false
-          → (queued : Bool) → queued ≡ queued-at (table % 256) (variant % 65536) → FutureSays f table index variant (futures.Found queued)
+      pub says-queued : (stored : Bool) → stored ≡ stored-at (table % 256) from v → stored ≡ false
+          → (queued : Bool) → queued ≡ queued-at (table % 256) v → FutureSays f table index variant (futures.Found queued)
       says-queued stored is e queued eq = found-as queued
           (λ s. in-view s
           ∙ ap₂ (λ (b c : Bool). b || c) (sym (same-stored s) ∙ sym is ∙ e)
-          (sym (ap₂ (λ (t v : ℕ). queued-at t v) (same-table s) same-variant) ∙ sym eq))
+          (sym (ap₂ (λ (t x : ℕ). queued-at t x) (same-table s) same-variant) ∙ sym eq))

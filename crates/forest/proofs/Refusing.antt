@@ -19,8 +19,9 @@ use Rattle.stores.proofs.TablesViews.{table-there, floundered-view}
 use Rattle.control.specs.Stores.{Stores, first-strands}
 use Rattle.control.proofs.Stores.{table-held}
 use Rattle.search.proofs.StoredAnswers.{answers-counted}
+use Rattle.batch.specs.Refusal.{refusal-by}
 use Rattle.forest.specs.declared.Forest.{Forest}
-use Rattle.forest.specs.Searches.{refusal-by, refusal-of}
+use Rattle.forest.specs.Searches.{refusal-of}
 use Rattle.forest.specs.View.{stores-in, view, Sound}
 use Rattle.forest.proofs.Running.{tables-counted}
 

@@ -1,5 +1,5 @@
--- What is run from a sound forest on: a search comes to the definitions' `root-answer`, a peek to their `peek-rounds`, and the forest that
--- is left is sound.
+-- What is run from a sound forest on, with any stack that nothing is on: a search comes to the definitions' `root-answer`, a peek to their
+-- `peek-rounds`, and the forest that is left is sound, with nothing on the stack that is left.
 use Prim.Native.Nat.{ℕ, _≤_, _<_}
 use native.Mathlib.Omega.{arith}
 use mathlib.Core.Bool.{true, false}
@@ -12,8 +12,7 @@ use Rattle.definitions.specs.Turn.{Searched, root-answer}
 use Rattle.laws.proofs.Spans.{length-span}
 use Rattle.asserts.proofs.Unwinding.{Ended}
 use Rattle.stores.specs.declared.stack.Stack.{Stack}
-use Rattle.stores.specs.Sound.{SoundStrands}
-use Rattle.stores.specs.Stack.{blank-stack}
+use Rattle.stores.specs.Sound.{SoundStrands, SoundStack}
 use Rattle.stores.specs.View.{held-table, active-places}
 use Rattle.stores.proofs.StackViews.{blank-stack-sound}
 use Rattle.control.specs.PerformDeed.{stack-of}
@@ -28,7 +27,7 @@ use Rattle.search.specs.Walk.{Walk, walk}
 use Rattle.search.proofs.Answering.{search-answers, peek-answers}
 use Rattle.forest.specs.declared.Forest.{Forest}
 use Rattle.forest.specs.declared.searches.Ran.{Ran}
-use Rattle.forest.specs.Searches.{course-in, Carries, Runs}
+use Rattle.forest.specs.Searches.{course-in, Carries, RunsWith}
 use Rattle.forest.specs.View.{book-in, lent-with, stores-with, stores-in, view, Sound}
 
 pub tables-counted : (f : Forest) → length (view f .tables) ≡ f .count
@@ -55,13 +54,33 @@ rests-bare g k o =
       forest = o .forest;
     }
 
+-- and the other way round
+pub rests-with : (g : Forest) (k : Stack) → SoundStack k → k .depth ≡ 0 → Sound g → Rests (stores-with g k)
+rests-with g k s e o =
+    let z = stores-in g in
+    record {
+      book = o .book;
+      sounds = record {
+        tables = o .sounds .tables;
+        strands =
+            subst (λ (n : ℕ). SoundStrands (first-strands (book-in g)) (z .strands) (g .count) (active-places (k .active) n)) (sym e)
+            (o .sounds .strands);
+        answers = o .sounds .answers;
+        stack = s;
+        made = λ i h. absurd (omega (arith, e, h));
+      };
+      empty = e;
+      forest = o .forest;
+    }
+
+-- the stack that a course leaves of these entries
+abbrev pub stack-left : Course → Stack → Stack
+stack-left c k = stack-of (c .depth) (k .table) (k .clock) (k .positive) (k .negative) (k .active)
+
 module _ (f : Forest) (asked : Asked) (same : asked .«clock_limit» ≡ f .«clock_limit») where
   -- WHAT IS LEFT: the stores that a walk lends are those of the forest that carries its course
   module _ (c : Course) (g : Forest) (x : Carries f c g) (k : Stack) where
-    abbrev stack-left : Stack
-    stack-left = stack-of (c .depth) (k .table) (k .clock) (k .positive) (k .negative) (k .active)
-
-    left-is : stores-with g stack-left ≡ stores-of (book-in f) asked (walk c (lent-with g k))
+    left-is : stores-with g (stack-left c k) ≡ stores-of (book-in f) asked (walk c (lent-with g k))
     left-is =
         let limit : g .«clock_limit» ≡ asked .«clock_limit» = x .limit ∙ sym same in
         λ i. record {
@@ -89,7 +108,7 @@ module _ (f : Forest) (asked : Asked) (same : asked .«clock_limit» ≡ f .«cl
             ambiguous = g .«answer_ambiguous»;
             places = record { next = g .«answer_next»; tail = g .«answer_tail»; len = g .«answer_len»; top = x .answer-used i };
           };
-          stack = stack-left;
+          stack = stack-left c k;
           clock-limit = limit i;
           mark = x .mark i;
           clock = x .clock i;
@@ -98,28 +117,35 @@ module _ (f : Forest) (asked : Asked) (same : asked .«clock_limit» ≡ f .«cl
     left-view : view g ≡ forest (stores-of (book-in f) asked (walk c (lent-with g k)))
     left-view = ap forest left-is
 
-    left-sound : Rests (stores-of (book-in f) asked (walk c (lent-with g k))) → Sound g
-    left-sound o = rests-bare g stack-left (subst Rests (sym left-is) o)
+    left-rests : Rests (stores-of (book-in f) asked (walk c (lent-with g k))) → Rests (stores-with g (stack-left c k))
+    left-rests o = subst Rests (sym left-is) o
 
   -- WHAT IT IS RUN FROM
-  module _ (few : asked .limit ≤ MAX) (no-turn : is-turn (asked .mode) ≡ false) (index more : ℕ) (o : Sound f)
-      (x : Ended (f .goals) (asked .table) index (view f)) where
+  module _ (few : asked .limit ≤ MAX) (no-turn : is-turn (asked .mode) ≡ false) (index more : ℕ) (k : Stack)
+      (o : Rests (stores-with f k)) (x : Ended (f .goals) (asked .table) index (view f)) where
     abbrev first : Course
     first = course-in f index more
 
     abbrev lent-first : Lent
-    lent-first = lent-with f blank-stack
+    lent-first = lent-with f k
 
     abbrev first-walk : Walk
     first-walk = walk first lent-first
 
-    first-is : stores-in f ≡ stores-of (book-in f) asked first-walk
+    first-is : stores-with f k ≡ stores-of (book-in f) asked first-walk
     first-is = λ i. record {
       book = book-in f;
       tables = lent-first .tables;
       strands = lent-first .strands;
       answers = lent-first .answers;
-      stack = blank-stack;
+      stack = record {
+        depth = o .empty i;
+        table = k .table;
+        clock = k .clock;
+        positive = k .positive;
+        negative = k .negative;
+        active = k .active;
+      };
       clock-limit = sym same i;
       mark = f .mark;
       clock = f .clock;
@@ -132,7 +158,7 @@ module _ (f : Forest) (asked : Asked) (same : asked .«clock_limit» ≡ f .«cl
     first-ended = subst (λ (z : Stores). Ended (f .goals) (asked .table) index (forest z)) first-is x
 
     module _ (r : Ran)
-        (h : Runs f asked (start asked (f .floundered) (f .«answer_next») (f .«answer_tail») (f .«answer_len») (f .«answer_variant»)
+        (h : RunsWith f k asked (start asked (f .floundered) (f .«answer_next») (f .«answer_tail») (f .«answer_len») (f .«answer_variant»)
         (f .«answer_key») (f .«answer_ambiguous») (course-in f index more)) r) where
       abbrev last : Walk
       last = walk (r .course) (lent-with (r .forest) (h .stack))
@@ -152,13 +178,14 @@ module _ (f : Forest) (asked : Asked) (same : asked .«clock_limit» ≡ f .«cl
       -- A SEARCH
       pub search-runs : is-peek (asked .mode) ≡ false
           → (root-answer (asked .limit) (asked .table) index (view f)
-          ≡ (record { ending = ending-means (r .course .ending); turns = r .course .done; forest = view (r .forest) })) × Sound (r .forest)
+          ≡ (record { ending = ending-means (r .course .ending); turns = r .course .done; forest = view (r .forest) }))
+          × Rests (stores-with (r .forest) (stack-left (r .course) (h .stack)))
       search-runs no-peek =
           let a = search-answers (book-in f) asked few no-turn first lent-first first-rests first-ended no-peek {u = last} (h .comes) in
           let v = left-view (r .course) (r .forest) (h .carries) (h .stack) in (
             ap (λ (z : Stores). root-answer (asked .limit) (asked .table) index (forest z)) first-is ∙ a .0
                 ∙ ap the-search (sym v),
-            left-sound (r .course) (r .forest) (h .carries) (h .stack) (a .2),
+            left-rests (r .course) (r .forest) (h .carries) (h .stack) (a .2),
           )
 
       -- A PEEK
@@ -170,12 +197,12 @@ module _ (f : Forest) (asked : Asked) (same : asked .«clock_limit» ≡ f .«cl
             turns = r .course .done;
             exceeded = r .course .exceeded;
             forest = view (r .forest);
-          })) × Sound (r .forest)
+          })) × Rests (stores-with (r .forest) (stack-left (r .course) (h .stack)))
       peek-runs peeks rounds =
           let a = peek-answers (book-in f) asked few no-turn first lent-first first-rests first-ended peeks (omega arith) {u = last}
           (h .comes) in
           let v = left-view (r .course) (r .forest) (h .carries) (h .stack) in (
             ap (λ (z : Stores). peek-rounds more (asked .limit) 0 (asked .table) index (forest z)) first-is ∙ a .0
                 ∙ ap the-peek (sym v),
-            left-sound (r .course) (r .forest) (h .carries) (h .stack) (a .2),
+            left-rests (r .course) (r .forest) (h .carries) (h .stack) (a .2),
           )

@@ -15,22 +15,23 @@ use Rattle.definitions.specs.Turn as turns
 use Rattle.definitions.specs.Turn.{root-answer}
 use Rattle.definitions.proofs.Refusal.{not-accepted}
 use Rattle.asserts.proofs.Unwinding.{Ended}
+use Rattle.stores.specs.declared.stack.Stack.{Stack}
 use Rattle.search.specs.declared.course.Asked.{Asked}
 use Rattle.search.specs.declared.course.Ending.{Ending}
 use Rattle.search.specs.declared.course.Ending.the-variants as endings
 use Rattle.search.specs.declared.course.Mode.{Mode}
 use Rattle.search.specs.declared.course.Mode.the-variants as modes
-use Rattle.search.specs.Means.{ending-means}
+use Rattle.search.specs.Means.{Rests, ending-means}
 use Rattle.search.specs.RootAnswer.{start}
 use Rattle.forest.specs.declared.Forest.{Forest}
 use Rattle.forest.specs.declared.searches.Outcome.{Outcome}
 use Rattle.forest.specs.declared.searches.Outcome.the-variants as outcomes
 use Rattle.forest.specs.declared.searches.Ran.{Ran}
-use Rattle.forest.specs.Searches.{outcome-of, reply-by, refusal-of, course-in, Runs, SearchSays, PeekSays}
-use Rattle.forest.specs.View.{view, Sound}
+use Rattle.forest.specs.Searches.{outcome-of, reply-by, refusal-of, course-in, RunsWith, SearchSays, PeekSays}
+use Rattle.forest.specs.View.{stores-with, view, Sound}
 use Rattle.forest.proofs.Refusing.{refused-or, refused-some, refused-none, marked-refused, table-small}
 use Rattle.forest.proofs.Refusing.{refusal-is, table-made, asked-ended}
-use Rattle.forest.proofs.Running.{search-runs, peek-runs}
+use Rattle.forest.proofs.Running.{stack-left, rests-bare, search-runs, peek-runs}
 
 -- WHAT AN ENDING MEANS
 pub reply-is : {A : Type 0} (e : Ending) (with : turns.Ending → A) → reply-by (outcome-of e) with ≡ accepted (with (ending-means e))
@@ -50,9 +51,9 @@ never-refused e n h =
 abbrev pub asked-in : Forest → Mode → (table limit : ℕ) → Asked
 asked-in f mode table limit = record { mode = mode; table = table % 256; limit = limit; «clock_limit» = f .«clock_limit» }
 
-abbrev pub RunsFrom : Forest → Asked → (index more : ℕ) → Ran → Type 0
-RunsFrom f asked index more r =
-    Runs f asked (start asked (f .floundered) (f .«answer_next») (f .«answer_tail») (f .«answer_len») (f .«answer_variant»)
+abbrev pub RunsFrom : Forest → Stack → Asked → (index more : ℕ) → Ran → Type 0
+RunsFrom f k asked index more r =
+    RunsWith f k asked (start asked (f .floundered) (f .«answer_next») (f .«answer_tail») (f .«answer_len») (f .«answer_variant»)
     (f .«answer_key») (f .«answer_ambiguous») (course-in f index more)) r
 
 -- nothing is refused by the first three, and then the forest is not marked
@@ -93,13 +94,15 @@ module _ (f : Forest) (t i limit n : ℕ) (is : n ≡ refusal-of f t i) where
       marked = λ m. unmarked f t i n is passes m;
     }
 
-    module _ (some : limit ≡ 0 → ⊥) (few : limit ≤ MAX) (r : Ran) (h : RunsFrom f (asked-in f modes.Search t limit) i 0 r) where
-      searches-so : Sound f → (root-answer limit t i (view f)
-          ≡ (record { ending = ending-means (r .course .ending); turns = r .course .done; forest = view (r .forest) })) × Sound (r .forest)
+    module _ (some : limit ≡ 0 → ⊥) (few : limit ≤ MAX) (k : Stack) (rests : Sound f → Rests (stores-with f k)) (r : Ran)
+        (h : RunsFrom f k (asked-in f modes.Search t limit) i 0 r) where
+      pub searches-so : Sound f → (root-answer limit t i (view f)
+          ≡ (record { ending = ending-means (r .course .ending); turns = r .course .done; forest = view (r .forest) }))
+          × Rests (stores-with (r .forest) (stack-left (r .course) (h .stack)))
       searches-so o =
           let there = table-made f o t i (none-refuses f t i n is passes) in
           let small = table-small f o t i there in
-          let x = search-runs f (asked-in f modes.Search t limit) refl few refl i 0 o
+          let x = search-runs f (asked-in f modes.Search t limit) refl few refl i 0 k (rests o)
           (subst (λ (j : ℕ). Ended (f .goals) j i (view f)) (sym small) (asked-ended f o t i (none-refuses f t i n is passes))) r h refl in
           (ap (λ (j : ℕ). root-answer limit j i (view f)) (sym small) ∙ x .0, x .1)
 
@@ -109,7 +112,7 @@ module _ (f : Forest) (t i limit n : ℕ) (is : n ≡ refusal-of f t i) where
         says = λ o.
             ap (λ (x : Outcome). reply-by x told) q ∙ reply-is (r .course .ending) told ∙ ap accepted (sym (searches-so o .0))
             ∙ sym (goes-on o ∙ ap (λ (b : Bool). unless (b refuses 12 ∷ []) found) (ne-eqb limit 0 some));
-        sound = λ o. searches-so o .1;
+        sound = λ o. rests-bare (r .forest) (stack-left (r .course) (h .stack)) (searches-so o .1);
         unchanged = λ k e. absurd (never-refused (r .course .ending) k (sym q ∙ e));
         marked = λ m. unmarked f t i n is passes m;
       }
@@ -164,19 +167,19 @@ module _ (f : Forest) (t i rounds limit n : ℕ) (is : n ≡ refusal-of f t i) w
           → PeekSays f t i rounds limit (record { outcome = outcomes.Refused 12; index = i; turns = 0; exceeded = 0; forest = f })
       peek-limit e = by-limits (limits true (eq-eqb limit 0 e))
 
-      module _ (some : limit ≡ 0 → ⊥) (few : limit ≤ MAX) (few-rounds : rounds ≤ MAX) (r : Ran)
-          (h : RunsFrom f (asked-in f modes.Peek t limit) i (rounds - 1) r) where
-        peeks-so : Sound f → (peek-rounds (rounds - 1) limit 0 t i (view f) ≡ (record {
+      module _ (some : limit ≡ 0 → ⊥) (few : limit ≤ MAX) (few-rounds : rounds ≤ MAX) (k : Stack)
+          (rests : Sound f → Rests (stores-with f k)) (r : Ran) (h : RunsFrom f k (asked-in f modes.Peek t limit) i (rounds - 1) r) where
+        pub peeks-so : Sound f → (peek-rounds (rounds - 1) limit 0 t i (view f) ≡ (record {
           ending = ending-means (r .course .ending);
           index = r .course .index;
           turns = r .course .done;
           exceeded = r .course .exceeded;
           forest = view (r .forest);
-        })) × Sound (r .forest)
+        })) × Rests (stores-with (r .forest) (stack-left (r .course) (h .stack)))
         peeks-so o =
             let there = table-made f o t i (none-refuses f t i n is passes) in
             let small = table-small f o t i there in
-            let x = peek-runs f (asked-in f modes.Peek t limit) refl few refl i (rounds - 1) o
+            let x = peek-runs f (asked-in f modes.Peek t limit) refl few refl i (rounds - 1) k (rests o)
             (subst (λ (j : ℕ). Ended (f .goals) j i (view f)) (sym small) (asked-ended f o t i (none-refuses f t i n is passes))) r h refl
             (fewer rounds few-rounds) in
             (ap (λ (j : ℕ). peek-rounds (rounds - 1) limit 0 j i (view f)) (sym small) ∙ x .0, x .1)
@@ -195,7 +198,7 @@ module _ (f : Forest) (t i rounds limit n : ℕ) (is : n ≡ refusal-of f t i) w
           says = λ o.
               ap (λ (x : Outcome). reply-by x told) q ∙ reply-is (r .course .ending) told ∙ ap accepted (sym (peeks-so o .0))
               ∙ sym (peek-goes-on o ∙ ap (λ (b : Bool). unless (b refuses 12 ∷ []) peeked) (limits false (ne-eqb limit 0 some)));
-          sound = λ o. peeks-so o .1;
+          sound = λ o. rests-bare (r .forest) (stack-left (r .course) (h .stack)) (peeks-so o .1);
           unchanged = λ k e. absurd (never-refused (r .course .ending) k (sym q ∙ e));
           marked = λ m. unmarked f t i n is passes m;
         }

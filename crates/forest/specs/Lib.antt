@@ -3,3 +3,5 @@ pub mod Make
 pub mod Open
 pub mod Searches
 pub mod AnyFutureAnswer
+pub mod Sittings
+pub mod ServeCalls

@@ -1,16 +1,13 @@
 -- What a search and a peek say: the definitions' results, in the words of the code.
-use Prim.Native.Nat.{ℕ, _%_}
-use mathlib.Core.Bool.{Bool, true, false}
+use Prim.Native.Nat.{ℕ}
+use mathlib.Core.Bool.{false}
 use mathlib.Core.Path.{_≡_}
-use lib.Dec.{leb, ltb}
-use lib.ListN.{getD}
 use Rattle.definitions.specs.{MAX}
 use Rattle.definitions.specs.Forest as said
 use Rattle.definitions.specs.Logic as logic
 use Rattle.definitions.specs.Refusal.{Refusable, refused, accepted}
 use Rattle.definitions.specs.Turn as turns
 use Rattle.stores.specs.declared.stack.Stack.{Stack}
-use Rattle.stores.specs.Numbers.{flag-at}
 use Rattle.stores.specs.Stack.{pushed, blank-stack}
 use Rattle.control.specs.declared.perform.Flow.the-variants as flow
 use Rattle.control.specs.PerformDeed.{bare}
@@ -19,8 +16,8 @@ use Rattle.search.specs.declared.course.Asked.{Asked}
 use Rattle.search.specs.declared.course.Course.{Course}
 use Rattle.search.specs.declared.course.Ending.{Ending}
 use Rattle.search.specs.declared.course.Ending.the-variants as endings
-use Rattle.search.specs.declared.course.Mode.the-variants as modes
 use Rattle.search.specs.Walk.{Walk, walk, Comes}
+use Rattle.batch.specs.Refusal.{refusal-in}
 use Rattle.forest.specs.declared.Forest.{Forest}
 use Rattle.forest.specs.declared.searches.Outcome.{Outcome}
 use Rattle.forest.specs.declared.searches.Outcome.the-variants as outcomes
@@ -74,17 +71,8 @@ pub record PeekSays (f : Forest) (table index rounds limit : ℕ) (r : Peeked) :
   pub marked : (f .mark ≡ 0 → ⊥) → r .outcome ≡ outcomes.Refused 20
 
 -- WHAT IS TESTED FIRST: 20, 10 and 11, or 0 where none of them refuses
-abbrev pub refusal-by : (marked missing floundered above : Bool) → ℕ
-refusal-by true missing floundered above = 20
-refusal-by false true floundered above = 10
-refusal-by false false true above = 0
-refusal-by false false false true = 11
-refusal-by false false false false = 0
-
 abbrev pub refusal-of : Forest → (table index : ℕ) → ℕ
-refusal-of f table index =
-    let t = table % 256 in
-    refusal-by (ltb 0 (f .mark)) (leb (f .count) table) (flag-at t (f .floundered)) (ltb (getD (f .«answer_len») t 0) index)
+refusal-of f table index = refusal-in (f .mark) (f .count) (f .floundered) (f .«answer_len») table index
 
 abbrev pub refused-peek : Forest → (index number : ℕ) → Peeked
 refused-peek f index number = record { outcome = outcomes.Refused number; index = index; turns = 0; exceeded = 0; forest = f }
@@ -166,8 +154,11 @@ pub record Carries (f : Forest) (c : Course) (g : Forest) : Type 0 where
   pub used : g .used ≡ c .used
   pub answer-used : g .«answer_used» ≡ c .«answer_used»
 
--- what is run from a course on comes to this, with some stack left over
-pub record Runs (f : Forest) (asked : Asked) (c : Course) (r : Ran) : Type 0 where
+-- what is run from a course on, with the entries of this stack, comes to this, with some stack left over
+pub record RunsWith (f : Forest) (k : Stack) (asked : Asked) (c : Course) (r : Ran) : Type 0 where
   pub stack : Stack
-  pub comes : Comes (book-in f) asked (rooted asked (lent-with f blank-stack) c) (walk (r .course) (lent-with (r .forest) stack))
+  pub comes : Comes (book-in f) asked (rooted asked (lent-with f k) c) (walk (r .course) (lent-with (r .forest) stack))
   pub carries : Carries f (r .course) (r .forest)
+
+abbrev pub Runs : Forest → Asked → Course → Ran → Type 0
+Runs f asked c r = RunsWith f blank-stack asked c r

@@ -5,6 +5,7 @@ pub mod dump;
 pub mod make;
 pub mod open;
 pub mod searches;
+pub mod serve_calls;
 
 use strands::Answer;
 use strands::Strand;

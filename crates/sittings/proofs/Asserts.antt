@@ -8,7 +8,7 @@ use Rattle.asserts.proofs.Theorem as asserted
 use Rattle.forest.specs.declared.Forest.{Forest}
 use Rattle.forest.specs.declared.searches.Outcome.{Outcome}
 use Rattle.forest.specs.View.{view}
-use Rattle.sittings.specs.Sittings.{Told, opens, searches, peeks, asks-future, left, asked}
+use Rattle.forest.specs.Sittings.{Told, opens, searches, peeks, asks-future, left, asked}
 use Rattle.sittings.specs.Sittings.{opening-reply, outcome-reply, reply}
 use Rattle.sittings.specs.Claim.{NoAssert, NoneAsserts, NeverAsserts}
 use Rattle.sittings.proofs.Calls.{told-calls, sits-calls}

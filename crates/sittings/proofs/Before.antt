@@ -5,7 +5,7 @@ use mathlib.Core.List.{List, [], _∷_}
 use mathlib.Core.Path.{_≡_, refl}
 use lib.ListN.{length}
 use Rattle.definitions.specs.Book.{clause-count}
-use Rattle.sittings.specs.Sittings.{Told, opens, searches, peeks, asks-future}
+use Rattle.forest.specs.Sittings.{Told, opens, searches, peeks, asks-future}
 use Rattle.sittings.specs.Claim.{exceeded, granted, all-granted}
 use Rattle.sittings.specs.Before as before
 use Rattle.sittings.proofs.Demand.{demand-3}

@@ -22,7 +22,8 @@ use Rattle.forest.specs.AnyFutureAnswer.{future-means}
 use Rattle.forest.specs.Open.{opened-by}
 use Rattle.forest.specs.Searches.{reply-by}
 use Rattle.forest.specs.View.{view, Sound}
-use Rattle.sittings.specs.Sittings.{Told, opens, searches, peeks, asks-future, left, Gives, Sits, asked}
+use Rattle.forest.specs.Sittings.{Told, opens, searches, peeks, asks-future, left, Gives, Sits, asked}
+use Rattle.forest.proofs.Serving.{left-sound}
 use Rattle.sittings.specs.Sittings.{opening-reply, outcome-reply, future-reply, reply}
 
 -- ONE CALL. What the definitions' `call` makes of a result on a forest F, where the code's says the same and leaves G; a call that is
@@ -116,13 +117,6 @@ call-told f (peeks table index rounds limit r) s g =
 call-told f (asks-future table index variant r) s g =
     ap (of-future (at f)) (sym (g .says s))
     ∙ future-case (view f) r
-
--- and the forest left is sound
-pub left-sound : (f : Forest) (t : Told) → Sound f → Gives f t → Sound (left f t)
-left-sound f (opens goal r) s g = g .sound s
-left-sound f (searches table index limit r) s g = g .sound s
-left-sound f (peeks table index rounds limit r) s g = g .sound s
-left-sound f (asks-future table index variant r) s g = s
 
 -- THE SITTING, in the words of the definitions
 abbrev pub told-call : Forest → Told → said.Called

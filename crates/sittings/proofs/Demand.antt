@@ -39,11 +39,12 @@ use Rattle.forest.specs.Make.{MakeSays, made-by}
 use Rattle.forest.specs.Open.{OpenSays, opened-by}
 use Rattle.forest.specs.Searches.{PeekSays, reply-by}
 use Rattle.forest.specs.View.{view, Sound}
-use Rattle.sittings.specs.Sittings.{Told, opens, searches, peeks, asks-future, left, Gives, Sits, asked}
+use Rattle.forest.specs.Sittings.{Told, opens, searches, peeks, asks-future, left, Gives, Sits, asked}
+use Rattle.forest.proofs.Serving.{left-sound}
 use Rattle.sittings.specs.Sittings.{opening-reply, outcome-reply, future-reply, reply}
 use Rattle.sittings.specs.Claim.{Names, Named, MarkedSays, is-stopped, opening-stopped, stops, OpeningSays, OutcomeSays}
 use Rattle.sittings.specs.Claim.{UnmarkedSays, TellSays, AllTell, exceeded-by, exceeded-in, exceeded, granted, all-granted, Demand3}
-use Rattle.sittings.proofs.Calls.{left-sound, at, told-call, told-calls, sits-calls}
+use Rattle.sittings.proofs.Calls.{at, told-call, told-calls, sits-calls}
 
 -- A GOAL THAT IS NAMED. An open of the definitions that gives a table is one of the code that gives it, and the other way round.
 

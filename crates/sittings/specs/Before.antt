@@ -11,7 +11,7 @@ use Rattle.definitions.specs.Refusal.{accepted}
 use Rattle.forest.specs.declared.make.Made.{Made}
 use Rattle.forest.specs.declared.make.Making.the-variants as makings
 use Rattle.forest.specs.Make.{MakeSays}
-use Rattle.sittings.specs.Sittings.{Told, Sits}
+use Rattle.forest.specs.Sittings.{Told, Sits}
 use Rattle.sittings.specs.Claim.{AllTell, exceeded}
 
 abbrev pub Demand3 : Type 0

@@ -20,7 +20,7 @@ use Rattle.forest.specs.declared.searches.Outcome.{Outcome}
 use Rattle.forest.specs.declared.searches.Outcome.the-variants as outcomes
 use Rattle.forest.specs.Make.{MakeSays}
 use Rattle.forest.specs.Open.{OpenSays}
-use Rattle.sittings.specs.Sittings.{Told, opens, searches, peeks, asks-future, left, Sits}
+use Rattle.forest.specs.Sittings.{Told, opens, searches, peeks, asks-future, left, Sits}
 
 -- an open of this goal gives this table, whatever else it gives (crate `forest`: `open` gives a result with this contract for every forest)
 abbrev pub Names : Forest → (table goal : ℕ) → Type 0

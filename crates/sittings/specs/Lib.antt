@@ -1,3 +1,4 @@
 pub mod Sittings
 pub mod Claim
 pub mod Before
+pub mod ServeCalls

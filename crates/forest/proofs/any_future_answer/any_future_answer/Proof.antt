@@ -1,5 +1,5 @@
 -- `any_future_answer` meets its contract: no such table, a variant that no number of 16 bits is, a stored answer, or the queue.
-use Prim.Native.Nat.{ℕ, _<_}
+use Prim.Native.Nat.{ℕ, _%_, _<_}
 use mathlib.Core.List.{List, map}
 use mathlib.Core.Logic.{⊎-elim, inl, inr}
 use lib.ListN.{getD}
@@ -8,7 +8,7 @@ use mir.Val.{Val}
 use denote.Array.{each}
 use denote.Plain.{UInt}
 use denote.Shadow.{shadow}
-use Rattle.forest.proofs.AnyFutureAnswerCases.{says-unmade, says-large, says-stored, says-queued}
+use Rattle.forest.proofs.AnyFutureAnswerCases.{low-variant, says-unmade, says-large, says-stored, says-queued}
 use borrow.Author.Needs.{needs, elem-fits-field}
 use Rattle.forest.proofs.any_future_answer.any_future_answer.Statement.{statement}
 use Rattle.forest.proofs.any_future_answer.any_future_answer.Tie as tie
@@ -48,7 +48,8 @@ returns-3 c =
     let test = from .before in
     let l = test .before .before in
     let a = l .args in
-    says-stored (a .f) (a .table) (a .index) (a .variant) (test .before .if1 .left) (test .if2 .left) (from .if3 .from)
+    says-stored (a .f) (a .table) (a .index) (a .variant) (test .before .if1 .left) (a .variant % 65536)
+    (low-variant (a .variant) (test .if2 .left)) (from .if3 .from)
     (⊎-elim (λ w. inl (w .0 .taken, w .1)) (λ w. inr (w .0 .left, w .1)) (from .if3 .came))
     (found .any-answer .result) (found .any-answer .ensures) (c .if4 .taken)
 
@@ -63,7 +64,8 @@ returns-4 c =
     let test = from .before in
     let l = test .before .before in
     let a = l .args in
-    says-queued (a .f) (a .table) (a .index) (a .variant) (test .before .if1 .left) (test .if2 .left) (from .if3 .from)
+    says-queued (a .f) (a .table) (a .index) (a .variant) (test .before .if1 .left) (a .variant % 65536)
+    (low-variant (a .variant) (test .if2 .left)) (from .if3 .from)
     (⊎-elim (λ w. inl (w .0 .taken, w .1)) (λ w. inr (w .0 .left, w .1)) (from .if3 .came))
     (found .any-answer .result) (found .any-answer .ensures) (none .if4 .left) (c .any-strand .result) (c .any-strand .ensures)
 

@@ -1,6 +1,7 @@
 -- `peek` says what the definitions' `peek` says, at each way out.
 use native.Mathlib.Omega.{arith}
 use mathlib.Core.Path.{sym, subst}
+use Rattle.stores.specs.Stack.{blank-stack}
 use Rattle.forest.specs.declared.searches.Peeked.{Peeked}
 use Rattle.forest.specs.Searches.{PeekSays}
 use Rattle.forest.proofs.SearchPeekCases.{peek-refused, peek-rounds-none, peek-limit, peek-ran}
@@ -72,7 +73,7 @@ returns-4 c =
     let s = n .before in
     let a = s .args in
     peek-ran (a .f) (a .table) (a .index) (a .rounds) (a .limit) (n .refusal .result) (n .refusal .ensures) (passed .if1 .left)
-    (rounds .if2 .left) (limited .if3 .left) (omega (arith, s .fits .limit)) (omega (arith, s .fits .rounds)) (ran .run .result)
+    (rounds .if2 .left) (limited .if3 .left) (omega (arith, s .fits .limit)) (omega (arith, s .fits .rounds)) blank-stack (λ o. o) (ran .run .result)
     (ran .run .ensures) (told .outcome-of .result) (told .outcome-of .ensures)
 
 pub peek-spec : {M : Type 1} → statement M

@@ -1,0 +1,4 @@
+pub mod Calls
+pub mod Refusal
+pub mod Serve
+pub mod ServeAll
