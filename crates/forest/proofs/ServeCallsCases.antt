@@ -99,7 +99,8 @@ module _ (f : Forest) (calls : List ℕ) (fit : (i : ℕ) → getD calls i 0 ≤
 
 -- THE WAY OUT of `serve_calls`: from the forest's own stage on, with nothing on the stack, to the forest that carries the last course
 module _ (f : Forest) (count n : ℕ) (clamped : n ≡ min count 256) (calls before : List ℕ) (fit : (i : ℕ) → getD calls i 0 ≤ MAX)
-    (from : Serving) (is : from ≡ first-serving f) (s : Serving) (r : Forest) (after tables clocks positives negatives actives : List ℕ) where
+    (from : Serving) (is : from ≡ first-serving f) (s : Serving) (r : Forest)
+    (after tables clocks positives negatives actives : List ℕ) where
   abbrev serves : (clauses : ℕ) → Serving → Type 0
   serves clauses z =
       Serves (book-of (f .goals) clauses (f .«goal_flags») (f .«goal_first») (f .«goal_len») (f .«clause_variant») (f .«clause_flags»)

@@ -73,7 +73,8 @@ returns-4 c =
     let s = n .before in
     let a = s .args in
     peek-ran (a .f) (a .table) (a .index) (a .rounds) (a .limit) (n .refusal .result) (n .refusal .ensures) (passed .if1 .left)
-    (rounds .if2 .left) (limited .if3 .left) (omega (arith, s .fits .limit)) (omega (arith, s .fits .rounds)) blank-stack (λ o. o) (ran .run .result)
+    (rounds .if2 .left) (limited .if3 .left) (omega (arith, s .fits .limit)) (omega (arith, s .fits .rounds))
+    blank-stack (λ o. o) (ran .run .result)
     (ran .run .ensures) (told .outcome-of .result) (told .outcome-of .ensures)
 
 pub peek-spec : {M : Type 1} → statement M

@@ -41,7 +41,8 @@ returns-3 c =
     let s = n .before in
     let a = s .args in
     search-ran (a .f) (a .table) (a .index) (a .limit) (n .refusal .result) (n .refusal .ensures) (passed .if1 .left) (limited .if2 .left)
-    (omega (arith, s .fits .limit)) blank-stack (λ o. o) (ran .run .result) (ran .run .ensures) (told .outcome-of .result) (told .outcome-of .ensures)
+    (omega (arith, s .fits .limit)) blank-stack (λ o. o) (ran .run .result) (ran .run .ensures)
+    (told .outcome-of .result) (told .outcome-of .ensures)
 
 pub search-spec : {M : Type 1} → statement M
 search-spec =
