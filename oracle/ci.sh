@@ -35,6 +35,8 @@ for profile in mix plain tiny bytes answers small limits large; do
     "$oracle" run quiet <"$work/script" >"$work/quiet"
     awk 'NR % 2 == 1' "$work/out" >"$work/results"
     awk 'NR % 2 == 1' "$work/quiet" | cmp - "$work/results"
+    # In batches: the results the same, with fewer dumps between them.
+    "$oracle" run batch <"$work/script" | grep -v '^state ' | cmp - "$work/results"
     # With counts: the same but for the counts of peeks.
     "$oracle" run counted <"$work/script" | sed 's/ exceeded [0-9]*$//' | cmp - "$work/out"
     # Each peek as its searches comes to the same; written out there is none left but what is refused.

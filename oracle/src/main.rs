@@ -16,7 +16,7 @@ use std::process::ExitCode;
 
 const USAGE: &str = "usage: oracle list [hex] < BOOK
        oracle lists < LINES OF HEX
-       oracle run [quiet|counted] < SCRIPT
+       oracle run [batch] [quiet|counted] < SCRIPT
        oracle searches < SCRIPT
        oracle read < LINES OF HEX
        oracle gen SEED COUNT [mix|plain|tiny|bytes|answers|small|limits|large|lines]
@@ -91,8 +91,17 @@ fn books(seed: u64, count: u64) -> Result<(), String> {
     stdout.flush().map_err(|e| e.to_string())
 }
 
-fn run(form: script::Form) -> Result<(), String> {
-    script::run(form, io::stdin().lock(), io::stdout().lock())
+/// A script, by words in any order.
+fn run(words: &[&str]) -> Result<(), String> {
+    let others: Vec<&str> = words.iter().copied().filter(|word| *word != "batch").collect();
+    let form = match others[..] {
+        [] => script::Form::Plain,
+        ["quiet"] => script::Form::Quiet,
+        ["counted"] => script::Form::Counted,
+        _ => return Err(USAGE.into()),
+    };
+    let runner = if words.contains(&"batch") { script::Runner::in_batches(form) } else { script::Runner::new(form) };
+    script::run(runner, io::stdin().lock(), io::stdout().lock())
 }
 
 fn command(words: &[&str]) -> Result<(), String> {
@@ -102,9 +111,7 @@ fn command(words: &[&str]) -> Result<(), String> {
             io::stdout().write_all(text.as_bytes()).map_err(|e| e.to_string())
         }
         ["lists"] => list_books(),
-        ["run"] => run(script::Form::Plain),
-        ["run", "quiet"] => run(script::Form::Quiet),
-        ["run", "counted"] => run(script::Form::Counted),
+        ["run", words @ ..] => run(words),
         ["searches"] => peeks::searches(io::stdin().lock(), io::BufWriter::new(io::stdout().lock())),
         ["read"] => read_books(),
         ["gen", seed, count] => generate(number(seed)?, number(count)?, gen::Profile::Mix),

@@ -1,4 +1,5 @@
-//! The script of the differential run: one call a line in, two lines a call out.
+//! The script of the differential run: one call a line in, two lines a call out. In batches the forest's line
+//! comes after some calls, not after each.
 
 use crate::bounded::{Bounded, Call, Reply};
 use chalk_engine::solve::{Ended, Outcome};
@@ -130,10 +131,16 @@ pub fn unexpected(reply: &Reply) -> Option<&str> {
     }
 }
 
+/// The most calls of a batch.
+const MOST_CALLS: u64 = 256;
+
 /// What a script does, line by line: the forest at hand, and what was printed.
 pub struct Runner {
     bounded: Option<Bounded>,
     form: Form,
+    batch: bool,
+    /// The calls of the batch so far.
+    calls: u64,
     line: u64,
     /// The lines since the last book, for the report of an unexpected panic.
     since_book: Vec<String>,
@@ -142,7 +149,35 @@ pub struct Runner {
 
 impl Runner {
     pub fn new(form: Form) -> Runner {
-        Runner { bounded: None, form, line: 0, since_book: Vec::new(), dump: String::new() }
+        Runner { bounded: None, form, batch: false, calls: 0, line: 0, since_book: Vec::new(), dump: String::new() }
+    }
+
+    /// What the forest holds is told once after the calls of a batch.
+    pub fn in_batches(form: Form) -> Runner {
+        Runner { batch: true, ..Runner::new(form) }
+    }
+
+    /// What the forest holds.
+    fn state(&mut self, out: &mut String) {
+        self.dump.clear();
+        match &self.bounded {
+            None => self.dump.push_str("state none"),
+            Some(bounded) => bounded.dump(&mut self.dump),
+        }
+        if self.form == Form::Quiet {
+            let _ = writeln!(out, "{:016x}", fnv1a(self.dump.as_bytes()));
+        } else {
+            out.push_str(&self.dump);
+            out.push('\n');
+        }
+    }
+
+    /// The end of a batch, if it has calls.
+    pub fn end_batch(&mut self, out: &mut String) {
+        if self.calls > 0 {
+            self.calls = 0;
+            self.state(out);
+        }
     }
 
     /// Runs one line, adds its output to `out`; the error is a report of an unexpected panic.
@@ -151,10 +186,12 @@ impl Runner {
         match parse(line) {
             Line::Skip => return Ok(()),
             Line::Bad => {
+                self.end_batch(out);
                 let _ = writeln!(out, "bad line {}", self.line);
                 return Ok(());
             }
             Line::Book { bytes, clock } => {
+                self.end_batch(out);
                 self.since_book.clear();
                 self.since_book.push(line.to_string());
                 match Bounded::new(&bytes, clock) {
@@ -169,6 +206,7 @@ impl Runner {
                 }
             }
             Line::Call(call) => {
+                self.calls += u64::from(self.batch);
                 self.since_book.push(line.to_string());
                 match &mut self.bounded {
                     None => out.push_str("no forest\n"),
@@ -187,24 +225,17 @@ impl Runner {
                 }
             }
         }
-        self.dump.clear();
-        match &self.bounded {
-            None => self.dump.push_str("state none"),
-            Some(bounded) => bounded.dump(&mut self.dump),
-        }
-        if self.form == Form::Quiet {
-            let _ = writeln!(out, "{:016x}", fnv1a(self.dump.as_bytes()));
-        } else {
-            out.push_str(&self.dump);
-            out.push('\n');
+        if !self.batch {
+            self.state(out);
+        } else if self.calls == MOST_CALLS {
+            self.end_batch(out);
         }
         Ok(())
     }
 }
 
-/// `oracle run [quiet|counted]`
-pub fn run(form: Form, input: impl BufRead, mut output: impl Write) -> Result<(), String> {
-    let mut runner = Runner::new(form);
+/// `oracle run [batch] [quiet|counted]`
+pub fn run(mut runner: Runner, input: impl BufRead, mut output: impl Write) -> Result<(), String> {
     let mut out = String::new();
     for line in input.split(b'\n') {
         let line = line.map_err(|e| e.to_string())?;
@@ -217,6 +248,7 @@ pub fn run(form: Form, input: impl BufRead, mut output: impl Write) -> Result<()
         }
         result?;
     }
+    runner.end_batch(&mut out);
     output.write_all(out.as_bytes()).map_err(|e| e.to_string())?;
     output.flush().map_err(|e| e.to_string())
 }
