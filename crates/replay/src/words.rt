@@ -1,20 +1,20 @@
 // What a call came to, in words.
 use forest::any_future_answer::Future;
+use forest::make::Making;
 use forest::open::Opening;
 use forest::searches::Outcome;
 
 // `Searched` has the turns, `Peeked` the index at which it ended and the turns of its last search.
 pub(crate) enum Reply {
     NoForest,
-    Made,
-    Refused(u8),
+    Booked(Making),
     Opened(Opening),
     Searched(Outcome, u64),
     Peeked(Outcome, u64, u64),
     Asked(Future),
 }
 
-fn counted(out: &mut [u8], at: usize, word: &[u8], n: u64) -> usize {
+pub(crate) fn counted(out: &mut [u8], at: usize, word: &[u8], n: u64) -> usize {
     let a = pen::text(out, at, word);
     pen::number(out, a, n)
 }
@@ -26,6 +26,22 @@ fn line(out: &mut [u8], at: usize, word: &[u8], n: u64) -> usize {
 
 pub(crate) fn bad(out: &mut [u8], at: usize, n: u64) -> usize {
     line(out, at, b"bad line ", n)
+}
+
+pub(crate) fn turns(out: &mut [u8], at: usize, n: u64) -> usize {
+    line(out, at, b" turns ", n)
+}
+
+pub(crate) fn index_and_turns(out: &mut [u8], at: usize, index: u64, n: u64) -> usize {
+    let a = counted(out, at, b" at ", index);
+    turns(out, a, n)
+}
+
+fn booked(out: &mut [u8], at: usize, m: Making) -> usize {
+    match m {
+        Making::Made => pen::text(out, at, b"made\n"),
+        Making::Refused(n) => line(out, at, b"refused ", n as u64),
+    }
 }
 
 fn opened(out: &mut [u8], at: usize, o: Opening) -> usize {
@@ -64,21 +80,20 @@ fn is_refused(o: Outcome) -> bool {
     }
 }
 
-fn searched(out: &mut [u8], at: usize, o: Outcome, turns: u64) -> usize {
+fn searched(out: &mut [u8], at: usize, o: Outcome, n: u64) -> usize {
     let a = outcome(out, at, o);
     if is_refused(o) {
         return pen::byte(out, a, b'\n');
     }
-    line(out, a, b" turns ", turns)
+    turns(out, a, n)
 }
 
-fn peeked(out: &mut [u8], at: usize, o: Outcome, index: u64, turns: u64) -> usize {
+fn peeked(out: &mut [u8], at: usize, o: Outcome, index: u64, n: u64) -> usize {
     let a = outcome(out, at, o);
     if is_refused(o) {
         return pen::byte(out, a, b'\n');
     }
-    let b = counted(out, a, b" at ", index);
-    line(out, b, b" turns ", turns)
+    index_and_turns(out, a, index, n)
 }
 
 fn is(out: &mut [u8], at: usize, b: bool) -> usize {
@@ -98,11 +113,10 @@ fn asked(out: &mut [u8], at: usize, f: Future) -> usize {
 pub(crate) fn told(out: &mut [u8], at: usize, r: Reply) -> usize {
     match r {
         Reply::NoForest => pen::text(out, at, b"no forest\n"),
-        Reply::Made => pen::text(out, at, b"made\n"),
-        Reply::Refused(n) => line(out, at, b"refused ", n as u64),
+        Reply::Booked(m) => booked(out, at, m),
         Reply::Opened(o) => opened(out, at, o),
-        Reply::Searched(o, turns) => searched(out, at, o, turns),
-        Reply::Peeked(o, index, turns) => peeked(out, at, o, index, turns),
+        Reply::Searched(o, n) => searched(out, at, o, n),
+        Reply::Peeked(o, index, n) => peeked(out, at, o, index, n),
         Reply::Asked(f) => asked(out, at, f),
     }
 }
