@@ -7,6 +7,8 @@ import subprocess
 WORDS = "made table yes maybe none floundered again negcycle invalid cut true false".split()
 REFUSALS = ["refused %d" % n for n in (*range(1, 14), 20)]
 STOPS = ["stop %d" % n for n in range(21, 30)]
+# A line that is no dump and no hash of one.
+RESULT = re.compile(rb"^(?!state |[0-9a-f]{16}$).+$", re.M)
 
 
 class Broken(Exception):
@@ -30,28 +32,23 @@ def is_skipped(line):
 
 
 def calls_of(script, output):
-    """Of each line that is no skipped one: its number, itself, and what was written of it. A malformed one has no dump."""
-    out = iter(output.split(b"\n"))
+    """Of each line that is no skipped one: its number, itself, and what was written of it: the result, and the dump where one follows. A
+    malformed line has none; of calls that were handed over together the last one alone has it."""
+    out = output.splitlines()[::-1]
     found = []
     for number, line in enumerate(script.split(b"\n"), 1):
         if is_skipped(line):
             continue
-        result = next(out, b"(nothing)")
-        found.append((number, line, [result] if result.startswith(b"bad line") else [result, next(out, b"(nothing)")]))
+        written = [out.pop() if out else b"(nothing)"]
+        if out and out[-1].startswith(b"state "):
+            written.append(out.pop())
+        found.append((number, line, written))
     return found
 
 
 def results_of(output):
-    """The results alone, counted. A malformed line has one line, any other call two."""
-    lines = output.split(b"\n")
-    if b"bad line" not in output:
-        return collections.Counter(lines[:-1:2])
-    counts, at = collections.Counter(), 0
-    while at < len(lines) - 1:
-        bad = lines[at].startswith(b"bad line")
-        counts[b"bad line" if bad else lines[at]] += 1
-        at += 1 if bad else 2
-    return counts
+    """The results alone, counted."""
+    return collections.Counter(RESULT.findall(output))
 
 
 class Counts:
