@@ -121,13 +121,15 @@ fn serve_open<'a>(
 ) -> Serving
     ensures { λ r. ⌜ ((clauses : ℕ) (clause-len literal-kind literal-goal literal-want : List ℕ) (strands : List Strand) (answers : Answers)
         (stack : Stack) (clock : ℕ) (replies : List ℕ)
-        → stage r (lent-of (tables-of (r .course .count) (now (goal .exit)) (now (coinductive .exit)) (now (floundered .exit)) (now (complete .exit)))
+        → stage r (lent-of (tables-of (r .course .count) (now (goal .exit)) (now (coinductive .exit)) (now (floundered .exit)) (now
+        (complete .exit)))
         (store strands (now (time .exit)) (now (ambiguous .exit)) (now (variant .exit)) (now (waits .exit)) (now (wants .exit))
         (places (now (next .exit)) (now (tail .exit)) (now (len .exit)) (r .course .used)))
         answers stack clock) replies
         ≡ opens (book-of goals clauses (now («goal_flags» .entry)) (now («goal_first» .entry)) (now («goal_len» .entry))
         (now («clause_variant» .entry)) (now («clause_flags» .entry)) clause-len literal-kind literal-goal literal-want) «goal_asked»
-        (stage s (lent-of (tables-of (s .course .count) (now (goal .entry)) (now (coinductive .entry)) (now (floundered .entry)) (now (complete .entry)))
+        (stage s (lent-of (tables-of (s .course .count) (now (goal .entry)) (now (coinductive .entry)) (now (floundered .entry)) (now
+        (complete .entry)))
         (store strands (now (time .entry)) (now (ambiguous .entry)) (now (variant .entry)) (now (waits .entry)) (now (wants .entry))
         (places (now (next .entry)) (now (tail .entry)) (now (len .entry)) (s .course .used)))
         answers stack clock) replies)) ⌝ }
@@ -214,12 +216,14 @@ fn begin<'a>(
         → stage r (lent-of (tables-of (r .course .count) goals coinductives (now (floundered .entry)) modes) strands
         (answers-of answers (now («answer_variant» .entry)) (now («answer_key» .entry)) (now («answer_ambiguous» .entry))
         (places (now («answer_next» .entry)) (now («answer_tail» .entry)) (now («answer_len» .entry)) (r .course .«answer_used»)))
-        (stack-of (r .course .depth) (now («entry_table» .exit)) (now («entry_clock» .exit)) (now (positive .exit)) (now (negative .exit)) (now (active .exit))) clock) replies
+        (stack-of (r .course .depth) (now («entry_table» .exit)) (now («entry_clock» .exit)) (now (positive .exit)) (now (negative .exit))
+        (now (active .exit))) clock) replies
         ≡ begins said asked index more
         (stage s (lent-of (tables-of (s .course .count) goals coinductives (now (floundered .entry)) modes) strands
         (answers-of answers (now («answer_variant» .entry)) (now («answer_key» .entry)) (now («answer_ambiguous» .entry))
         (places (now («answer_next» .entry)) (now («answer_tail» .entry)) (now («answer_len» .entry)) (s .course .«answer_used»)))
-        (stack-of (s .course .depth) (now («entry_table» .entry)) (now («entry_clock» .entry)) (now (positive .entry)) (now (negative .entry)) (now (active .entry))) clock) replies)) ⌝ }
+        (stack-of (s .course .depth) (now («entry_table» .entry)) (now («entry_clock» .entry)) (now (positive .entry)) (now
+        (negative .entry)) (now (active .entry))) clock) replies)) ⌝ }
 {
     let was = s.course;
     let first = Course {
@@ -286,12 +290,14 @@ fn serve_search<'a>(
         → stage r (lent-of (tables-of (r .course .count) goals coinductives (now (floundered .entry)) modes) strands
         (answers-of answers (now («answer_variant» .entry)) (now («answer_key» .entry)) (now («answer_ambiguous» .entry))
         (places (now («answer_next» .entry)) (now («answer_tail» .entry)) (now («answer_len» .entry)) (r .course .«answer_used»)))
-        (stack-of (r .course .depth) (now («entry_table» .exit)) (now («entry_clock» .exit)) (now (positive .exit)) (now (negative .exit)) (now (active .exit))) clock) replies
+        (stack-of (r .course .depth) (now («entry_table» .exit)) (now («entry_clock» .exit)) (now (positive .exit)) (now (negative .exit))
+        (now (active .exit))) clock) replies
         ≡ searches «clock_limit» (call .a) (call .b) (call .c)
         (stage s (lent-of (tables-of (s .course .count) goals coinductives (now (floundered .entry)) modes) strands
         (answers-of answers (now («answer_variant» .entry)) (now («answer_key» .entry)) (now («answer_ambiguous» .entry))
         (places (now («answer_next» .entry)) (now («answer_tail» .entry)) (now («answer_len» .entry)) (s .course .«answer_used»)))
-        (stack-of (s .course .depth) (now («entry_table» .entry)) (now («entry_clock» .entry)) (now (positive .entry)) (now (negative .entry)) (now (active .entry))) clock) replies)) ⌝ }
+        (stack-of (s .course .depth) (now («entry_table» .entry)) (now («entry_clock» .entry)) (now (positive .entry)) (now
+        (negative .entry)) (now (active .entry))) clock) replies)) ⌝ }
 {
     let c = s.course;
     let n = refusal(c.mark, c.count, floundered, answer_len, call.a, call.b);
@@ -350,12 +356,14 @@ fn serve_peek<'a>(
         → stage r (lent-of (tables-of (r .course .count) goals coinductives (now (floundered .entry)) modes) strands
         (answers-of answers (now («answer_variant» .entry)) (now («answer_key» .entry)) (now («answer_ambiguous» .entry))
         (places (now («answer_next» .entry)) (now («answer_tail» .entry)) (now («answer_len» .entry)) (r .course .«answer_used»)))
-        (stack-of (r .course .depth) (now («entry_table» .exit)) (now («entry_clock» .exit)) (now (positive .exit)) (now (negative .exit)) (now (active .exit))) clock) replies
+        (stack-of (r .course .depth) (now («entry_table» .exit)) (now («entry_clock» .exit)) (now (positive .exit)) (now (negative .exit))
+        (now (active .exit))) clock) replies
         ≡ peeks «clock_limit» (call .a) (call .b) (call .c) (call .d)
         (stage s (lent-of (tables-of (s .course .count) goals coinductives (now (floundered .entry)) modes) strands
         (answers-of answers (now («answer_variant» .entry)) (now («answer_key» .entry)) (now («answer_ambiguous» .entry))
         (places (now («answer_next» .entry)) (now («answer_tail» .entry)) (now («answer_len» .entry)) (s .course .«answer_used»)))
-        (stack-of (s .course .depth) (now («entry_table» .entry)) (now («entry_clock» .entry)) (now (positive .entry)) (now (negative .entry)) (now (active .entry))) clock) replies)) ⌝ }
+        (stack-of (s .course .depth) (now («entry_table» .entry)) (now («entry_clock» .entry)) (now (positive .entry)) (now
+        (negative .entry)) (now (active .entry))) clock) replies)) ⌝ }
 {
     let c = s.course;
     let n = refusal(c.mark, c.count, floundered, answer_len, call.a, call.b);
@@ -475,7 +483,8 @@ fn serve_future<'a>(
 
 // What the call came to is written, and the next one is at hand.
 fn tell(s: Serving, replies: &mut [u64; NUMBERS]) -> Serving
-    ensures { λ r. ⌜ (r ≡ next-call s) × (now (replies .exit) ≡ reply-put (s .at) (reply-of (s .said) (s .course)) (now (replies .entry))) ⌝ }
+    ensures { λ r. ⌜ (r ≡ next-call s) × (now (replies .exit) ≡ reply-put (s .at) (reply-of (s .said) (s .course)) (now (replies .entry)))
+        ⌝ }
 {
     let said = s.said;
     let course = s.course;
@@ -524,20 +533,25 @@ pub fn serve<'a>(
 ) -> Serving
     ensures { λ r. ⌜ ((clauses : ℕ) (clause-len literal-kind literal-goal literal-want : List ℕ) (strands : List Strand)
         (answers : List Answer)
-        → stage r (lent-of (tables-of (r .course .count) (now (goal .exit)) (now (coinductive .exit)) (now (floundered .exit)) (now (complete .exit)))
+        → stage r (lent-of (tables-of (r .course .count) (now (goal .exit)) (now (coinductive .exit)) (now (floundered .exit)) (now
+        (complete .exit)))
         (store strands (now (time .exit)) (now (ambiguous .exit)) (now (variant .exit)) (now (waits .exit)) (now (wants .exit))
         (places (now (next .exit)) (now (tail .exit)) (now (len .exit)) (r .course .used)))
         (answers-of answers (now («answer_variant» .entry)) (now («answer_key» .entry)) (now («answer_ambiguous» .entry))
         (places (now («answer_next» .entry)) (now («answer_tail» .entry)) (now («answer_len» .entry)) (r .course .«answer_used»)))
-        (stack-of (r .course .depth) (now («entry_table» .exit)) (now («entry_clock» .exit)) (now (positive .exit)) (now (negative .exit)) (now (active .exit))) (r .course .clock)) (now (replies .exit))
+        (stack-of (r .course .depth) (now («entry_table» .exit)) (now («entry_clock» .exit)) (now (positive .exit)) (now (negative .exit))
+        (now (active .exit))) (r .course .clock)) (now (replies .exit))
         ≡ served (book-of goals clauses (now («goal_flags» .entry)) (now («goal_first» .entry)) (now («goal_len» .entry))
-        (now («clause_variant» .entry)) (now («clause_flags» .entry)) clause-len literal-kind literal-goal literal-want) «clock_limit» (now (calls .entry))
-        (stage s (lent-of (tables-of (s .course .count) (now (goal .entry)) (now (coinductive .entry)) (now (floundered .entry)) (now (complete .entry)))
+        (now («clause_variant» .entry)) (now («clause_flags» .entry)) clause-len literal-kind literal-goal literal-want) «clock_limit»
+        (now (calls .entry))
+        (stage s (lent-of (tables-of (s .course .count) (now (goal .entry)) (now (coinductive .entry)) (now (floundered .entry)) (now
+        (complete .entry)))
         (store strands (now (time .entry)) (now (ambiguous .entry)) (now (variant .entry)) (now (waits .entry)) (now (wants .entry))
         (places (now (next .entry)) (now (tail .entry)) (now (len .entry)) (s .course .used)))
         (answers-of answers (now («answer_variant» .entry)) (now («answer_key» .entry)) (now («answer_ambiguous» .entry))
         (places (now («answer_next» .entry)) (now («answer_tail» .entry)) (now («answer_len» .entry)) (s .course .«answer_used»)))
-        (stack-of (s .course .depth) (now («entry_table» .entry)) (now («entry_clock» .entry)) (now (positive .entry)) (now (negative .entry)) (now (active .entry))) (s .course .clock)) (now (replies .entry)))) ⌝ }
+        (stack-of (s .course .depth) (now («entry_table» .entry)) (now («entry_clock» .entry)) (now (positive .entry)) (now
+        (negative .entry)) (now (active .entry))) (s .course .clock)) (now (replies .entry)))) ⌝ }
 {
     if s.busy {
         return tell(s, replies);

@@ -94,19 +94,23 @@ pub fn serve_all<'a>(
         → Serves (book-of goals clauses (now («goal_flags» .entry)) (now («goal_first» .entry)) (now («goal_len» .entry))
         (now («clause_variant» .entry)) (now («clause_flags» .entry)) (now («clause_len» .entry)) (now («literal_kind» .entry))
         (now («literal_goal» .entry)) (now («literal_want» .entry))) «clock_limit» (now (calls .entry)) count
-        (stage from (lent-of (tables-of (from .course .count) (now (goal .entry)) (now (coinductive .entry)) (now (floundered .entry)) (now (complete .entry)))
+        (stage from (lent-of (tables-of (from .course .count) (now (goal .entry)) (now (coinductive .entry)) (now (floundered .entry))
+        (now (complete .entry)))
         (store «first_strands» (now (time .entry)) (now (ambiguous .entry)) (now (variant .entry)) (now (waits .entry)) (now (wants .entry))
         (places (now (next .entry)) (now (tail .entry)) (now (len .entry)) (from .course .used)))
         (answers-of «first_answers» (now («answer_variant» .entry)) (now («answer_key» .entry)) (now («answer_ambiguous» .entry))
         (places (now («answer_next» .entry)) (now («answer_tail» .entry)) (now («answer_len» .entry)) (from .course .«answer_used»)))
-        (stack-of (from .course .depth) (now («entry_table» .entry)) (now («entry_clock» .entry)) (now (positive .entry)) (now (negative .entry))
+        (stack-of (from .course .depth) (now («entry_table» .entry)) (now («entry_clock» .entry)) (now (positive .entry)) (now
+        (negative .entry))
         (now (active .entry))) (from .course .clock)) (now (replies .entry)))
-        (stage (r .serving) (lent-of (tables-of (r .serving .course .count) (now (goal .exit)) (now (coinductive .exit)) (now (floundered .exit)) (now (complete .exit)))
+        (stage (r .serving) (lent-of (tables-of (r .serving .course .count) (now (goal .exit)) (now (coinductive .exit)) (now
+        (floundered .exit)) (now (complete .exit)))
         (store (r .strands) (now (time .exit)) (now (ambiguous .exit)) (now (variant .exit)) (now (waits .exit)) (now (wants .exit))
         (places (now (next .exit)) (now (tail .exit)) (now (len .exit)) (r .serving .course .used)))
         (answers-of (r .answers) (now («answer_variant» .exit)) (now («answer_key» .exit)) (now («answer_ambiguous» .exit))
         (places (now («answer_next» .exit)) (now («answer_tail» .exit)) (now («answer_len» .exit)) (r .serving .course .«answer_used»)))
-        (stack-of (r .serving .course .depth) (now («entry_table» .exit)) (now («entry_clock» .exit)) (now (positive .exit)) (now (negative .exit))
+        (stack-of (r .serving .course .depth) (now («entry_table» .exit)) (now («entry_clock» .exit)) (now (positive .exit)) (now
+        (negative .exit))
         (now (active .exit))) (r .serving .course .clock)) (now (replies .exit)))) ⌝ }
 {
     let mut strands = first_strands;

@@ -17,7 +17,8 @@ use Rattle.batch.proofs.serve_all.serve_all.Statement.{statement}
 use Rattle.batch.proofs.serve_all.serve_all.Tie as tie
 
 abbrev Inv-loop : tie.InvT-loop
-Inv-loop count goals clock-limit goal₀ coinductive₀ floundered₀ complete₀ next₀ tail₀ len₀ time₀ ambiguous₀ variant₀ waits₀ wants₀ answer-next₀
+Inv-loop count goals clock-limit goal₀ coinductive₀ floundered₀ complete₀ next₀ tail₀ len₀ time₀ ambiguous₀ variant₀ waits₀ wants₀
+    answer-next₀
     answer-tail₀ answer-len₀ answer-variant₀ answer-key₀ answer-ambiguous₀ entry-table₀ entry-clock₀ positive₀ negative₀ active₀
     goal-flags goal-first goal-len clause-variant clause-flags clause-len literal-kind literal-goal literal-want calls replies₀ strands₀
     answers₀ s₀ goal coinductive floundered complete next tail len time ambiguous variant waits wants answer-next answer-tail answer-len
@@ -32,7 +33,8 @@ Inv-loop count goals clock-limit goal₀ coinductive₀ floundered₀ complete�
     entry-clock₀ positive₀ negative₀ active₀ (s₀ .course)) replies₀) u)
 
 abbrev μ-loop : tie.MeasureT-loop
-μ-loop count goals clock-limit goal₀ coinductive₀ floundered₀ complete₀ next₀ tail₀ len₀ time₀ ambiguous₀ variant₀ waits₀ wants₀ answer-next₀
+μ-loop count goals clock-limit goal₀ coinductive₀ floundered₀ complete₀ next₀ tail₀ len₀ time₀ ambiguous₀ variant₀ waits₀ wants₀
+    answer-next₀
     answer-tail₀ answer-len₀ answer-variant₀ answer-key₀ answer-ambiguous₀ entry-table₀ entry-clock₀ positive₀ negative₀ active₀
     goal-flags goal-first goal-len clause-variant clause-flags clause-len literal-kind literal-goal literal-want calls replies₀ strands₀
     answers₀ s₀ goal coinductive floundered complete next tail len time ambiguous variant waits wants answer-next answer-tail answer-len
@@ -50,7 +52,8 @@ serve-requires c κs = tt
 
 loop-less : tie.Need-loop-less Inv-loop μ-loop
 loop-less c =
-    let gate = c .before .before .before .before .before .before .before .before .before .before .before .before .before .before .before .before
+    let gate =
+    c .before .before .before .before .before .before .before .before .before .before .before .before .before .before .before .before
     .before .before .before .before .before .before .before .before .before in
     let running = gate .before in
     let test = running .before in
@@ -68,7 +71,8 @@ loop-less c =
 
 loop-again : tie.Need-loop-again Inv-loop μ-loop
 loop-again c =
-    let gate = c .before .before .before .before .before .before .before .before .before .before .before .before .before .before .before .before
+    let gate =
+    c .before .before .before .before .before .before .before .before .before .before .before .before .before .before .before .before
     .before .before .before .before .before .before .before .before .before in
     let running = gate .before in
     let test = running .before in
@@ -77,17 +81,22 @@ loop-again c =
     let idle = sym (running .runs .ensures .0) ∙ still-on (running .runs .result) (gate .if2 .taken) in (
       λ first. serves-hand (book-of (a .goals) 0 (a .goal-flags .now) (a .goal-first .now) (a .goal-len .now) (a .clause-variant .now) (a
           .clause-flags .now) (a .clause-len .now) (a .literal-kind .now) (a .literal-goal .now) (a .literal-want .now)) (a .clock-limit) (a
-          .calls .now) (a .count) (stage (l .s) (lent-with (l .strands) (l .answers) (l .goal) (l .coinductive) (l .floundered) (l .complete) (l
+          .calls .now) (a .count) (stage (l .s) (lent-with (l .strands) (l .answers) (l .goal) (l .coinductive) (l .floundered)
+          (l .complete) (l
           .next) (l .tail) (l .len) (l .time) (l .ambiguous) (l .variant) (l .waits) (l .wants) (l .answer-next) (l .answer-tail) (l
-          .answer-len) (l .answer-variant) (l .answer-key) (l .answer-ambiguous) (l .entry-table) (l .entry-clock) (l .positive) (l .negative)
-          (l .active) (l .s .course)) (l .replies)) idle (test .if1 .taken) _ (c .serve .ensures 0 (a .clause-len .now) (a .literal-kind .now)
+          .answer-len) (l .answer-variant) (l .answer-key) (l .answer-ambiguous) (l .entry-table) (l .entry-clock) (l .positive)
+          (l .negative)
+          (l .active) (l .s .course)) (l .replies)) idle (test .if1 .taken) _ (c .serve .ensures 0 (a .clause-len .now)
+          (a .literal-kind .now)
           (a .literal-goal .now) (a .literal-want .now) (l .strands) (l .answers)),
       λ clauses u h. l .inv .1 clauses u (serves-left (book-of (a
           .goals) clauses (a .goal-flags .now) (a .goal-first .now) (a .goal-len .now) (a .clause-variant .now) (a .clause-flags .now) (a
-          .clause-len .now) (a .literal-kind .now) (a .literal-goal .now) (a .literal-want .now)) (a .clock-limit) (a .calls .now) (a .count)
+          .clause-len .now) (a .literal-kind .now) (a .literal-goal .now) (a .literal-want .now)) (a .clock-limit) (a .calls .now)
+          (a .count)
           (stage (l .s) (lent-with (l .strands) (l .answers) (l .goal) (l .coinductive) (l .floundered) (l .complete) (l .next) (l .tail) (l
           .len) (l .time) (l .ambiguous) (l .variant) (l .waits) (l .wants) (l .answer-next) (l .answer-tail) (l .answer-len) (l
-          .answer-variant) (l .answer-key) (l .answer-ambiguous) (l .entry-table) (l .entry-clock) (l .positive) (l .negative) (l .active) (l .s
+          .answer-variant) (l .answer-key) (l .answer-ambiguous) (l .entry-table) (l .entry-clock) (l .positive) (l .negative) (l .active)
+          (l .s
           .course)) (l .replies)) idle (test .if1 .taken) _ (c .serve .ensures clauses (a .clause-len .now) (a .literal-kind .now) (a
           .literal-goal .now) (a .literal-want .now) (l .strands) (l .answers)) u h),
     )
@@ -138,16 +147,20 @@ mul-strands-2 : tie.Need-mul-strands-2 Inv-loop μ-loop
 mul-strands-2 c = byte-strand (c .before .before .before .before .before .pass .result .place) (c .struct-known5 .given .1 .1 .1 .0)
 
 array-set-from-strands-2 : tie.Need-array-set-from-strands-2 Inv-loop μ-loop
-array-set-from-strands-2 c = byte-index (c .before .before .before .before .before .pass .result .place) (c .struct-known5 .given .1 .1 .1 .0)
+array-set-from-strands-2 c = byte-index (c .before .before .before .before .before .pass .result .place)
+    (c .struct-known5 .given .1 .1 .1 .0)
 
 cast-answers : tie.Need-cast-answers Inv-loop μ-loop
-cast-answers c = byte-fits (c .before .before .before .before .before .before .pass .result .«answer_place») (c .struct-known6 .given .1 .1 .1 .1 .1 .0)
+cast-answers c = byte-fits (c .before .before .before .before .before .before .pass .result .«answer_place»)
+    (c .struct-known6 .given .1 .1 .1 .1 .1 .0)
 
 mul-answers : tie.Need-mul-answers Inv-loop μ-loop
-mul-answers c = byte-answer (c .before .before .before .before .before .before .pass .result .«answer_place») (c .struct-known6 .given .1 .1 .1 .1 .1 .0)
+mul-answers c = byte-answer (c .before .before .before .before .before .before .pass .result .«answer_place»)
+    (c .struct-known6 .given .1 .1 .1 .1 .1 .0)
 
 array-set-from-answers : tie.Need-array-set-from-answers Inv-loop μ-loop
-array-set-from-answers c = byte-index (c .before .before .before .before .before .before .pass .result .«answer_place») (c .struct-known6 .given .1 .1 .1 .1 .1 .0)
+array-set-from-answers c = byte-index (c .before .before .before .before .before .before .pass .result .«answer_place»)
+    (c .struct-known6 .given .1 .1 .1 .1 .1 .0)
 
 with-course-requires : tie.Need-with-course-requires Inv-loop μ-loop
 with-course-requires c κs = tt
@@ -155,11 +168,14 @@ with-course-requires c κs = tt
 loop-less-2 : tie.Need-loop-less-2 Inv-loop μ-loop
 loop-less-2 c =
     let passing = c .before .before .before .before .before .before .before .before in
-    let picking = passing .before .before .before .before .before .before .before .before .before .before .before .before .before .before .before
+    let picking =
+    passing .before .before .before .before .before .before .before .before .before .before .before .before .before .before .before
     .before .before .before .before .before .before .before .before .before .before .before .before in
     let looking = picking .before .before .before .before .before .before .before .before .before .before .before .before .before in
-    let settling = looking .before .before .before .before .before .before .before .before .before .before .before .before .before .before in
-    let held = settling .before .before .before .before .before .before .before .before .before .before .before .before .before .before .before
+    let settling = looking .before .before .before .before .before .before .before .before .before .before .before .before .before .before
+    in
+    let held =
+    settling .before .before .before .before .before .before .before .before .before .before .before .before .before .before .before
     .before .before .before .before in
     let named = held .before in
     let gate = named .before in
@@ -190,11 +206,14 @@ loop-less-2 c =
 loop-again-2 : tie.Need-loop-again-2 Inv-loop μ-loop
 loop-again-2 c =
     let passing = c .before .before .before .before .before .before .before .before in
-    let picking = passing .before .before .before .before .before .before .before .before .before .before .before .before .before .before .before
+    let picking =
+    passing .before .before .before .before .before .before .before .before .before .before .before .before .before .before .before
     .before .before .before .before .before .before .before .before .before .before .before .before in
     let looking = picking .before .before .before .before .before .before .before .before .before .before .before .before .before in
-    let settling = looking .before .before .before .before .before .before .before .before .before .before .before .before .before .before in
-    let held = settling .before .before .before .before .before .before .before .before .before .before .before .before .before .before .before
+    let settling = looking .before .before .before .before .before .before .before .before .before .before .before .before .before .before
+    in
+    let held =
+    settling .before .before .before .before .before .before .before .before .before .before .before .before .before .before .before
     .before .before .before .before in
     let named = held .before in
     let gate = named .before in
@@ -214,27 +233,45 @@ loop-again-2 c =
       λ clauses u h. l .inv .1 clauses u (turn-left (book-of (a .goals) clauses (a .goal-flags .now) (a .goal-first .now) (a .goal-len
           .now) (a .clause-variant .now) (a .clause-flags .now) (a .clause-len .now) (a .literal-kind .now) (a .literal-goal .now) (a
           .literal-want .now)) (a .clock-limit) (a .calls .now) (a .count) (stage (l .s) (lent-with (l .strands) (l .answers) (l .goal) (l
-          .coinductive) (l .floundered) (l .complete) (l .next) (l .tail) (l .len) (l .time) (l .ambiguous) (l .variant) (l .waits) (l .wants)
+          .coinductive) (l .floundered) (l .complete) (l .next) (l .tail) (l .len) (l .time) (l .ambiguous) (l .variant) (l .waits)
+          (l .wants)
           (l .answer-next) (l .answer-tail) (l .answer-len) (l .answer-variant) (l .answer-key) (l .answer-ambiguous) (l .entry-table) (l
-          .entry-clock) (l .positive) (l .negative) (l .active) (l .s .course)) (l .replies)) on (q .course) (lent-with (set (set (l .strands)
-          (q .«copy_place») (q .copy)) (q .place) (q .strand)) (set (l .answers) (q .«answer_place») (q .answer)) (p .0) (p .1 .0) (p .1 .1 .0)
-          (p .1 .1 .1 .0) (p .1 .1 .1 .1 .0) (p .1 .1 .1 .1 .1 .0) (p .1 .1 .1 .1 .1 .1 .0) (p .1 .1 .1 .1 .1 .1 .1 .0) (p .1 .1 .1 .1 .1 .1 .1
-          .1 .0) (p .1 .1 .1 .1 .1 .1 .1 .1 .1 .0) (p .1 .1 .1 .1 .1 .1 .1 .1 .1 .1 .0) (p .1 .1 .1 .1 .1 .1 .1 .1 .1 .1 .1 .0) (p .1 .1 .1 .1
-          .1 .1 .1 .1 .1 .1 .1 .1 .0) (p .1 .1 .1 .1 .1 .1 .1 .1 .1 .1 .1 .1 .1 .0) (p .1 .1 .1 .1 .1 .1 .1 .1 .1 .1 .1 .1 .1 .1 .0) (p .1 .1 .1
-          .1 .1 .1 .1 .1 .1 .1 .1 .1 .1 .1 .1 .0) (p .1 .1 .1 .1 .1 .1 .1 .1 .1 .1 .1 .1 .1 .1 .1 .1 .0) (p .1 .1 .1 .1 .1 .1 .1 .1 .1 .1 .1 .1
-          .1 .1 .1 .1 .1 .0) (p .1 .1 .1 .1 .1 .1 .1 .1 .1 .1 .1 .1 .1 .1 .1 .1 .1 .1 .0) (p .1 .1 .1 .1 .1 .1 .1 .1 .1 .1 .1 .1 .1 .1 .1 .1 .1
-          .1 .1 .0) (p .1 .1 .1 .1 .1 .1 .1 .1 .1 .1 .1 .1 .1 .1 .1 .1 .1 .1 .1 .1 .0) (p .1 .1 .1 .1 .1 .1 .1 .1 .1 .1 .1 .1 .1 .1 .1 .1 .1 .1
-          .1 .1 .1 .0) (p .1 .1 .1 .1 .1 .1 .1 .1 .1 .1 .1 .1 .1 .1 .1 .1 .1 .1 .1 .1 .1 .1 .0) (q .course)) (λ x h′. settling .settle .ensures
-          .2 (book-of (a .goals) clauses (a .goal-flags .now) (a .goal-first .now) (a .goal-len .now) (a .clause-variant .now) (a .clause-flags
-          .now) (a .clause-len .now) (a .literal-kind .now) (a .literal-goal .now) (a .literal-want .now)) (l .goal) (l .variant) (l .strands)
+          .entry-clock) (l .positive) (l .negative) (l .active) (l .s .course)) (l .replies)) on (q .course) (lent-with (set (set
+          (l .strands)
+          (q .«copy_place») (q .copy)) (q .place) (q .strand)) (set (l .answers) (q .«answer_place») (q .answer)) (p .0) (p .1 .0)
+          (p .1 .1 .0)
+          (p .1 .1 .1 .0) (p .1 .1 .1 .1 .0) (p .1 .1 .1 .1 .1 .0) (p .1 .1 .1 .1 .1 .1 .0) (p .1 .1 .1 .1 .1 .1 .1 .0)
+          (p .1 .1 .1 .1 .1 .1 .1
+          .1 .0) (p .1 .1 .1 .1 .1 .1 .1 .1 .1 .0) (p .1 .1 .1 .1 .1 .1 .1 .1 .1 .1 .0) (p .1 .1 .1 .1 .1 .1 .1 .1 .1 .1 .1 .0)
+          (p .1 .1 .1 .1
+          .1 .1 .1 .1 .1 .1 .1 .1 .0) (p .1 .1 .1 .1 .1 .1 .1 .1 .1 .1 .1 .1 .1 .0) (p .1 .1 .1 .1 .1 .1 .1 .1 .1 .1 .1 .1 .1 .1 .0)
+          (p .1 .1 .1
+          .1 .1 .1 .1 .1 .1 .1 .1 .1 .1 .1 .1 .0) (p .1 .1 .1 .1 .1 .1 .1 .1 .1 .1 .1 .1 .1 .1 .1 .1 .0)
+          (p .1 .1 .1 .1 .1 .1 .1 .1 .1 .1 .1 .1
+          .1 .1 .1 .1 .1 .0) (p .1 .1 .1 .1 .1 .1 .1 .1 .1 .1 .1 .1 .1 .1 .1 .1 .1 .1 .0)
+          (p .1 .1 .1 .1 .1 .1 .1 .1 .1 .1 .1 .1 .1 .1 .1 .1 .1
+          .1 .1 .0) (p .1 .1 .1 .1 .1 .1 .1 .1 .1 .1 .1 .1 .1 .1 .1 .1 .1 .1 .1 .1 .0)
+          (p .1 .1 .1 .1 .1 .1 .1 .1 .1 .1 .1 .1 .1 .1 .1 .1 .1 .1
+          .1 .1 .1 .0) (p .1 .1 .1 .1 .1 .1 .1 .1 .1 .1 .1 .1 .1 .1 .1 .1 .1 .1 .1 .1 .1 .1 .0) (q .course)) (λ x h′.
+          settling .settle .ensures
+          .2 (book-of (a .goals) clauses (a .goal-flags .now) (a .goal-first .now) (a .goal-len .now) (a .clause-variant .now)
+          (a .clause-flags
+          .now) (a .clause-len .now) (a .literal-kind .now) (a .literal-goal .now) (a .literal-want .now)) (l .goal) (l .variant)
+          (l .strands)
           (l .answers) (l .answer-variant) (l .answer-key) (l .answer-ambiguous) x still (further (book-of (a .goals) clauses (a .goal-flags
-          .now) (a .goal-first .now) (a .goal-len .now) (a .clause-variant .now) (a .clause-flags .now) (a .clause-len .now) (a .literal-kind
+          .now) (a .goal-first .now) (a .goal-len .now) (a .clause-variant .now) (a .clause-flags .now) (a .clause-len .now)
+          (a .literal-kind
           .now) (a .literal-goal .now) (a .literal-want .now)) (l .s .asked) (walk r (lent-with (l .strands) (l .answers) (l .goal) (l
-          .coinductive) (l .floundered) (l .complete) (n .0) (n .1 .0) (n .1 .1 .0) (n .1 .1 .1 .0) (l .ambiguous) (l .variant) (l .waits) (l
-          .wants) (l .answer-next) (l .answer-tail) (l .answer-len) (l .answer-variant) (l .answer-key) (l .answer-ambiguous) (k .0) (k .1 .0)
-          (k .1 .1 .0) (k .1 .1 .1 .0) (k .1 .1 .1 .1 .0) r)) (looking .look .result) (looking .look .ensures) (picking .pick .result) (picking
-          .pick .ensures) _ x (passing .pass .ensures (a .goals) clauses (a .clause-len .now) (a .literal-kind .now) (a .literal-goal .now) (a
-          .literal-want .now) (l .strands) (l .answers)) (settling .settle .ensures .0 ∙ still) h′)) (c .with-course .result) (c .with-course
+          .coinductive) (l .floundered) (l .complete) (n .0) (n .1 .0) (n .1 .1 .0) (n .1 .1 .1 .0) (l .ambiguous) (l .variant) (l .waits)
+          (l
+          .wants) (l .answer-next) (l .answer-tail) (l .answer-len) (l .answer-variant) (l .answer-key) (l .answer-ambiguous) (k .0)
+          (k .1 .0)
+          (k .1 .1 .0) (k .1 .1 .1 .0) (k .1 .1 .1 .1 .0) r)) (looking .look .result) (looking .look .ensures) (picking .pick .result)
+          (picking
+          .pick .ensures) _ x (passing .pass .ensures (a .goals) clauses (a .clause-len .now) (a .literal-kind .now)
+          (a .literal-goal .now) (a
+          .literal-want .now) (l .strands) (l .answers)) (settling .settle .ensures .0 ∙ still) h′)) (c .with-course .result)
+          (c .with-course
           .ensures) u h),
     )
 
