@@ -5,11 +5,12 @@ use mathlib.Core.Bool.{Bool, false}
 use mathlib.Core.List.{List, [], _∷_, map}
 use mathlib.Core.Path.{_≡_, refl, sym, ap, ap₂, subst, _∙_}
 use lib.Dec.{eqb}
-use lib.ListN.{getD}
+use lib.ListN.{getD, replicate, length-replicate}
 use borrow.Author.Tests.{lt-ltb, ltb-true, leb-true}
 use Rattle.definitions.specs.{MAX}
 use Rattle.definitions.specs.Calls as said
-use Rattle.stores.specs.Stack.{blank-stack}
+use Rattle.stores.specs.declared.stack.Stack.{Stack}
+use Rattle.stores.specs.Sound.{SoundStack}
 use Rattle.stores.proofs.StackViews.{blank-stack-sound}
 use Rattle.control.specs.PerformDeed.{stack-of}
 use Rattle.search.specs.RootAnswer.{one-more-by, one-more}
@@ -97,6 +98,25 @@ module _ (f : Forest) (calls : List ℕ) (fit : (i : ℕ) → getD calls i 0 ≤
       and-then v u (began v) x (ltb-true (v .serving .at) n e) c
       (sitting rest refl (subst Sound (sym (c .leaves)) (left-sound (forest-at f v) (c .tells) o (c .gives))) (c .idle))
 
+-- nothing is on the stack, and what its arrays hold nobody sees
+abbrev empty-stack : Stack
+empty-stack =
+    let zeros = replicate {A = ℕ} 64 0 in
+    stack-of 0 zeros zeros zeros zeros zeros
+
+empty-stack-sound : SoundStack empty-stack
+empty-stack-sound =
+    let o = blank-stack-sound in
+    record {
+      few = o .few;
+      long-table = o .long-table;
+      long-clock = o .long-clock;
+      long-positive = o .long-positive;
+      long-negative = o .long-negative;
+      long-active = length-replicate {A = ℕ} 64 0;
+      places = λ i h. absurd (omega arith);
+    }
+
 -- THE WAY OUT of `serve_calls`: from the forest's own stage on, with nothing on the stack, to the forest that carries the last course
 module _ (f : Forest) (count n : ℕ) (clamped : n ≡ min count 256) (calls before : List ℕ) (fit : (i : ℕ) → getD calls i 0 ≤ MAX)
     (from : Serving) (is : from ≡ first-serving f) (s : Serving) (r : Forest)
@@ -105,13 +125,13 @@ module _ (f : Forest) (count n : ℕ) (clamped : n ≡ min count 256) (calls bef
   serves clauses z =
       Serves (book-of (f .goals) clauses (f .«goal_flags») (f .«goal_first») (f .«goal_len») (f .«clause_variant») (f .«clause_flags»)
       (f .«clause_len») (f .«literal_kind») (f .«literal_goal») (f .«literal_want»)) (f .«clock_limit») calls n
-      (stage z (lent-with f blank-stack) before)
+      (stage z (lent-with f empty-stack) before)
       (stage s (lent-with r (stack-of (s .course .depth) tables clocks positives negatives actives)) after)
 
   pub calls-served : ((clauses : ℕ) → from .busy ≡ false
       → Serves (book-of (f .goals) clauses (f .«goal_flags») (f .«goal_first») (f .«goal_len») (f .«clause_variant») (f .«clause_flags»)
       (f .«clause_len») (f .«literal_kind») (f .«literal_goal») (f .«literal_want»)) (f .«clock_limit») calls n
-      (stage from (lent-with f blank-stack) before)
+      (stage from (lent-with f empty-stack) before)
       (stage s (lent-with r (stack-of (s .course .depth) tables clocks positives negatives actives)) after))
       → r ≡ forest-of f (s .course) (lent-with r (stack-of (s .course .depth) tables clocks positives negatives actives))
       → Sound f → ServeCallsSays f count calls before r after
@@ -120,7 +140,7 @@ module _ (f : Forest) (count n : ℕ) (clamped : n ≡ min count 256) (calls bef
       let all : n - 0 ≡ min count 256 = omega arith in
       let x = sitting f calls fit n most
       (subst (serves (f .clauses)) is (h (f .clauses) (ap (λ (z : Serving). z .busy) is))) refl o
-      (record { sound = blank-stack-sound; empty = refl }) in
+      (record { sound = empty-stack-sound; empty = refl }) in
       record {
         told = x .tells;
         sits = x .sits;

@@ -253,15 +253,34 @@ fn opening(out: &mut [u8], at: usize, clock: u64, mark: u8, count: usize) -> usi
     counted(out, m, b" tables ", count as u64)
 }
 
+// The strand at a place. The clauses' arrays are lent by a forest's own, and so have one lifetime.
+fn in_hand<'a>(
+    s: Strand,
+    waits: u8,
+    wants: u16,
+    clause_variant: &'a [u16; 256],
+    clause_flags: &'a [u8; 256],
+    clause_len: &'a [u8; 256],
+    literal_kind: &'a [u8; 2048],
+    literal_goal: &'a [u16; 2048],
+    literal_want: &'a [u16; 2048],
+) -> Strand {
+    strand_in_hand(
+        s,
+        waits,
+        wants,
+        clause_variant,
+        clause_flags,
+        clause_len,
+        literal_kind,
+        literal_goal,
+        literal_want,
+    )
+}
+
 // The dump, without a newline: how much of the buffer is in use behind it. The checker knows of it that it ends and stays in the buffer;
 // what it writes is shown by the run beside the Rust alone (`tools/differential`).
 pub fn dump(f: Forest, out: &mut [u8], at: usize) -> usize {
-    let clause_variant = f.clause_variant;
-    let clause_flags = f.clause_flags;
-    let clause_len = f.clause_len;
-    let literal_kind = f.literal_kind;
-    let literal_goal = f.literal_goal;
-    let literal_want = f.literal_want;
     let mut a = opening(out, at, f.clock, f.mark, f.count);
     let mut i: usize = 0;
     while i < 64 {
@@ -290,16 +309,16 @@ pub fn dump(f: Forest, out: &mut [u8], at: usize) -> usize {
         while more > 0 {
             p = f.next[wide(p)];
             let k = wide(p);
-            let s = strand_in_hand(
+            let s = in_hand(
                 f.strands[k],
                 f.waits[k],
                 f.wants[k],
-                &clause_variant,
-                &clause_flags,
-                &clause_len,
-                &literal_kind,
-                &literal_goal,
-                &literal_want,
+                &f.clause_variant,
+                &f.clause_flags,
+                &f.clause_len,
+                &f.literal_kind,
+                &f.literal_goal,
+                &f.literal_want,
             );
             a = strand(out, a, s, f.time[k]);
             more = more - 1;

@@ -111,7 +111,7 @@ pub fn serve_calls(
     let mut entry_clock: [u64; 64] = [0; 64];
     let mut positive: [u64; 64] = [0; 64];
     let mut negative: [u64; 64] = [0; 64];
-    let mut active: [u16; 64] = [256; 64];
+    let mut active: [u16; 64] = [0; 64];
     let first_strands = f.strands;
     let first_answers = f.answers;
     let from = first_serving(f);
@@ -162,6 +162,17 @@ pub fn serve_calls(
     let strands = r.strands;
     let answers = r.answers;
     let forest = Forest {
+        goals: f.goals,
+        clauses: f.clauses,
+        goal_flags,
+        goal_first,
+        goal_len,
+        clause_variant,
+        clause_flags,
+        clause_len,
+        literal_kind,
+        literal_goal,
+        literal_want,
         count: course.count,
         goal,
         coinductive,
@@ -185,9 +196,9 @@ pub fn serve_calls(
         answer_key,
         answer_ambiguous,
         answer_used: course.answer_used,
+        clock_limit: f.clock_limit,
         mark: course.mark,
         clock: course.clock,
-        ..f
     };
     forest
 }

@@ -7,27 +7,27 @@ use Rattle.forest.proofs.dump.dump.Statement.{statement}
 use Rattle.forest.proofs.dump.dump.Tie as tie
 
 abbrev Inv-loop2 : tie.InvT-loop2
-Inv-loop2 out₀ at f clause-variant clause-flags clause-len literal-kind literal-goal literal-want a₀ i q₀ left₀ t19 out a q left =
+Inv-loop2 out₀ at f a₀ i q₀ left₀ t19 out a q left =
     length out ≡ length out₀
 
 abbrev μ-loop2 : tie.MeasureT-loop2
-μ-loop2 out₀ at f clause-variant clause-flags clause-len literal-kind literal-goal literal-want a₀ i q₀ left₀ t19 out a q left =
+μ-loop2 out₀ at f a₀ i q₀ left₀ t19 out a q left =
     left
 
 abbrev Inv-loop3 : tie.InvT-loop3
-Inv-loop3 out₀ at f clause-variant clause-flags clause-len literal-kind literal-goal literal-want a₀ i q left p₀ more₀ t19 out a p more =
+Inv-loop3 out₀ at f a₀ i q left p₀ more₀ t19 out a p more =
     length out ≡ length out₀
 
 abbrev μ-loop3 : tie.MeasureT-loop3
-μ-loop3 out₀ at f clause-variant clause-flags clause-len literal-kind literal-goal literal-want a₀ i q left p₀ more₀ t19 out a p more =
+μ-loop3 out₀ at f a₀ i q left p₀ more₀ t19 out a p more =
     more
 
 abbrev Inv-loop : tie.InvT-loop
-Inv-loop out₀ at f clause-variant clause-flags clause-len literal-kind literal-goal literal-want a₀ i₀ t19 out a i =
+Inv-loop out₀ at f a₀ i₀ t19 out a i =
     (i ≤ 64) × (length out ≡ length out₀)
 
 abbrev μ-loop : tie.MeasureT-loop
-μ-loop out₀ at f clause-variant clause-flags clause-len literal-kind literal-goal literal-want a₀ i₀ t19 out a i =
+μ-loop out₀ at f a₀ i₀ t19 out a i =
     64 - i
 
 opening-requires : tie.Need-opening-requires Inv-loop2 μ-loop2 Inv-loop3 μ-loop3 Inv-loop μ-loop
@@ -148,29 +148,29 @@ element-copy-out-p-2 c = search needs
 wide-requires-4 : tie.Need-wide-requires-4 Inv-loop2 μ-loop2 Inv-loop3 μ-loop3 Inv-loop μ-loop
 wide-requires-4 c κs = search needs
 
-mul-strand-in-hand :
-    tie.Need-mul-strand-in-hand Inv-loop2 μ-loop2 Inv-loop3 μ-loop3 Inv-loop μ-loop
-mul-strand-in-hand c = search needs
+mul-in-hand :
+    tie.Need-mul-in-hand Inv-loop2 μ-loop2 Inv-loop3 μ-loop3 Inv-loop μ-loop
+mul-in-hand c = search needs
 
-element-copy-out-strand-in-hand :
-    tie.Need-element-copy-out-strand-in-hand Inv-loop2 μ-loop2 Inv-loop3 μ-loop3 Inv-loop μ-loop
-element-copy-out-strand-in-hand c = search needs
+element-copy-out-in-hand :
+    tie.Need-element-copy-out-in-hand Inv-loop2 μ-loop2 Inv-loop3 μ-loop3 Inv-loop μ-loop
+element-copy-out-in-hand c = search needs
 
-element-copy-out-strand-in-hand-2 :
-    tie.Need-element-copy-out-strand-in-hand-2 Inv-loop2 μ-loop2 Inv-loop3 μ-loop3 Inv-loop μ-loop
-element-copy-out-strand-in-hand-2 c = search needs
+element-copy-out-in-hand-2 :
+    tie.Need-element-copy-out-in-hand-2 Inv-loop2 μ-loop2 Inv-loop3 μ-loop3 Inv-loop μ-loop
+element-copy-out-in-hand-2 c = search needs
 
-mul-strand-in-hand-2 :
-    tie.Need-mul-strand-in-hand-2 Inv-loop2 μ-loop2 Inv-loop3 μ-loop3 Inv-loop μ-loop
-mul-strand-in-hand-2 c = search needs
+mul-in-hand-2 :
+    tie.Need-mul-in-hand-2 Inv-loop2 μ-loop2 Inv-loop3 μ-loop3 Inv-loop μ-loop
+mul-in-hand-2 c = search needs
 
-element-copy-out-strand-in-hand-3 :
-    tie.Need-element-copy-out-strand-in-hand-3 Inv-loop2 μ-loop2 Inv-loop3 μ-loop3 Inv-loop μ-loop
-element-copy-out-strand-in-hand-3 c = search needs
+element-copy-out-in-hand-3 :
+    tie.Need-element-copy-out-in-hand-3 Inv-loop2 μ-loop2 Inv-loop3 μ-loop3 Inv-loop μ-loop
+element-copy-out-in-hand-3 c = search needs
 
-strand-in-hand-requires :
-    tie.Need-strand-in-hand-requires Inv-loop2 μ-loop2 Inv-loop3 μ-loop3 Inv-loop μ-loop
-strand-in-hand-requires c κs = search needs
+in-hand-requires :
+    tie.Need-in-hand-requires Inv-loop2 μ-loop2 Inv-loop3 μ-loop3 Inv-loop μ-loop
+in-hand-requires c κs = search needs
 
 mul-strand : tie.Need-mul-strand Inv-loop2 μ-loop2 Inv-loop3 μ-loop3 Inv-loop μ-loop
 mul-strand c = search needs
@@ -251,12 +251,12 @@ dump-spec =
     wide-requires-3
     element-copy-out-p-2
     wide-requires-4
-    mul-strand-in-hand
-    element-copy-out-strand-in-hand
-    element-copy-out-strand-in-hand-2
-    mul-strand-in-hand-2
-    element-copy-out-strand-in-hand-3
-    strand-in-hand-requires
+    mul-in-hand
+    element-copy-out-in-hand
+    element-copy-out-in-hand-2
+    mul-in-hand-2
+    element-copy-out-in-hand-3
+    in-hand-requires
     mul-strand
     element-copy-out-strand
     strand-requires

@@ -19,7 +19,7 @@ serve-all-requires c κs = search needs
 
 returns : tie.Need-returns
 returns c =
-    let serving = c .before .before .before .before .before .before .before .before .before .before .before .before .before in
+    let serving = c .before .before .before .before in
     let first = serving .before .before .before .before .before .before .before .before .before .before .before .before .before .before
     .before .before .before .before .before .before .before .before .before .before .before .before .before .before .before .before
     .before .before .before .before in
