@@ -97,7 +97,8 @@ fn full(s: Serving) -> Serving
     }
 }
 
-fn serve_open<'a>(
+// An open, refused with 20 and 9 in this order; it stops with 22 where the table's strands have no room.
+pub fn serve_open<'a>(
     s: Serving,
     goals: usize,
     goal_asked: u64,

@@ -10,7 +10,7 @@ use lib.Dec.{eqb, leb, ltb}
 use lib.ListN.{length, getD}
 use borrow.Author.Tests.{le-leb, lt-leb, eq-eqb, ne-eqb, lt-ltb, le-ltb, ltb-false}
 use Rattle.definitions.specs.{TableIndex}
-use Rattle.definitions.specs.Book.{Book, Goal, bit1}
+use Rattle.definitions.specs.Book.{Book, Goal}
 use Rattle.definitions.specs.Forest as said
 use Rattle.definitions.specs.Forest.{opened}
 use Rattle.definitions.specs.Logic.{initial-strand, build-table}
@@ -28,14 +28,14 @@ use Rattle.asserts.proofs.Safe.{case-safe}
 use Rattle.asserts.proofs.Searches.{mark-kept}
 use Rattle.asserts.proofs.Sound.{SoundForest}
 use Rattle.split.specs.Acts.{built}
-use Rattle.book.specs.Access.{entry}
 use Rattle.stores.specs.Numbers.{free, first-at, within}
 use Rattle.stores.proofs.ListsSpans.{first-if}
 use Rattle.stores.proofs.PlacesViews.{in-use-is}
 use Rattle.stores.proofs.QueueStores.{queued-is}
 use Rattle.stores.proofs.TablesSearch.{index-of-view}
+use Rattle.stores.specs.Stack.{blank-stack}
 use Rattle.control.specs.declared.select_subgoal.Made.{Made}
-use Rattle.control.specs.SelectSubgoal.{strands-by}
+use Rattle.control.specs.MakeTables.{Tabling, tabling, tables-from}
 use Rattle.control.specs.Stores.{Stores, first-strands}
 use Rattle.control.proofs.ChooseRoom.{strands-for}
 use Rattle.control.proofs.DoingMade.{Tabled, tabled, made-from, tables-for, built-counted}
@@ -44,9 +44,66 @@ use Rattle.control.proofs.SelectTables.{building, built-of, built-is}
 use Rattle.forest.specs.declared.Forest.{Forest}
 use Rattle.forest.specs.declared.open.Opening.{Opening}
 use Rattle.forest.specs.declared.open.Opening.the-variants as openings
-use Rattle.forest.specs.Open.{opened-by, tabling-in, made-for, forest-with, OpenSays}
-use Rattle.forest.specs.View.{stores-in, view, Sound}
+use Rattle.forest.specs.Open.{opened-by, OpenSays}
+use Rattle.forest.specs.View.{lent-with, stores-in, view, Sound}
 use Rattle.forest.proofs.Running.{tables-counted}
+
+-- HOW A TABLE IS MADE
+
+-- the forest's tables and strands
+abbrev pub tabling-in : Forest → Tabling
+tabling-in f = tabling (lent-with f blank-stack .tables) (lent-with f blank-stack .strands)
+
+-- with the table of this goal
+abbrev pub made-for : (g : ℕ) → Forest → Tabling
+made-for g f =
+    tables-from (f .«goal_flags») (f .«goal_first») (f .«goal_len») (f .«clause_variant») (f .«clause_flags»)
+    (g ∷ 0 ∷ 0 ∷ 0 ∷ 0 ∷ 0 ∷ 0 ∷ 0 ∷ []) 1 0 (tabling-in f)
+
+-- a forest with these tables and strands, and this mark
+abbrev pub forest-with : Tabling → (mark : ℕ) → Forest → Forest
+forest-with m mark f =
+    let ts = m .tables in
+    let s = m .strands in
+    record {
+      goals = f .goals;
+      clauses = f .clauses;
+      «goal_flags» = f .«goal_flags»;
+      «goal_first» = f .«goal_first»;
+      «goal_len» = f .«goal_len»;
+      «clause_variant» = f .«clause_variant»;
+      «clause_flags» = f .«clause_flags»;
+      «clause_len» = f .«clause_len»;
+      «literal_kind» = f .«literal_kind»;
+      «literal_goal» = f .«literal_goal»;
+      «literal_want» = f .«literal_want»;
+      count = ts .count;
+      goal = ts .goal;
+      coinductive = ts .coinductive;
+      floundered = ts .floundered;
+      complete = ts .complete;
+      strands = s .strands;
+      next = s .places .next;
+      tail = s .places .tail;
+      len = s .places .len;
+      time = s .time;
+      ambiguous = s .ambiguous;
+      variant = s .variant;
+      waits = s .waits;
+      wants = s .wants;
+      used = s .places .top;
+      answers = f .answers;
+      «answer_next» = f .«answer_next»;
+      «answer_tail» = f .«answer_tail»;
+      «answer_len» = f .«answer_len»;
+      «answer_variant» = f .«answer_variant»;
+      «answer_key» = f .«answer_key»;
+      «answer_ambiguous» = f .«answer_ambiguous»;
+      «answer_used» = f .«answer_used»;
+      «clock_limit» = f .«clock_limit»;
+      mark = mark;
+      clock = f .clock;
+    }
 
 -- A TABLE THAT IS BUILT, where the book has the goal
 module _ (book : Book) (goal : ℕ) where
@@ -167,14 +224,6 @@ module _ (f : Forest) (o : Sound f) (goal : ℕ) (named : goal < f .goals) where
 -- THE WAYS OUT of `open`
 never-refused : (x : Opening) (f : tables.Forest) (r : said.Opened) → opened-by x f ≡ accepted r → (n : ℕ) → x ≡ openings.Refused n → ⊥
 never-refused x f r e n q = not-accepted (sym (ap (λ (y : Opening). opened-by y f) q) ∙ e)
-
--- of `strands_of`
-pub strands-none : (flags len : List ℕ) (g : ℕ) (b : Bool) → b ≡ bit1 (entry 64 flags g) → b ≡ true → 0 ≡ strands-for flags len g
-strands-none flags len g b is e = sym (ap (λ (x : Bool). strands-by x (entry 64 len g)) (sym is ∙ e))
-
-pub strands-each : (flags len : List ℕ) (g : ℕ) (b : Bool) → b ≡ bit1 (entry 64 flags g) → b ≡ false → (n : ℕ) → n ≡ entry 64 len g
-    → n ≡ strands-for flags len g
-strands-each flags len g b is e n read = read ∙ sym (ap (λ (x : Bool). strands-by x (entry 64 len g)) (sym is ∙ e))
 
 module _ (f : Forest) (goal : ℕ) where
   abbrev unless-named : (marked missing : Bool) → Refusable said.Opened

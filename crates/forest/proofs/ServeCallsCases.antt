@@ -23,7 +23,8 @@ use Rattle.forest.specs.declared.Forest.{Forest}
 use Rattle.forest.specs.ServeCalls.{call-means, all-asked, all-put, all-left, first-serving, ServeCallsSays}
 use Rattle.forest.specs.Sittings.{Told, left, Sits, asked}
 use Rattle.forest.specs.View.{book-in, lent-with, Sound}
-use Rattle.forest.proofs.Serving.{forest-of, forest-at, Idle, left-sound, Came, call-came}
+use Rattle.forest.proofs.Opening.{forest-of, forest-at}
+use Rattle.forest.proofs.Serving.{Idle, left-sound, Came, call-came}
 
 next-is : (i : ℕ) → i < 256 → one-more i ≡ suc i
 next-is i h = ap (λ (b : Bool). one-more-by b i) (lt-ltb i MAX (omega arith))

@@ -11,12 +11,10 @@ use Rattle.definitions.specs.{MAX}
 use Rattle.definitions.specs.Calls as said
 use Rattle.book.specs.declared.Book.{Book}
 use Rattle.stores.specs.declared.stack.Stack.{Stack}
-use Rattle.stores.specs.Numbers.{free}
 use Rattle.stores.specs.Sound.{SoundStack}
 use Rattle.stores.specs.View.{unread-answer}
 use Rattle.control.specs.Performing.{put}
 use Rattle.control.specs.PerformStrand.{Lent}
-use Rattle.control.proofs.ChooseRoom.{strands-for}
 use Rattle.search.specs.declared.course.Asked.{Asked}
 use Rattle.search.specs.declared.course.Course.{Course}
 use Rattle.search.specs.declared.course.Ending.{Ending}
@@ -32,12 +30,11 @@ use Rattle.batch.specs.declared.calls.Said.{Said}
 use Rattle.batch.specs.declared.calls.Said.the-variants as saying
 use Rattle.batch.specs.declared.calls.Serving.{Serving}
 use Rattle.batch.specs.Calls.{reply, word-of, value-of, reply-of}
-use Rattle.batch.specs.Serve.{Stage, stage, said-at-once, open-by, table-of, live-with, refusal-at, begins, search-by, peek-by}
+use Rattle.batch.specs.Serve.{Stage, stage, said-at-once, refusal-at, begins, search-by, peek-by}
 use Rattle.batch.specs.Serve.{from-index, future-by, stored-from, queued-in, begun-by}
 use Rattle.batch.specs.ServeAll.{walk-of}
 use Rattle.forest.specs.declared.Forest.{Forest}
 use Rattle.forest.specs.declared.any_future_answer.Future.the-variants as futures
-use Rattle.forest.specs.declared.open.Opening.the-variants as openings
 use Rattle.forest.specs.declared.searches.Outcome.the-variants as outcomes
 use Rattle.forest.specs.declared.searches.Peeked.{Peeked}
 use Rattle.forest.specs.declared.searches.Ran.{Ran}
@@ -46,59 +43,10 @@ use Rattle.forest.specs.ServeCalls.{means-by, outcome-numbers, numbers}
 use Rattle.forest.specs.Sittings.{Told, opens, searches, peeks, asks-future, left, Gives, asked}
 use Rattle.forest.specs.View.{book-in, stores-with, Sound}
 use Rattle.forest.proofs.AnyFutureAnswerCases.{Within, says-unmade, says-stored, says-queued}
-use Rattle.forest.proofs.OpenCases.{open-marked, open-missing, open-found, open-full, open-made}
+use Rattle.forest.proofs.Opening.{forest-of, forest-at, told-of, OpensBy, opened-so, open-told}
 use Rattle.forest.proofs.Running.{rests-with, stack-left}
 use Rattle.forest.proofs.SearchPeekCases.{asked-in, RunsFrom, search-refused, search-limit, searches-so, search-ran}
 use Rattle.forest.proofs.SearchPeekCases.{peek-refused, peek-rounds-none, peek-limit, peeks-so, peek-ran}
-
--- a forest with this one's book and limit, these stores, and the numbers that a course carries
-abbrev pub forest-of : Forest → Course → Lent → Forest
-forest-of f c w =
-    let ts = w .tables in
-    let s = w .strands in
-    let a = w .answers in
-    record {
-      goals = f .goals;
-      clauses = f .clauses;
-      «goal_flags» = f .«goal_flags»;
-      «goal_first» = f .«goal_first»;
-      «goal_len» = f .«goal_len»;
-      «clause_variant» = f .«clause_variant»;
-      «clause_flags» = f .«clause_flags»;
-      «clause_len» = f .«clause_len»;
-      «literal_kind» = f .«literal_kind»;
-      «literal_goal» = f .«literal_goal»;
-      «literal_want» = f .«literal_want»;
-      count = c .count;
-      goal = ts .goal;
-      coinductive = ts .coinductive;
-      floundered = ts .floundered;
-      complete = ts .complete;
-      strands = s .strands;
-      next = s .places .next;
-      tail = s .places .tail;
-      len = s .places .len;
-      time = s .time;
-      ambiguous = s .ambiguous;
-      variant = s .variant;
-      waits = s .waits;
-      wants = s .wants;
-      used = c .used;
-      answers = a .answers;
-      «answer_next» = a .places .next;
-      «answer_tail» = a .places .tail;
-      «answer_len» = a .places .len;
-      «answer_variant» = a .variant;
-      «answer_key» = a .key;
-      «answer_ambiguous» = a .ambiguous;
-      «answer_used» = c .«answer_used»;
-      «clock_limit» = f .«clock_limit»;
-      mark = c .mark;
-      clock = c .clock;
-    }
-
-abbrev pub forest-at : Forest → Stage → Forest
-forest-at f v = forest-of f (v .serving .course) (v .lent)
 
 -- a stack that nothing is on
 pub record Idle (k : Stack) : Type 0 where
@@ -209,40 +157,27 @@ module _ (f : Forest) (s : Serving) (w : Lent) (l : List ℕ) where
 
     -- OPENING
     module _ (goal : ℕ) where
-      abbrev t : ℕ
-      t = table-of (book-in f) (goal % 256) (v .lent)
-
       abbrev opened : (marked missing there full : Bool) → Stage
-      opened marked missing there full = open-by (book-in f) marked missing there full t (goal % 256) s (v .lent) l
+      opened marked missing there full = opened-so f s w l goal marked missing there full
 
-      open-came : (marked missing there full : Bool) → ltb 0 (s .course .mark) ≡ marked → leb (f .goals) goal ≡ missing
-          → ltb t (s .course .count) ≡ there → ltb 256 (live-with (book-in f) (goal % 256) (v .lent)) ≡ full → {x : Walk}
+      open-came : (marked missing there full : Bool) → OpensBy f s w goal marked missing there full → {x : Walk}
           → Comes (book-in f) (opened marked missing there full .serving .asked) (walk-of (opened marked missing there full)) x
           → Came f v (said.opens goal) (opened marked missing there full) x
-      open-came true missing there full e1 e2 e3 e4 h =
-          at-once refl h (opens goal (record { opening = openings.Refused 20; forest = g }))
-          (open-marked g goal (ltb-true 0 (s .course .mark) e1)) refl refl refl idle refl refl
-      open-came false true there full e1 e2 e3 e4 h =
-          at-once refl h (opens goal (record { opening = openings.Refused 9; forest = g }))
-          (open-missing g goal (ltb-false 0 (s .course .mark) e1) (leb-true (f .goals) goal e2)) refl refl refl idle refl refl
-      open-came false false true full e1 e2 e3 e4 h =
-          at-once refl h (opens goal (record { opening = openings.Table t; forest = g }))
-          (open-found g goal (ltb-false 0 (s .course .mark) e1) (leb-false (f .goals) goal e2) t refl (ltb-true t (s .course .count) e3))
-          refl refl refl idle refl refl
-      open-came false false false true e1 e2 e3 e4 h =
-          let r = forest-at f (opened false false false true) in
-          at-once refl h (opens goal (record { opening = openings.Stopped 22; forest = r }))
-          (open-full g goal (ltb-false 0 (s .course .mark) e1) (leb-false (f .goals) goal e2) t refl
-          (ltb-false t (s .course .count) e3) (g .used - getD (g .len) free 0)
-          (strands-for (f .«goal_flags») (f .«goal_len») (goal % 256)) refl refl true (sym e4) refl r refl)
-          refl refl refl idle refl refl
-      open-came false false false false e1 e2 e3 e4 h =
-          let r = forest-at f (opened false false false false) in
-          at-once refl h (opens goal (record { opening = openings.Table (s .course .count); forest = r }))
-          (open-made g goal (ltb-false 0 (s .course .mark) e1) (leb-false (f .goals) goal e2) t refl
-          (ltb-false t (s .course .count) e3) (g .used - getD (g .len) free 0)
-          (strands-for (f .«goal_flags») (f .«goal_len») (goal % 256)) refl refl false (sym e4) refl r refl)
-          refl refl refl idle refl refl
+      open-came true missing there full e h =
+          at-once refl h (opens goal (told-of f (opened true missing there full)))
+          (open-told f s w l goal true missing there full e) refl refl refl idle refl refl
+      open-came false true there full e h =
+          at-once refl h (opens goal (told-of f (opened false true there full)))
+          (open-told f s w l goal false true there full e) refl refl refl idle refl refl
+      open-came false false true full e h =
+          at-once refl h (opens goal (told-of f (opened false false true full)))
+          (open-told f s w l goal false false true full e) refl refl refl idle refl refl
+      open-came false false false true e h =
+          at-once refl h (opens goal (told-of f (opened false false false true)))
+          (open-told f s w l goal false false false true e) refl refl refl idle refl refl
+      open-came false false false false e h =
+          at-once refl h (opens goal (told-of f (opened false false false false)))
+          (open-told f s w l goal false false false false e) refl refl refl idle refl refl
 
     -- SEARCHING
     abbrev k : Stack
@@ -367,7 +302,7 @@ module _ (f : Forest) (s : Serving) (w : Lent) (l : List ℕ) where
         (walk-of (begun-by (book-in f) (f .«clock_limit») opening searching peeking c (stage s w l))) x
         → Came f (stage s w l) (means-by opening searching peeking c)
         (begun-by (book-in f) (f .«clock_limit») opening searching peeking c (stage s w l)) x
-    call-came true searching peeking c few few′ h = open-came (c .a) _ _ _ _ refl refl refl refl h
+    call-came true searching peeking c few few′ h = open-came (c .a) _ _ _ _ (refl, refl, refl, refl) h
     call-came false true peeking c few few′ h = search-came (c .a) (c .b) (c .c) few _ _ refl refl h
     call-came false false true c few few′ h = peek-came (c .a) (c .b) (c .c) (c .d) few few′ _ _ _ refl refl refl h
     call-came false false false c few few′ h = future-came (c .a) (c .b) (c .c) _ _ _ refl refl refl h

@@ -36,7 +36,7 @@ fn all_fit(numbers: &[u64])
 }
 
 // No call is at hand yet.
-fn first_serving(f: Forest) -> Serving
+pub(crate) fn first_serving(f: Forest) -> Serving
     ensures { λ r. ⌜ r ≡ first-serving f ⌝ }
 {
     let course = Course {
