@@ -1,5 +1,4 @@
-// A search for the first answer of goal 0 of a book, before its first turn.
-use book::Book;
+// A search for the first answer of goal 0 of a book: before its first turn, and again after it was put back.
 use book::read;
 use control::make_tables::make_tables;
 use control::select_subgoal::Made;
@@ -12,8 +11,10 @@ use stores::table::blank_answers;
 use stores::tables::blank_tables;
 use strands::times::TimeStamp;
 
-// The book, with blank stores.
-fn blank(b: Book) -> Search {
+// The book with blank stores and the table of goal 0, before a search.
+pub(crate) fn begun(bytes: &[u8]) -> Search {
+    let r = read(bytes);
+    let b = r.book;
     let ts = blank_tables();
     let s = blank_strands();
     let p = s.places;
@@ -29,19 +30,20 @@ fn blank(b: Book) -> Search {
     let literal_kind = b.literal_kind;
     let literal_goal = b.literal_goal;
     let literal_want = b.literal_want;
-    let goal = ts.goal;
-    let coinductive = ts.coinductive;
-    let floundered = ts.floundered;
-    let complete = ts.complete;
+    let mut goal = ts.goal;
+    let mut coinductive = ts.coinductive;
+    let mut floundered = ts.floundered;
+    let mut complete = ts.complete;
     let strands = s.strands;
-    let next = p.next;
-    let tail = p.tail;
-    let len = p.len;
-    let time = s.time;
-    let ambiguous = s.ambiguous;
-    let variant = s.variant;
-    let waits = s.waits;
-    let wants = s.wants;
+    let mut next = p.next;
+    let mut tail = p.tail;
+    let mut len = p.len;
+    let mut time = s.time;
+    let mut ambiguous = s.ambiguous;
+    let mut variant = s.variant;
+    let mut waits = s.waits;
+    let mut wants = s.wants;
+    let mut used = p.top;
     let answers = a.answers;
     let answer_next = q.next;
     let answer_tail = q.tail;
@@ -54,77 +56,6 @@ fn blank(b: Book) -> Search {
     let positive = k.positive;
     let negative = k.negative;
     let active = k.active;
-    Search {
-        goals: b.goals,
-        clauses: b.clauses,
-        goal_flags,
-        goal_first,
-        goal_len,
-        clause_variant,
-        clause_flags,
-        clause_len,
-        literal_kind,
-        literal_goal,
-        literal_want,
-        count: ts.count,
-        goal,
-        coinductive,
-        floundered,
-        complete,
-        strands,
-        next,
-        tail,
-        len,
-        time,
-        ambiguous,
-        variant,
-        waits,
-        wants,
-        used: p.top,
-        answers,
-        answer_next,
-        answer_tail,
-        answer_len,
-        answer_variant,
-        answer_key,
-        answer_ambiguous,
-        answer_used: q.top,
-        clock_limit: 1000000,
-        mark: 0,
-        clock: 0,
-        depth: 0,
-        entry_table,
-        entry_clock,
-        positive,
-        negative,
-        active,
-        table: 0,
-        index: 0,
-        limit: 1000,
-        done: 0,
-    }
-}
-
-// With the table of goal 0.
-fn tabled(s: Search) -> Search {
-    let mut goal = s.goal;
-    let mut coinductive = s.coinductive;
-    let mut floundered = s.floundered;
-    let mut complete = s.complete;
-    let mut next = s.next;
-    let mut tail = s.tail;
-    let mut len = s.len;
-    let mut time = s.time;
-    let mut ambiguous = s.ambiguous;
-    let mut variant = s.variant;
-    let mut waits = s.waits;
-    let mut wants = s.wants;
-    let goal_flags = s.goal_flags;
-    let goal_first = s.goal_first;
-    let goal_len = s.goal_len;
-    let clause_variant = s.clause_variant;
-    let clause_flags = s.clause_flags;
-    let mut used = s.used;
     let made = Made {
         count: 1,
         goals: [0, 0, 0, 0, 0, 0, 0, 0],
@@ -148,15 +79,27 @@ fn tabled(s: Search) -> Search {
         &goal_len,
         &clause_variant,
         &clause_flags,
-        s.count,
+        ts.count,
         made,
     );
     Search {
+        goals: b.goals,
+        clauses: b.clauses,
+        goal_flags,
+        goal_first,
+        goal_len,
+        clause_variant,
+        clause_flags,
+        clause_len,
+        literal_kind,
+        literal_goal,
+        literal_want,
         count,
         goal,
         coinductive,
         floundered,
         complete,
+        strands,
         next,
         tail,
         len,
@@ -166,7 +109,27 @@ fn tabled(s: Search) -> Search {
         waits,
         wants,
         used,
-        ..s
+        answers,
+        answer_next,
+        answer_tail,
+        answer_len,
+        answer_variant,
+        answer_key,
+        answer_ambiguous,
+        answer_used: q.top,
+        clock_limit: 1000000,
+        mark: 0,
+        clock: 0,
+        depth: 0,
+        entry_table,
+        entry_clock,
+        positive,
+        negative,
+        active,
+        table: 0,
+        index: 0,
+        limit: 1000,
+        done: 0,
     }
 }
 
@@ -199,10 +162,4 @@ pub(crate) fn rooted(s: Search) -> Search {
         active,
         ..s
     }
-}
-
-pub(crate) fn begun(bytes: &[u8]) -> Search {
-    let r = read(bytes);
-    let b = r.book;
-    rooted(tabled(blank(b)))
 }

@@ -8,26 +8,18 @@ use begun::rooted;
 use control::perform::Flow;
 use in_place::by_value::cut;
 use in_place::by_value::turn;
-use search::solve_state::Search;
 
-// A search between two turns, how the last of them ended, and how much of the output's buffer is in use.
-struct Held {
-    flow: Flow,
-    search: Search,
+// Between two steps: how much of the output's buffer is in use, how many turns the search may still have, how many times it is begun
+// again, whether it is put back next, and whether all is over.
+struct Progress {
     at: usize,
+    turns: u64,
+    again: u64,
+    cuts: bool,
+    over: bool,
 }
 
-fn step(out: &mut [u8], h: Held) -> Held {
-    let s = h.search;
-    let t = turn(s);
-    let flow = t.flow;
-    let search = t.search;
-    let at = words::turned(out, h.at, flow, search.depth, search.clock);
-    Held { flow, search, at }
-}
-
-fn goes_on(h: Held) -> bool {
-    let flow = h.flow;
+fn goes_on(flow: Flow) -> bool {
     match flow {
         Flow::Continue => true,
         Flow::ReturnOk => false,
@@ -38,71 +30,86 @@ fn goes_on(h: Held) -> bool {
     }
 }
 
-// To the search's end, or so many turns.
-fn turns(out: &mut [u8], s: Search, at: usize, most: u64) -> Held {
-    let flow = Flow::Continue;
-    let mut h = Held {
-        flow,
-        search: s,
-        at,
-    };
-    let mut left = most;
-    while left > 0 && goes_on(h) {
-        h = step(out, h);
-        left -= 1;
+// After a turn: the next one, or the search is put back, or no more.
+fn turned(out: &mut [u8], p: Progress, flow: Flow, depth: usize, clock: u64) -> Progress {
+    let at = words::turned(out, p.at, flow, depth, clock);
+    if p.turns > 1 && goes_on(flow) {
+        return Progress {
+            at,
+            turns: p.turns - 1,
+            ..p
+        };
     }
-    h
+    Progress {
+        at,
+        cuts: p.again > 0,
+        over: p.again == 0,
+        ..p
+    }
 }
 
-// The first search of a book.
-fn first(out: &mut [u8], at: usize, book: &[u8], most: u64) -> Held {
-    let s = begun(book);
-    turns(out, s, at, most)
+// After a cut: the search is begun again, with as many turns as it takes.
+fn put_back(out: &mut [u8], p: Progress, depth: usize, clock: u64) -> Progress {
+    let at = words::cut(out, p.at, depth, clock);
+    let again = if p.again > 0 { p.again - 1 } else { 0 };
+    Progress {
+        at,
+        turns: 1000,
+        again,
+        cuts: false,
+        over: false,
+    }
 }
 
-// The search is put back, and begun again from there.
-fn again(out: &mut [u8], h: Held) -> Held {
-    let s = h.search;
-    let c = cut(s);
-    let a = words::cut(out, h.at, c.depth, c.clock);
-    turns(out, rooted(c), a, 1000)
+// The first search of a book has so many turns at most; it is put back and begun again so many times. The search stays here.
+fn run(out: &mut [u8], at: usize, book: &[u8], turns: u64, again: u64) -> usize {
+    let mut s = rooted(begun(book));
+    let mut p = Progress {
+        at,
+        turns,
+        again,
+        cuts: false,
+        over: false,
+    };
+    let mut left: u64 = 10000;
+    while left > 0 && !p.over {
+        left -= 1;
+        if p.cuts {
+            let c = cut(s);
+            p = put_back(out, p, c.depth, c.clock);
+            s = rooted(c);
+            continue;
+        }
+        let t = turn(s);
+        let flow = t.flow;
+        s = t.search;
+        p = turned(out, p, flow, s.depth, s.clock);
+    }
+    p.at
 }
 
-// `0 :- 1`, 1 a fact: four turns.
-fn p8(out: &mut [u8], at: usize, most: u64) -> Held {
+// `0 :- 1`, 1 a fact: four turns. Cut after three, it takes one more.
+fn p8(out: &mut [u8], at: usize, turns: u64, again: u64) -> usize {
     let a = pen::text(out, at, b"# p8\n");
-    first(out, a, b"G\0C\0\0\0P\x01\0\0\0\0G\0C\0\0\0E", most)
-}
-
-// Cut after three, it takes one more.
-fn in_two(out: &mut [u8], at: usize) -> usize {
-    let h = p8(out, at, 3);
-    let e = again(out, h);
-    e.at
+    run(out, a, b"G\0C\0\0\0P\x01\0\0\0\0G\0C\0\0\0E", turns, again)
 }
 
 // `0 :- 1, not 2`, 1 has facts /1 and /2, `2 :- 2`: the first two searches end in QuantumExceeded.
-fn p1(out: &mut [u8], at: usize) -> Held {
+fn p1(out: &mut [u8], at: usize) -> usize {
     let a = pen::text(out, at, b"# p1, goal 0\n");
-    first(
+    run(
         out,
         a,
         b"G\0C\0\0\0P\x01\0\0\0\0N\x02\0\0G\0C\x01\0\0C\x02\0\0G\0C\0\0\0P\x02\0\0\0\0E",
         1000,
+        2,
     )
 }
 
-fn in_three(out: &mut [u8], at: usize) -> usize {
-    let h = p1(out, at);
-    let g = again(out, h);
-    let e = again(out, g);
-    e.at
-}
-
 fn all(out: &mut [u8]) -> usize {
-    let h = p8(out, 0, 1000);
-    let a = in_two(out, h.at);
-    in_three(out, a)
+    let whole = p8(out, 0, 1000, 0);
+    let in_two = p8(out, whole, 3, 1);
+    p1(out, in_two)
 }
 
 fn main() {
