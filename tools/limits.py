@@ -1,23 +1,22 @@
 #!/usr/bin/env python3
 """What document 01 says at each limit and beside it: the cases p1 to p9, the sizes, every refusal and every stop, as a script of calls.
 
-tools/limits.py           write crates/limits/stdin, the script, and crates/limits/stdout, what the program `limits` has to say to it
-tools/limits.py --check   say whether the files there are those
-tools/limits.py --oracle  run the Rust on the script, and say whether it replies so
+tools/limits.py                 print the script, each call with what it has to reply
+tools/limits.py --oracle        run the Rust on it, and say whether it replies so
+tools/limits.py --replay [PATH] run target/bin/replay on it, or a program in its place: the calls by value, handed over together, and by
+                                &mut, and say whether it replies so each time
 
-The script is in the form that `oracle run` reads; a line that begins with # is a title, which the program writes as it is. What a call
-has to reply stands behind ` = ` and is written by hand, from document 01. Books are in the notation of papers.py, or bytes in hex.
+The script is in the form that `oracle run` reads; a line that begins with # is a title. What a call has to reply stands behind ` = ` and
+is written by hand, from document 01. Books are in the notation of papers.py, or bytes in hex.
 """
 import argparse
-import os
 import re
-import subprocess
 import sys
 
 import papers
+import sides
 import tree
 
-FOLDER = os.path.join(tree.ROOT, "crates", "limits")
 LARGEST = 2 ** 64 - 1
 CLOCK = 1000000
 
@@ -198,56 +197,49 @@ def cases():
 
 
 def script():
-    """The script, what the program has to write, and what `oracle run` has to reply."""
-    asked, said, replies = [], [], []
+    """The lines of the script, and what each call has to reply, in order."""
+    asked, replies = [], []
     for title, book, clock, calls in cases():
-        digits = hexed(book)
-        asked += ["# " + title, "book %s clock %d" % (digits, clock)]
-        said += ["# " + title, "book of %d bytes, clock %d: %s" % (len(digits) // 2, clock, calls[0])]
+        asked += ["# " + title, "book %s clock %d" % (hexed(book), clock)]
         replies.append(calls[0])
         for line in calls[1:]:
             call, _, reply = line.partition(" = ")
             asked.append(call)
-            said.append("%s: %s" % (call, reply))
             replies.append(reply)
-    return asked, said, replies
+    return asked, replies
 
 
-def stale():
-    asked, said, _ = script()
-    files = {"stdin": "\n".join(asked) + "\n", "stdout": "\n".join(said) + "\n"}
-    return {name: text for name, text in files.items() if not os.path.exists(os.path.join(FOLDER, name)) or tree.read(os.path.join(FOLDER, name)) != text}
+def printed():
+    asked, replies = script()
+    left = iter(replies)
+    return "\n".join(line if line.startswith("#") else "%s = %s" % (line, next(left)) for line in asked)
 
 
-def held_to_the_rust():
-    """The calls to which the Rust replies otherwise."""
-    asked, said, replies = script()
-    run = subprocess.run([tree.oracle(), "run"], input="\n".join(asked) + "\n", capture_output=True, text=True)
-    if run.returncode != 0:
-        sys.exit("limits.py: the oracle ended with status %d: %s" % (run.returncode, run.stderr.strip()))
-    got = run.stdout.split("\n")[:-1][::2]
-    calls = [line for line in said if not line.startswith("# ")]
+def held(who, words):
+    """Whether a program replies to each call as it has to; tells where it doesn't."""
+    asked, replies = script()
+    got = [line.decode() for line in sides.RESULT.findall(sides.said(words, ("\n".join(asked) + "\n").encode()))]
+    calls = [line for line in asked if not line.startswith("#")]
+    wrong = ["%s = %s (%s: %s)" % (call[:200], reply, who, is_so) for call, reply, is_so in zip(calls, replies, got) if reply != is_so]
     if len(got) != len(replies):
-        sys.exit("limits.py: the oracle has %d replies, and there are %d calls" % (len(got), len(replies)))
-    return ["%s (the Rust: %s)" % (line, is_so) for line, reply, is_so in zip(calls, replies, got) if reply != is_so], len(got)
+        wrong.append("%s has %d replies, and there are %d calls" % (who, len(got), len(replies)))
+    print("\n".join(wrong + ["%d calls, %d to which %s replies otherwise" % (len(calls), len(wrong), who)]))
+    return not wrong
 
 
 def main():
     words = argparse.ArgumentParser(description=__doc__, formatter_class=argparse.RawDescriptionHelpFormatter)
-    words.add_argument("--check", action="store_true")
-    words.add_argument("--oracle", action="store_true")
-    asked = words.parse_args()
-    if asked.oracle:
-        wrong, count = held_to_the_rust()
-        print("\n".join(wrong + ["%d calls, %d to which the Rust replies otherwise" % (count, len(wrong))]))
-        sys.exit(1 if wrong else 0)
-    old = stale()
-    if asked.check:
-        sys.exit("limits.py: not as the script makes it: %s" % ", ".join(sorted(old)) if old else 0)
-    os.makedirs(FOLDER, exist_ok=True)
-    for name, text in old.items():
-        tree.write(os.path.join(FOLDER, name), text)
+    words.add_argument("--oracle", action="store_true", help="the Rust")
+    words.add_argument("--replay", nargs="?", const="", metavar="PATH", help="the program, in each manner of calling")
+    a = words.parse_args()
+    runs = [("the Rust", [tree.oracle(), "run", "quiet"])] if a.oracle else []
+    if a.replay is not None:
+        replay = tree.program(a.replay, "rt check replay") if a.replay else tree.built("replay")
+        runs += [("replay" + " ".join(["", *manner]), [replay, "quiet", *manner]) for manner in ([], ["batch"], ["lent"])]
+    if not runs:
+        print(printed())
+    return 0 if all([held(who, command) for who, command in runs]) else 1
 
 
 if __name__ == "__main__":
-    main()
+    sys.exit(main())
