@@ -232,10 +232,10 @@ def main():
     words.add_argument("--oracle", action="store_true", help="the Rust")
     words.add_argument("--replay", nargs="?", const="", metavar="PATH", help="the program, in each manner of calling")
     a = words.parse_args()
-    runs = [("the Rust", [tree.oracle(), "run", "quiet"])] if a.oracle else []
+    runs = [("the Rust", [tree.oracle(), "run", "bare"])] if a.oracle else []
     if a.replay is not None:
         replay = tree.program(a.replay, "rt check replay") if a.replay else tree.built("replay")
-        runs += [("replay" + " ".join(["", *manner]), [replay, "quiet", *manner]) for manner in ([], ["batch"], ["lent"])]
+        runs += [("replay" + " ".join(["", *manner]), [replay, "bare", *manner]) for manner in ([], ["batch"], ["lent"])]
     if not runs:
         print(printed())
     return 0 if all([held(who, command) for who, command in runs]) else 1

@@ -16,7 +16,7 @@ use std::process::ExitCode;
 
 const USAGE: &str = "usage: oracle list [hex] < BOOK
        oracle lists < LINES OF HEX
-       oracle run [batch] [quiet|counted] < SCRIPT
+       oracle run [batch] [quiet|bare|counted] < SCRIPT
        oracle searches < SCRIPT
        oracle read < LINES OF HEX
        oracle gen SEED COUNT [mix|plain|tiny|bytes|answers|small|limits|large|lines]
@@ -97,6 +97,7 @@ fn run(words: &[&str]) -> Result<(), String> {
     let form = match others[..] {
         [] => script::Form::Plain,
         ["quiet"] => script::Form::Quiet,
+        ["bare"] => script::Form::Bare,
         ["counted"] => script::Form::Counted,
         _ => return Err(USAGE.into()),
     };

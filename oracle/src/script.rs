@@ -96,6 +96,7 @@ pub fn word(outcome: &Outcome) -> String {
 pub enum Form {
     Plain,
     Quiet,
+    Bare,
     Counted,
 }
 
@@ -109,7 +110,7 @@ pub fn result_line(reply: &Reply, form: Form, out: &mut String) {
             let _ = write!(out, "{} at {} turns {}", word(&ended.outcome), ended.index, ended.turns);
             match form {
                 Form::Counted => write!(out, " exceeded {}", ended.quanta),
-                Form::Plain | Form::Quiet => Ok(()),
+                Form::Plain | Form::Quiet | Form::Bare => Ok(()),
             }
         }
         Reply::Future(found) => write!(out, "{found}"),
@@ -157,8 +158,11 @@ impl Runner {
         Runner { batch: true, ..Runner::new(form) }
     }
 
-    /// What the forest holds.
+    /// What the forest holds; a bare run says nothing of it.
     fn state(&mut self, out: &mut String) {
+        if self.form == Form::Bare {
+            return;
+        }
         self.dump.clear();
         match &self.bounded {
             None => self.dump.push_str("state none"),
@@ -234,7 +238,7 @@ impl Runner {
     }
 }
 
-/// `oracle run [batch] [quiet|counted]`
+/// `oracle run [batch] [quiet|bare|counted]`
 pub fn run(mut runner: Runner, input: impl BufRead, mut output: impl Write) -> Result<(), String> {
     let mut out = String::new();
     for line in input.split(b'\n') {

@@ -1,8 +1,8 @@
 // Calls that are handed over together, as numbers (`batch::calls`), and what they came to, in words.
 use crate::line;
 use crate::line::Line;
+use crate::steps;
 use crate::steps::Midst;
-use crate::steps::Step;
 use crate::words;
 use batch::calls::NUMBERS;
 use batch::calls::Reply;
@@ -129,13 +129,12 @@ pub(crate) fn told(
     replies: &[u64; NUMBERS],
 ) -> Midst {
     let a = told_all(out, m.at, calls, replies, m.waiting);
-    let step = Step::Show;
-    Midst {
-        step,
+    let served = Midst {
         at: a,
         waiting: 0,
         ..m
-    }
+    };
+    steps::show(out, served)
 }
 
 // As many calls have no forest.

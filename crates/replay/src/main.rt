@@ -2,6 +2,7 @@
 // then holds. It is held against the Rust so, line by line (`tools/differential`). The script, and what is written, are those of
 // `oracle run` (`oracle/README.md`). Its arguments are words in any order:
 //   quiet  in place of what the forest holds, the 64-bit FNV-1a hash of that;
+//   bare   nothing in place of it;
 //   batch  calls are handed over together, and what the forest holds is said after all of them;
 //   lent   opens, searches and peeks go through the functions that are lent a forest by `&mut`.
 // No contract can speak of what is read or written: the program's run on its file `stdin`, held to its file `stdout`, guards that.

@@ -4,6 +4,7 @@ ghost use Prim.Native.Nat.{_<_};
 pub(crate) struct Manner {
     pub quiet: bool,
     pub batch: bool,
+    pub bare: bool,
     pub lent: bool,
 }
 
@@ -30,6 +31,7 @@ fn with(m: Manner, word: u64) -> Manner {
     match word {
         0x7175696574 => Manner { quiet: true, ..m },
         0x6261746368 => Manner { batch: true, ..m },
+        0x6261726500 => Manner { bare: true, ..m },
         0x6c656e7400 => Manner { lent: true, ..m },
         _ => m,
     }
@@ -39,6 +41,7 @@ pub(crate) fn asked() -> Manner {
     let none = Manner {
         quiet: false,
         batch: false,
+        bare: false,
         lent: false,
     };
     let one = with(none, argument(1));

@@ -102,8 +102,11 @@ pub(crate) fn shown(out: &mut [u8], m: Midst, said: &[u8], n: usize) -> Midst {
     after_state(m, a)
 }
 
-// What the forest holds comes next; where there is none, that is said at once.
-fn show(out: &mut [u8], m: Midst) -> Midst {
+// What the forest holds comes next; where there is none, that is said at once, and in a bare run nothing is.
+pub(crate) fn show(out: &mut [u8], m: Midst) -> Midst {
+    if m.manner.bare {
+        return after_state(m, m.at);
+    }
     if m.there {
         return to(m, Step::Show);
     }
