@@ -36,6 +36,7 @@ use Rattle.stores.proofs.TablesSearch.{index-of-view}
 use Rattle.stores.specs.Stack.{blank-stack}
 use Rattle.control.specs.declared.select_subgoal.Made.{Made}
 use Rattle.control.specs.MakeTables.{Tabling, tabling, tables-from}
+use Rattle.control.specs.PerformStrand.{lent-of}
 use Rattle.control.specs.Stores.{Stores, first-strands}
 use Rattle.control.proofs.ChooseRoom.{strands-for}
 use Rattle.control.proofs.DoingMade.{Tabled, tabled, made-from, tables-for, built-counted}
@@ -45,65 +46,25 @@ use Rattle.forest.specs.declared.Forest.{Forest}
 use Rattle.forest.specs.declared.open.Opening.{Opening}
 use Rattle.forest.specs.declared.open.Opening.the-variants as openings
 use Rattle.forest.specs.Open.{opened-by, OpenSays}
-use Rattle.forest.specs.View.{lent-with, stores-in, view, Sound}
+use Rattle.forest.specs.View.{book-in, lent-with, stores-in, view, Sound, forest-by}
 use Rattle.forest.proofs.Running.{tables-counted}
 
 -- HOW A TABLE IS MADE
 
 -- the forest's tables and strands
-abbrev pub tabling-in : Forest → Tabling
+abbrev tabling-in : Forest → Tabling
 tabling-in f = tabling (lent-with f blank-stack .tables) (lent-with f blank-stack .strands)
 
 -- with the table of this goal
-abbrev pub made-for : (g : ℕ) → Forest → Tabling
+abbrev made-for : (g : ℕ) → Forest → Tabling
 made-for g f =
     tables-from (f .«goal_flags») (f .«goal_first») (f .«goal_len») (f .«clause_variant») (f .«clause_flags»)
     (g ∷ 0 ∷ 0 ∷ 0 ∷ 0 ∷ 0 ∷ 0 ∷ 0 ∷ []) 1 0 (tabling-in f)
 
 -- a forest with these tables and strands, and this mark
-abbrev pub forest-with : Tabling → (mark : ℕ) → Forest → Forest
+abbrev forest-with : Tabling → (mark : ℕ) → Forest → Forest
 forest-with m mark f =
-    let ts = m .tables in
-    let s = m .strands in
-    record {
-      goals = f .goals;
-      clauses = f .clauses;
-      «goal_flags» = f .«goal_flags»;
-      «goal_first» = f .«goal_first»;
-      «goal_len» = f .«goal_len»;
-      «clause_variant» = f .«clause_variant»;
-      «clause_flags» = f .«clause_flags»;
-      «clause_len» = f .«clause_len»;
-      «literal_kind» = f .«literal_kind»;
-      «literal_goal» = f .«literal_goal»;
-      «literal_want» = f .«literal_want»;
-      count = ts .count;
-      goal = ts .goal;
-      coinductive = ts .coinductive;
-      floundered = ts .floundered;
-      complete = ts .complete;
-      strands = s .strands;
-      next = s .places .next;
-      tail = s .places .tail;
-      len = s .places .len;
-      time = s .time;
-      ambiguous = s .ambiguous;
-      variant = s .variant;
-      waits = s .waits;
-      wants = s .wants;
-      used = s .places .top;
-      answers = f .answers;
-      «answer_next» = f .«answer_next»;
-      «answer_tail» = f .«answer_tail»;
-      «answer_len» = f .«answer_len»;
-      «answer_variant» = f .«answer_variant»;
-      «answer_key» = f .«answer_key»;
-      «answer_ambiguous» = f .«answer_ambiguous»;
-      «answer_used» = f .«answer_used»;
-      «clock_limit» = f .«clock_limit»;
-      mark = mark;
-      clock = f .clock;
-    }
+    forest-by (book-in f) (lent-of (m .tables) (m .strands) (lent-with f blank-stack .answers) blank-stack (f .clock)) (f .«clock_limit») mark
 
 -- A TABLE THAT IS BUILT, where the book has the goal
 module _ (book : Book) (goal : ℕ) where

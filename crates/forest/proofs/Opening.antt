@@ -22,54 +22,12 @@ use Rattle.forest.specs.declared.open.Opening.{Opening}
 use Rattle.forest.specs.declared.open.Opening.the-variants as openings
 use Rattle.forest.specs.Open.{opening-of, OpenSays}
 use Rattle.forest.specs.ServeCalls.{first-serving}
-use Rattle.forest.specs.View.{book-in, lent-with}
+use Rattle.forest.specs.View.{book-in, lent-with, forest-by}
 use Rattle.forest.proofs.OpenCases.{open-marked, open-missing, open-found, open-full, open-made}
 
 -- a forest with this one's book and limit, these stores, and the numbers that a course carries
 abbrev pub forest-of : Forest → Course → Lent → Forest
-forest-of f c w =
-    let ts = w .tables in
-    let s = w .strands in
-    let a = w .answers in
-    record {
-      goals = f .goals;
-      clauses = f .clauses;
-      «goal_flags» = f .«goal_flags»;
-      «goal_first» = f .«goal_first»;
-      «goal_len» = f .«goal_len»;
-      «clause_variant» = f .«clause_variant»;
-      «clause_flags» = f .«clause_flags»;
-      «clause_len» = f .«clause_len»;
-      «literal_kind» = f .«literal_kind»;
-      «literal_goal» = f .«literal_goal»;
-      «literal_want» = f .«literal_want»;
-      count = c .count;
-      goal = ts .goal;
-      coinductive = ts .coinductive;
-      floundered = ts .floundered;
-      complete = ts .complete;
-      strands = s .strands;
-      next = s .places .next;
-      tail = s .places .tail;
-      len = s .places .len;
-      time = s .time;
-      ambiguous = s .ambiguous;
-      variant = s .variant;
-      waits = s .waits;
-      wants = s .wants;
-      used = c .used;
-      answers = a .answers;
-      «answer_next» = a .places .next;
-      «answer_tail» = a .places .tail;
-      «answer_len» = a .places .len;
-      «answer_variant» = a .variant;
-      «answer_key» = a .key;
-      «answer_ambiguous» = a .ambiguous;
-      «answer_used» = c .«answer_used»;
-      «clock_limit» = f .«clock_limit»;
-      mark = c .mark;
-      clock = c .clock;
-    }
+forest-of f c w = forest-by (book-in f) (numbered c w) (f .«clock_limit») (c .mark)
 
 abbrev pub forest-at : Forest → Stage → Forest
 forest-at f v = forest-of f (v .serving .course) (v .lent)

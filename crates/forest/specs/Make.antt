@@ -10,55 +10,19 @@ use Rattle.stores.specs.declared.queue.Strands.{Strands}
 use Rattle.stores.specs.declared.table.Answers.{Answers}
 use Rattle.stores.specs.declared.tables.Tables.{Tables}
 use Rattle.stores.specs.Queue.{blank-strands}
+use Rattle.stores.specs.Stack.{blank-stack}
 use Rattle.stores.specs.Table.{blank-answers}
 use Rattle.stores.specs.Tables.{blank-tables}
+use Rattle.control.specs.PerformStrand.{lent-of}
 use Rattle.forest.specs.declared.Forest.{Forest}
 use Rattle.forest.specs.declared.make.Made.{Made}
 use Rattle.forest.specs.declared.make.Making.{Making}
 use Rattle.forest.specs.declared.make.Making.the-variants as makings
-use Rattle.forest.specs.View.{view, Sound}
+use Rattle.forest.specs.View.{view, Sound, forest-by}
 
 -- THE MODELS. A forest with this book and these stores.
 abbrev pub forest-with : Book → Tables → Strands → Answers → (limit mark : ℕ) → Forest
-forest-with b ts s a limit mark = record {
-  goals = b .goals;
-  clauses = b .clauses;
-  «goal_flags» = b .«goal_flags»;
-  «goal_first» = b .«goal_first»;
-  «goal_len» = b .«goal_len»;
-  «clause_variant» = b .«clause_variant»;
-  «clause_flags» = b .«clause_flags»;
-  «clause_len» = b .«clause_len»;
-  «literal_kind» = b .«literal_kind»;
-  «literal_goal» = b .«literal_goal»;
-  «literal_want» = b .«literal_want»;
-  count = ts .count;
-  goal = ts .goal;
-  coinductive = ts .coinductive;
-  floundered = ts .floundered;
-  complete = ts .complete;
-  strands = s .strands;
-  next = s .places .next;
-  tail = s .places .tail;
-  len = s .places .len;
-  time = s .time;
-  ambiguous = s .ambiguous;
-  variant = s .variant;
-  waits = s .waits;
-  wants = s .wants;
-  used = s .places .top;
-  answers = a .answers;
-  «answer_next» = a .places .next;
-  «answer_tail» = a .places .tail;
-  «answer_len» = a .places .len;
-  «answer_variant» = a .variant;
-  «answer_key» = a .key;
-  «answer_ambiguous» = a .ambiguous;
-  «answer_used» = a .places .top;
-  «clock_limit» = limit;
-  mark = mark;
-  clock = 0;
-}
+forest-with b ts s a limit mark = forest-by b (lent-of ts s a blank-stack 0) limit mark
 
 -- with blank stores
 abbrev pub bare : Book → (limit mark : ℕ) → Forest

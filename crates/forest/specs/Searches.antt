@@ -16,7 +16,7 @@ use Rattle.search.specs.declared.course.Asked.{Asked}
 use Rattle.search.specs.declared.course.Course.{Course}
 use Rattle.search.specs.declared.course.Ending.{Ending}
 use Rattle.search.specs.declared.course.Ending.the-variants as endings
-use Rattle.search.specs.Walk.{Walk, walk, Comes}
+use Rattle.search.specs.Walk.{Walk, walk, numbered, Comes}
 use Rattle.batch.specs.Refusal.{refusal-in}
 use Rattle.forest.specs.declared.Forest.{Forest}
 use Rattle.forest.specs.declared.searches.Outcome.{Outcome}
@@ -24,7 +24,7 @@ use Rattle.forest.specs.declared.searches.Outcome.the-variants as outcom
 use Rattle.forest.specs.declared.searches.Peeked.{Peeked}
 use Rattle.forest.specs.declared.searches.Ran.{Ran}
 use Rattle.forest.specs.declared.searches.Searched.{Searched}
-use Rattle.forest.specs.View.{book-in, lent-with, view, Sound}
+use Rattle.forest.specs.View.{book-in, lent-with, view, Sound, forest-by}
 
 -- WHAT A RESULT MEANS: refused by a number, or how the search ended
 abbrev pub outcome-of : Ending → Outcome
@@ -99,45 +99,7 @@ course-in f index more = record {
 
 -- a forest in which only the numbers that a course carries have changed
 abbrev pub renumbered : Forest → Course → Forest
-renumbered f c = record {
-  goals = f .goals;
-  clauses = f .clauses;
-  «goal_flags» = f .«goal_flags»;
-  «goal_first» = f .«goal_first»;
-  «goal_len» = f .«goal_len»;
-  «clause_variant» = f .«clause_variant»;
-  «clause_flags» = f .«clause_flags»;
-  «clause_len» = f .«clause_len»;
-  «literal_kind» = f .«literal_kind»;
-  «literal_goal» = f .«literal_goal»;
-  «literal_want» = f .«literal_want»;
-  count = c .count;
-  goal = f .goal;
-  coinductive = f .coinductive;
-  floundered = f .floundered;
-  complete = f .complete;
-  strands = f .strands;
-  next = f .next;
-  tail = f .tail;
-  len = f .len;
-  time = f .time;
-  ambiguous = f .ambiguous;
-  variant = f .variant;
-  waits = f .waits;
-  wants = f .wants;
-  used = c .used;
-  answers = f .answers;
-  «answer_next» = f .«answer_next»;
-  «answer_tail» = f .«answer_tail»;
-  «answer_len» = f .«answer_len»;
-  «answer_variant» = f .«answer_variant»;
-  «answer_key» = f .«answer_key»;
-  «answer_ambiguous» = f .«answer_ambiguous»;
-  «answer_used» = c .«answer_used»;
-  «clock_limit» = f .«clock_limit»;
-  mark = c .mark;
-  clock = c .clock;
-}
+renumbered f c = forest-by (book-in f) (numbered c (lent-with f blank-stack)) (f .«clock_limit») (c .mark)
 
 -- the root's entry is at the bottom of the stack
 abbrev pub rooted : Asked → Lent → Course → Walk

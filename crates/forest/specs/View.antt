@@ -53,3 +53,49 @@ module _ (f : Forest) where
   -- what every forest is that was made here: its stores are sound, and between two searches
   abbrev pub Sound : Type 0
   Sound = Rests stores-in
+
+-- THE OTHER WAY ROUND: the forest with this book, that lends this
+abbrev pub forest-by : Book → Lent → (limit mark : ℕ) → Forest
+forest-by b w limit mark =
+    let ts = w .tables in
+    let s = w .strands in
+    let a = w .answers in
+    record {
+      goals = b .goals;
+      clauses = b .clauses;
+      «goal_flags» = b .«goal_flags»;
+      «goal_first» = b .«goal_first»;
+      «goal_len» = b .«goal_len»;
+      «clause_variant» = b .«clause_variant»;
+      «clause_flags» = b .«clause_flags»;
+      «clause_len» = b .«clause_len»;
+      «literal_kind» = b .«literal_kind»;
+      «literal_goal» = b .«literal_goal»;
+      «literal_want» = b .«literal_want»;
+      count = ts .count;
+      goal = ts .goal;
+      coinductive = ts .coinductive;
+      floundered = ts .floundered;
+      complete = ts .complete;
+      strands = s .strands;
+      next = s .places .next;
+      tail = s .places .tail;
+      len = s .places .len;
+      time = s .time;
+      ambiguous = s .ambiguous;
+      variant = s .variant;
+      waits = s .waits;
+      wants = s .wants;
+      used = s .places .top;
+      answers = a .answers;
+      «answer_next» = a .places .next;
+      «answer_tail» = a .places .tail;
+      «answer_len» = a .places .len;
+      «answer_variant» = a .variant;
+      «answer_key» = a .key;
+      «answer_ambiguous» = a .ambiguous;
+      «answer_used» = a .places .top;
+      «clock_limit» = limit;
+      mark = mark;
+      clock = w .clock;
+    }
