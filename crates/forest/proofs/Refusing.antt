@@ -20,44 +20,11 @@ use Rattle.control.specs.Stores.{Stores, first-strands}
 use Rattle.control.proofs.Stores.{table-held}
 use Rattle.search.proofs.StoredAnswers.{answers-counted}
 use Rattle.batch.specs.Refusal.{refusal-by}
+use Rattle.batch.proofs.RefusalCases.{refusal-marked}
 use Rattle.forest.specs.declared.Forest.{Forest}
 use Rattle.forest.specs.Searches.{refusal-of}
 use Rattle.forest.specs.View.{stores-in, view, Sound}
 use Rattle.forest.proofs.Running.{tables-counted}
-
--- THE WAYS OUT OF `refusal`
-module _ (f : Forest) (table index : ℕ) where
-  abbrev flag-read : Bool
-  flag-read = flag-at (table % 256) (f .floundered)
-
-  abbrev count-read : ℕ
-  count-read = getD (f .«answer_len») (table % 256) 0
-
-  pub refusal-marked : 0 < f .mark → 20 ≡ refusal-of f table index
-  refusal-marked h = λ i. refusal-by (sym (lt-ltb 0 (f .mark) h) i) (leb (f .count) table) flag-read (ltb count-read index)
-
-  module _ (unmarked : f .mark ≤ 0) where
-    pub refusal-missing : f .count ≤ table → 10 ≡ refusal-of f table index
-    refusal-missing h = λ i.
-        refusal-by (sym (le-ltb 0 (f .mark) unmarked) i) (sym (le-leb (f .count) table h) i) flag-read (ltb count-read index)
-
-    module _ (made : table < f .count) where
-      by-tests : (floundered above : Bool) → flag-at (table % 256) (f .floundered) ≡ floundered
-          → ltb (getD (f .«answer_len») (table % 256) 0) index ≡ above
-          → refusal-by false false floundered above ≡ refusal-of f table index
-      by-tests floundered above e h = λ i.
-          refusal-by (sym (le-ltb 0 (f .mark) unmarked) i) (sym (lt-leb (f .count) table made) i) (sym e i) (sym h i)
-
-      pub refusal-floundered : (b : Bool) → b ≡ flag-at (table % 256) (f .floundered) → b ≡ true → 0 ≡ refusal-of f table index
-      refusal-floundered b is e = by-tests true (ltb count-read index) (sym is ∙ e) refl
-
-      module _ (b : Bool) (is : b ≡ flag-at (table % 256) (f .floundered)) (e : b ≡ false) (n : ℕ)
-          (read : n ≡ getD (f .«answer_len») (table % 256) 0) where
-        pub refusal-above : n < index → 11 ≡ refusal-of f table index
-        refusal-above h = by-tests false true (sym is ∙ e) (lt-ltb count-read index (omega arith))
-
-        pub refusal-nothing : index ≤ n → 0 ≡ refusal-of f table index
-        refusal-nothing h = by-tests false false (sym is ∙ e) (le-ltb count-read index (omega arith))
 
 -- WHAT THE NUMBER MEANS: 0 goes on to the tests that follow
 module _ {A : Type 0} where
@@ -103,7 +70,7 @@ marked-test (suc n) = ap not (ne-eqb (suc n) 0 (λ e. omega arith)) ∙ sym (lt-
 
 -- a marked forest is refused with 20, whatever it is
 pub marked-refused : (f : Forest) (t i : ℕ) → (f .mark ≡ 0 → ⊥) → refusal-of f t i ≡ 20
-marked-refused f t i m = sym (refusal-marked f t i (at (f .mark) m))
+marked-refused f t i m = sym (refusal-marked (f .mark) (f .count) (f .floundered) (f .«answer_len») t i (at (f .mark) m))
   where
     at : (n : ℕ) → (n ≡ 0 → ⊥) → 0 < n
     at zero m = absurd (m refl)

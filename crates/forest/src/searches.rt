@@ -8,7 +8,6 @@ use search::course::Ending;
 use search::course::Mode;
 use search::ensure_root_answer::ensure_root_answer;
 use search::root_answer::start;
-use stores::numbers::flag_at;
 use stores::stack::push_entry;
 use strands::times::TimeStamp;
 ghost use mathlib.Core.Path.{_≡_};
@@ -50,31 +49,13 @@ pub struct Ran {
     pub forest: Forest,
 }
 
-fn wide_len(n: u16) -> u64
-    ensures { λ r. ⌜ r ≡ n ⌝ }
-{
-    n as u64
-}
-
 // The number by which a search is refused before its limits are looked at: 20, 10, 11; or 0.
 fn refusal(f: Forest, table: u64, index: u64) -> u8
     ensures { λ r. ⌜ r ≡ refusal-of f table index ⌝ }
 {
-    if f.mark > 0 {
-        return 20;
-    }
-    if table >= f.count as u64 {
-        return 10;
-    }
-    let t = (table % 256) as u8;
     let floundered = f.floundered;
-    if flag_at(&floundered, t) {
-        return 0;
-    }
-    if index > wide_len(f.answer_len[t as usize]) {
-        return 11;
-    }
-    0
+    let answer_len = f.answer_len;
+    batch::refusal::refusal(f.mark, f.count, &floundered, &answer_len, table, index)
 }
 
 fn outcome_of(ending: Ending) -> Outcome
