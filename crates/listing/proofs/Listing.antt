@@ -1,25 +1,25 @@
 -- What the definitions' listing asks of its forest is accepted: the peeks and opens that the code's functions make are those of the
 -- listing. And each line with what is behind it.
-use Prim.Native.Nat.{ℕ, zero, suc, _+_, _-_, _≤_, _<_}
+use Prim.Native.Nat.{ℕ, suc, _+_, _-_, _≤_, _<_}
 use native.Mathlib.Omega.{arith}
 use mathlib.Core.Bool.{Bool, true, false, not, _&&_, _||_}
-use mathlib.Core.List.{List, [], _∷_, _++_, append-assoc}
+use mathlib.Core.List.{List, [], _∷_, _++_}
 use mathlib.Core.Logic.{inl, inr}
 use mathlib.Core.Option.{Option, none, some}
-use mathlib.Core.Path.{_≡_, refl, sym, ap, subst, _∙_}
+use mathlib.Core.Path.{_≡_, refl, sym, ap, _∙_}
 use lib.Dec.{eqb, leb, ltb}
 use lib.ListN.{length, getElem?}
-use borrow.Author.Tests.{lt-leb, le-leb, le-ltb, eq-eqb}
-use Rattle.definitions.specs.Refusal.{Refusable, refused, accepted, _refuses_, unless}
+use borrow.Author.Tests.{lt-leb, le-leb, le-ltb}
+use Rattle.definitions.specs.Refusal.{refused, accepted, _refuses_, unless}
 use Rattle.definitions.specs.{TableIndex}
 use Rattle.definitions.specs.Stop.{Stops, stop, go, _>>=_, _>>_, stop-if}
 use Rattle.definitions.specs.Table.{Table}
 use Rattle.definitions.specs.Tables.{Forest, with-mark, with-tables, insert-table, index-of, queued}
 use Rattle.definitions.specs.Logic.{most-strands, build-table, get-or-create-table-for-ucanonical-goal}
-use Rattle.definitions.specs.Turn.{Ending, found, fail, cut, stopped}
+use Rattle.definitions.specs.Turn.{stopped}
 use Rattle.definitions.specs.Forest.{is-marked, not-made, index-above, Opened, opened, open-goal, Peeked, peek, peek-rounds}
 use Rattle.definitions.specs.Listing.{listing-rounds, listing-turns, Line, line, Next, next-index, next-goal, the-end, next}
-use Rattle.definitions.specs.Listing.{Listed, list-from, list-goal, list-goals, line-bytes, lines-bytes}
+use Rattle.definitions.specs.Listing.{Listed, list-from, list-goal, list-goals}
 use Rattle.laws.proofs.Lists.{place-under}
 use Rattle.laws.proofs.Options.{case-option}
 use Rattle.asserts.proofs.Safe.{Safe, stops, goes, stop-go}
@@ -81,39 +81,55 @@ module _ (f : Forest) (unmarked : f .mark ≡ 0) (goal : ℕ) where
 
 -- LINE BY LINE
 
--- what is listed from a peek on
-abbrev listed-on : (more goal t : ℕ) → Peeked → Listed
-listed-on more goal t p = elim (next (p .ending)) [
-  | next-index ↦ record {
-    lines = line goal (p .index) (p .ending) ∷ list-from more goal t (suc (p .index)) (p .forest) .lines;
-    stops = list-from more goal t (suc (p .index)) (p .forest) .stops;
-    forest = list-from more goal t (suc (p .index)) (p .forest) .forest;
-  }
-  | next-goal ↦ record { lines = line goal (p .index) (p .ending) ∷ []; stops = false; forest = p .forest }
-  | the-end ↦ record { lines = line goal (p .index) (p .ending) ∷ []; stops = true; forest = p .forest }
-]
+-- the lines of a goal that comes to this, and of as many goals behind it
+abbrev pub goals-on : (left goal : ℕ) → Listed → List Line
+goals-on left goal l = elim (l .stops) [ true ↦ l .lines | false ↦ l .lines ++ list-goals left (suc goal) (l .forest) ]
 
-module _ (more goal t i : ℕ) (f : Forest) (p : Peeked) (made : peek-rounds (listing-rounds - 1) listing-turns 0 t i f ≡ p) where
-  from-peek : list-from (suc more) goal t i f ≡ listed-on more goal t p
-  from-peek = ap (listed-on more goal t) made
+-- one line more
+abbrev with-line : Line → Listed → Listed
+with-line here l = record { lines = here ∷ l .lines; stops = l .stops; forest = l .forest }
 
-  abbrev here : Line
-  here = line goal (p .index) (p .ending)
+line-first : (left goal : ℕ) (here : Line) (l : Listed) → goals-on left goal (with-line here l) ≡ here ∷ goals-on left goal l
+line-first left goal here l = by (l .stops)
+  where
+    by : (b : Bool) → elim b as (λ _. List Line) [
+      | true ↦ here ∷ l .lines
+      | false ↦ here ∷ (l .lines ++ list-goals left (suc goal) (l .forest))
+    ] ≡ here ∷ elim b [ true ↦ l .lines | false ↦ l .lines ++ list-goals left (suc goal) (l .forest) ]
+    by true = refl
+    by false = refl
 
-  abbrev rest : Listed
-  rest = list-from more goal t (suc (p .index)) (p .forest)
+module _ (left more goal t : ℕ) (p : Peeked) where
+  abbrev peek-line : Line
+  peek-line = line goal (p .index) (p .ending)
 
-  pub goes-on : next (p .ending) ≡ next-index
-      → list-from (suc more) goal t i f ≡ record { lines = here ∷ rest .lines; stops = rest .stops; forest = rest .forest }
-  goes-on e = from-peek ∙ rw (e, listed-on)
+  -- what is listed from a peek on, by what follows its line
+  abbrev listed-by : Next → Listed
+  listed-by next-index = with-line peek-line (list-from more goal t (suc (p .index)) (p .forest))
+  listed-by next-goal = record { lines = peek-line ∷ []; stops = false; forest = p .forest }
+  listed-by the-end = record { lines = peek-line ∷ []; stops = true; forest = p .forest }
 
-  pub goal-over : next (p .ending) ≡ next-goal
-      → list-from (suc more) goal t i f ≡ record { lines = here ∷ []; stops = false; forest = p .forest }
-  goal-over e = from-peek ∙ rw (e, listed-on)
+  -- the lines behind that of a peek
+  abbrev pub lines-behind : Next → List Line
+  lines-behind next-index = goals-on left goal (list-from more goal t (suc (p .index)) (p .forest))
+  lines-behind next-goal = list-goals left (suc goal) (p .forest)
+  lines-behind the-end = []
 
-  pub all-over : next (p .ending) ≡ the-end
-      → list-from (suc more) goal t i f ≡ record { lines = here ∷ []; stops = true; forest = p .forest }
-  all-over e = from-peek ∙ rw (e, listed-on)
+  peek-first : (n : Next) → goals-on left goal (listed-by n) ≡ peek-line ∷ lines-behind n
+  peek-first next-index = line-first left goal peek-line (list-from more goal t (suc (p .index)) (p .forest))
+  peek-first next-goal = refl
+  peek-first the-end = refl
+
+  pub peeked-lines : (i : ℕ) (f : Forest) → peek-rounds (listing-rounds - 1) listing-turns 0 t i f ≡ p
+      → goals-on left goal (list-from (suc more) goal t i f) ≡ peek-line ∷ lines-behind (next (p .ending))
+  peeked-lines i f made = ap (λ (z : Peeked). goals-on left goal (from z)) made ∙ peek-first (next (p .ending))
+    where
+      from : Peeked → Listed
+      from z = elim (next (z .ending)) [
+        | next-index ↦ with-line (line goal (z .index) (z .ending)) (list-from more goal t (suc (z .index)) (z .forest))
+        | next-goal ↦ record { lines = line goal (z .index) (z .ending) ∷ []; stops = false; forest = z .forest }
+        | the-end ↦ record { lines = line goal (z .index) (z .ending) ∷ []; stops = true; forest = z .forest }
+      ]
 
 -- GOAL BY GOAL
 
@@ -174,37 +190,14 @@ module _ (goal : ℕ) (f g : Forest) where
   pub goal-opened : (t : ℕ) → opened 0 f goal ≡ record { table = go t; forest = g } → list-goal goal f ≡ list-from 257 goal t 0 g
   goal-opened t e = ap (list-opened goal) e
 
-module _ (n goal : ℕ) (f : Forest) (r : Listed) (here : list-goal goal f ≡ r) where
-  -- the goals behind this one
-  abbrev goals-on : (left : ℕ) → Listed → List Line
-  goals-on left l = elim (l .stops) [ true ↦ l .lines | false ↦ l .lines ++ list-goals left (suc goal) (l .forest) ]
-
-  one-less : goal < n → n - goal ≡ suc (n - (goal + 1))
-  one-less h = omega arith
-
-  unfolds : goal < n → list-goals (n - goal) goal f ≡ goals-on (n - (goal + 1)) r
-  unfolds h = ap (λ (left : ℕ). list-goals left goal f) (one-less h) ∙ ap (goals-on (n - (goal + 1))) here
-
-  pub goals-end : goal < n → r .stops ≡ true → list-goals (n - goal) goal f ≡ r .lines
-  goals-end h e = unfolds h ∙ rw (e, goals-on)
-
-  pub goals-go : goal < n → r .stops ≡ false
-      → list-goals (n - goal) goal f ≡ r .lines ++ list-goals (n - (goal + 1)) (goal + 1) (r .forest)
-  goals-go h e =
-      unfolds h ∙ rw (e, goals-on) (ap (λ (g : ℕ). r .lines ++ list-goals (n - (goal + 1)) g (r .forest)) (next-one goal))
-    where
-      next-one : (g : ℕ) → suc g ≡ g + 1
-      next-one g = omega arith
+pub goals-here : (n goal : ℕ) (f : Forest) → goal < n → list-goals (n - goal) goal f ≡ goals-on (n - (goal + 1)) goal (list-goal goal f)
+goals-here n goal f h = ap (λ (left : ℕ). list-goals left goal f) (one-less n goal h)
+  where
+    one-less : (n goal : ℕ) → goal < n → n - goal ≡ suc (n - (goal + 1))
+    one-less n goal h = omega arith
 
 pub goals-past : (n goal : ℕ) (f : Forest) → n ≤ goal → list-goals (n - goal) goal f ≡ []
 goals-past n goal f h = ap (λ (left : ℕ). list-goals left goal f) (none-left n goal h)
   where
     none-left : (n goal : ℕ) → n ≤ goal → n - goal ≡ 0
     none-left n goal h = omega arith
-
--- THE BYTES
-
-pub bytes-append : (a b : List Line) → lines-bytes (a ++ b) ≡ lines-bytes a ++ lines-bytes b
-bytes-append [] b = refl
-bytes-append (l ∷ a) b =
-    ap (λ (z : List ℕ). line-bytes l ++ z) (bytes-append a b) ∙ sym (append-assoc (line-bytes l) (lines-bytes a) (lines-bytes b))

@@ -1,26 +1,25 @@
--- The loops of the listing: what is left to be put down stays the same, line by line and goal by goal.
-use Prim.Native.Nat.{ℕ, zero, suc, _+_, _-_, _≤_, _<_}
+-- The loop of the listing: what is left to be put down stays the same, call by call, and less is left to do.
+use Prim.Native.Nat.{ℕ, suc, _+_, _-_, _*_, _≤_, _<_}
 use native.Mathlib.Omega.{arith}
 use mathlib.Core.Bool.{Bool, true, false, _||_, true≢false, false≢true}
 use mathlib.Core.List.{List, [], _∷_, _++_, append-nil}
-use mathlib.Core.Logic.{inr}
 use mathlib.Core.Path.{_≡_, refl, sym, ap, subst, _∙_}
 use lib.Dec.{eqb, leb}
-use lib.ListN.{length}
-use native.Mathlib.Decide.{decLe, decLt}
+use lib.ListN.{length, getD}
+use borrow.Author.Tests.{lt-ltb}
 use Rattle.definitions.specs.{MAX}
 use Rattle.definitions.specs.Ascii.{ascii}
 use Rattle.definitions.specs.Book.{Book, read}
 use Rattle.definitions.specs.Forest as said
-use Rattle.definitions.specs.Listing.{Line, line, Listed, list-from, list-goal, list-goals, line-bytes, lines-bytes}
-use Rattle.definitions.specs.Listing.{decimal, listing, listing-clock}
+use Rattle.definitions.specs.Listing.{Line, line, Next, next-index, next-goal, the-end, next}
+use Rattle.definitions.specs.Listing.{list-from, list-goals, line-bytes, lines-bytes, decimal, listing, listing-clock}
 use Rattle.definitions.specs.Refusal.{Refusable, refused, accepted, _refuses_, unless}
-use Rattle.definitions.specs.Stop.{Stops, stop, go}
 use Rattle.definitions.specs.Tables as tables
 use Rattle.definitions.specs.Turn.{stopped}
 use Rattle.definitions.proofs.Refusal.{same-accepted, not-accepted}
-use Rattle.pen.specs.Pen.{Pen, put-all}
+use Rattle.pen.specs.Pen.{Pen, pen, put-all}
 use Rattle.pen.proofs.Putting.{put-nothing, put-all-append}
+use Rattle.search.specs.RootAnswer.{one-more-by, one-more}
 use Rattle.forest.specs.declared.Forest.{Forest}
 use Rattle.forest.specs.declared.make.Made.{Made}
 use Rattle.forest.specs.declared.make.Making.{Making}
@@ -28,235 +27,291 @@ use Rattle.forest.specs.declared.make.Making.the-variants as makings
 use Rattle.forest.specs.declared.open.Opened.{Opened}
 use Rattle.forest.specs.declared.open.Opening.{Opening}
 use Rattle.forest.specs.declared.open.Opening.the-variants as openings
-use Rattle.forest.specs.declared.searches.Outcome.the-variants as outcomes
-use Rattle.forest.specs.Make.{MakeSays, made-by, made-means}
-use Rattle.forest.specs.Open.{OpenSays, opened-by, opened-means}
+use Rattle.forest.specs.Make.{MakeSays, made-by}
+use Rattle.forest.specs.Open.{OpenSays}
+use Rattle.forest.specs.ServeCalls.{ServeCallsSays}
 use Rattle.forest.specs.View.{view, Sound}
-use Rattle.listing.specs.Lines.{outcome-line, refusal-line}
-use Rattle.listing.specs.Goals.{Ready, Stands, goal-count, PeekLists, TableLists, rest-lines, GoalLists}
-use Rattle.listing.proofs.Listing.{open-asked, open-past, OpensTable, opens-table, goal-stopped, goal-opened}
-use Rattle.listing.proofs.Listing.{goals-end, goals-go, goals-past, bytes-append}
-use Rattle.listing.proofs.Words.{line-is}
+use Rattle.listing.specs.declared.goals.Place.{Place}
+use Rattle.listing.specs.Lines.{reply-line, refusal-line}
+use Rattle.listing.specs.Goals.{Ready, Stands, goal-count, rest-lines, first-place, ended-place, opened-place, opened-bytes, OpenedTo}
+use Rattle.listing.specs.Goals.{peek-put, next-place, ToldTo}
+use Rattle.listing.proofs.Listing.{goals-on, lines-behind, peeked-lines}
+use Rattle.listing.proofs.Opens.{goal-past, goal-stops, goal-stands, goal-named, same-count, goal-lists}
+use Rattle.listing.proofs.Told.{asks-room, tells-room, one-peek, PeekTells, peek-tells}
+use Rattle.listing.proofs.Words.{stop-line}
 
--- THE LINES OF A TABLE
+-- WHERE THE LISTING IS: f, s at the start; g, q now
 
--- between two lines: f, p at the start; g, q now
-pub record Midway (f : Forest) (goal table : ℕ) (p : Pen) (g : Forest) (index : ℕ) (q : Pen) : Type 0 where
-  pub stands : Stands g table index
-  pub same-goals : goal-count g ≡ goal-count f
-  pub more : ℕ
-  pub enough : 257 ≤ index + more
-  pub same-bytes : put-all (lines-bytes (list-from more goal table index (view g) .lines)) q
-      ≡ put-all (lines-bytes (list-from 257 goal table 0 (view f) .lines)) p
-  pub same-stops : list-from more goal table index (view g) .stops ≡ list-from 257 goal table 0 (view f) .stops
-  pub same-forest : list-from more goal table index (view g) .forest ≡ list-from 257 goal table 0 (view f) .forest
+-- all that is to be put down
+abbrev whole : Forest → Pen → Pen
+whole f s = put-all (lines-bytes (rest-lines 0 f)) s
 
-pub midway-start : (f : Forest) (goal table : ℕ) (p : Pen) → Stands f table 0 → Midway f goal table p f 0 p
-midway-start f goal table p s = record {
-  stands = s;
-  same-goals = refl;
-  more = 257;
-  enough = omega arith;
-  same-bytes = refl;
-  same-stops = refl;
-  same-forest = refl;
-}
-
-module _ (f : Forest) (goal table : ℕ) (p : Pen) (g : Forest) (index : ℕ) (q : Pen) (m : Midway f goal table p g index q)
-    (stops : Bool) (next : ℕ) (h : Forest) (r : Pen) where
-  abbrev fewer : ℕ
-  fewer = m .more - 1
-
-  has-more : m .more ≡ suc fewer
-  has-more = let a = m .enough in let b = m .stands .few in omega arith
-
-  abbrev now : Listed
-  now = list-from (suc fewer) goal table index (view g)
-
-  is-now : list-from (m .more) goal table index (view g) ≡ now
-  is-now = ap (λ (n : ℕ). list-from n goal table index (view g)) has-more
-
-  abbrev whole : Listed
-  whole = list-from 257 goal table 0 (view f)
-
-  bytes-now : put-all (lines-bytes (now .lines)) q ≡ put-all (lines-bytes (whole .lines)) p
-  bytes-now = ap (λ (w : Listed). put-all (lines-bytes (w .lines)) q) (sym is-now) ∙ m .same-bytes
-
-  stops-now : now .stops ≡ whole .stops
-  stops-now = ap (λ (w : Listed). w .stops) (sym is-now) ∙ m .same-stops
-
-  forest-now : now .forest ≡ whole .forest
-  forest-now = ap (λ (w : Listed). w .forest) (sym is-now) ∙ m .same-forest
-
-  pub midway-on : (b : Bool) → PeekLists g goal table index q b stops next h r → b ≡ false → Midway f goal table p h next r
-  midway-on b x e =
-      let y = x .on e in
-      let z = y .2 fewer in
-      let a = m .enough in
-      let b = y .1 in
-      let c = has-more in
-      record {
-        stands = y .0;
-        same-goals = x .same-goals ∙ m .same-goals;
-        more = fewer;
-        enough = omega arith;
-        same-bytes = z .0 ∙ bytes-now;
-        same-stops = z .1 ∙ stops-now;
-        same-forest = z .2 ∙ forest-now;
-      }
-
-  pub midway-less : (b : Bool) → PeekLists g goal table index q b stops next h r → b ≡ false → 257 - next < 257 - index
-  midway-less b x e = let y = x .on e in let later = y .1 in let few = y .0 .few in omega arith
-
-  pub midway-over : (b : Bool) → PeekLists g goal table index q b stops next h r → b ≡ true → TableLists f goal table p stops h r
-  midway-over b x e =
-      let y = x .over e in
-      let z = y .1 fewer in
-      record {
-        same-goals = x .same-goals ∙ m .same-goals;
-        ready = y .0;
-        said = z .0 ∙ bytes-now;
-        stopped = z .1 ∙ stops-now;
-        left = z .2 ∙ forest-now;
-      }
-
--- ONE GOAL
-
-module _ (f : Forest) (x : Ready f) (goal : ℕ) (p : Pen) (o : Opened) (says : OpenSays f goal o) where
-  abbrev F : tables.Forest
-  F = view f
-
-  abbrev G : tables.Forest
-  G = view (o .forest)
-
-  told : opened-means o ≡ said.open-goal F goal
-  told = says .says (x .sound)
-
-  -- a goal that is not in the book
-  pub goal-past : (n : ℕ) → o .opening ≡ openings.Refused n → GoalLists f goal p true (o .forest) p
-  goal-past n e = record { over = λ z. ends (on (decLe (goal-count f) goal)); on = λ z. absurd (true≢false z) }
-    where
-      ends : goal-count f ≤ goal → p ≡ put-all (lines-bytes (rest-lines goal f)) p
-      ends h = sym (put-nothing p) ∙ ap (λ (ls : List Line). put-all (lines-bytes ls) p) (sym (goals-past (goal-count f) goal F h))
-
-      on : Dec (goal-count f ≤ goal) → goal-count f ≤ goal
-      on (yes h) = h
-      on (no h) = absurd (not-accepted
-          (sym (ap (λ (z : Opening). opened-by z G) e) ∙ told ∙ open-asked F (x .unmarked) goal (omega arith)))
-
-  named : (t : Stops ℕ) → opened-means o ≡ accepted (record { table = t; forest = G }) → goal < goal-count f
-  named t e = on (decLt goal (goal-count f))
-    where
-      on : Dec (goal < goal-count f) → goal < goal-count f
-      on (yes h) = h
-      on (no h) = absurd (not-accepted (sym (open-past F (x .unmarked) goal (omega arith)) ∙ sym told ∙ e))
-
-  is-opened : (t : Stops ℕ) → opened-means o ≡ accepted (record { table = t; forest = G })
-      → said.opened 0 F goal ≡ record { table = t; forest = G }
-  is-opened t e = same-accepted (sym (open-asked F (x .unmarked) goal (named t e)) ∙ sym told ∙ e)
-
-  -- the open stopped
-  pub goal-stops : (n : ℕ) (q : Pen) → o .opening ≡ openings.Stopped n → q ≡ put-all (outcome-line goal 0 (outcomes.Stopped n)) p
-      → GoalLists f goal p true (o .forest) q
-  goal-stops n q e put =
-      let m = ap (λ (z : Opening). opened-by z G) e in
-      record {
-        over = λ z. put ∙ ap (λ (w : List ℕ). put-all w p)
-            (line-is goal 0 (outcomes.Stopped n) (stopped n) refl ∙ sym (append-nil (line-bytes (line goal 0 (stopped n)))))
-            ∙ ap (λ (ls : List Line). put-all (lines-bytes ls) p)
-            (sym (goals-end (goal-count f) goal F _ (goal-stopped goal F G n (is-opened (stop n) m)) (named (stop n) m) refl));
-        on = λ z. absurd (true≢false z);
-      }
-
-  -- the table of the goal
-  module _ (t : ℕ) (e : o .opening ≡ openings.Table t) where
-    m : opened-means o ≡ accepted (record { table = go t; forest = G })
-    m = ap (λ (z : Opening). opened-by z G) e
-
-    is-table : OpensTable (f .goals) 0 t G
-    is-table =
-        let y = opens-table (f .goals) F (x .sound .forest) goal (subst (λ (n : ℕ). goal < n) (x .sound .forest .goals) (named (go t) m)) in
-        let z = subst (λ (r : said.Opened). (u : ℕ) → r .table ≡ go u → OpensTable (f .goals) (f .mark) u (r .forest))
-        (is-opened (go t) m) y t refl in
-        subst (λ (k : ℕ). OpensTable (f .goals) k t G) (x .unmarked) z
-
-    pub goal-stands : Stands (o .forest) t 0
-    goal-stands = record {
-      ready = record { sound = says .sound (x .sound); unmarked = is-table .same-mark };
-      own = is-table .own;
-      is-made = is-table .is-made;
-      reached = inr (omega arith);
-      few = omega arith;
-    }
-
-    same-count : goal-count (o .forest) ≡ goal-count f
-    same-count = is-table .sound .goals ∙ sym (x .sound .forest .goals)
-
-    pub goal-lists : (stops : Bool) (h : Forest) (q : Pen) → TableLists (o .forest) goal t p stops h q → GoalLists f goal p stops h q
-    goal-lists stops h q y = record {
-      over = λ z. y .said ∙ ap (λ (ls : List Line). put-all (lines-bytes ls) p)
-          (sym (goals-end (goal-count f) goal F _ listed (named (go t) m) (sym (y .stopped) ∙ z)));
-      on = λ z. (
-        y .ready z,
-        y .same-goals ∙ same-count,
-        named (go t) m,
-        goes-on (sym (y .stopped) ∙ z),
-      );
-    }
-      where
-        from : Listed
-        from = list-from 257 goal t 0 G
-
-        listed : list-goal goal F ≡ from
-        listed = goal-opened goal F G t (is-opened (go t) m)
-
-        left : tables.Forest → ℕ → List Line
-        left g n = list-goals (n - (goal + 1)) (goal + 1) g
-
-        goes-on : from .stops ≡ false → put-all (lines-bytes (rest-lines (goal + 1) h)) q ≡ put-all (lines-bytes (rest-lines goal f)) p
-        goes-on z =
-            ap (λ (n : ℕ). put-all (lines-bytes (left (view h) n)) q) (y .same-goals ∙ same-count)
-            ∙ ap (λ (g : tables.Forest). put-all (lines-bytes (left g (goal-count f))) q) (y .left)
-            ∙ ap (put-all (lines-bytes (left (from .forest) (goal-count f)))) (y .said)
-            ∙ sym (put-all-append (lines-bytes (from .lines)) (lines-bytes (left (from .forest) (goal-count f))) p)
-            ∙ ap (λ (w : List ℕ). put-all w p) (sym (bytes-append (from .lines) (left (from .forest) (goal-count f))))
-            ∙ ap (λ (ls : List Line). put-all (lines-bytes ls) p) (sym (goals-go (goal-count f) goal F from listed (named (go t) m) z))
-
--- ALL GOALS
-
--- between two goals: f, p at the start; g, q now
-pub record Amid (f : Forest) (p : Pen) (g : Forest) (goal : ℕ) (q : Pen) : Type 0 where
+-- between two goals
+pub record Amid (f : Forest) (s : Pen) (g : Forest) (goal : ℕ) (q : Pen) : Type 0 where
   pub ready : Ready g
   pub same-goals : goal-count g ≡ goal-count f
-  pub same-bytes : put-all (lines-bytes (rest-lines goal g)) q ≡ put-all (lines-bytes (rest-lines 0 f)) p
+  pub same-bytes : put-all (lines-bytes (rest-lines goal g)) q ≡ whole f s
 
-pub amid-start : (f : Forest) (p : Pen) → Ready f → Amid f p f 0 p
-amid-start f p x = record { ready = x; same-goals = refl; same-bytes = refl }
+-- between two lines of a goal: the rest of them, whatever the bound that is left, and behind it the goals after this one
+pub record Midway (f : Forest) (s : Pen) (g : Forest) (goal table index : ℕ) (q : Pen) : Type 0 where
+  pub stands : Stands g table index
+  pub same-goals : goal-count g ≡ goal-count f
+  pub named : goal < goal-count f
+  pub more : ℕ
+  pub enough : 257 ≤ index + more
+  pub same-bytes : put-all (lines-bytes (goals-on (goal-count f - (goal + 1)) goal (list-from more goal table index (view g)))) q
+      ≡ whole f s
 
-module _ (f : Forest) (p : Pen) (g : Forest) (goal : ℕ) (q : Pen) (a : Amid f p g goal q) (h : Forest) (r : Pen) where
-  -- there are at most 64 goals
-  amid-few : (b : Bool) → GoalLists g goal q b h r → b ≡ false → (goal < goal-count f) × (goal < 64)
-  amid-few b x e =
-      let y = x .on e in
-      let n = a .same-goals in
-      let k = a .ready .sound .forest .goals in
-      let few = a .ready .sound .forest .few-goals in
-      let lt = y .2 in
-      ((omega arith), (omega arith))
+-- at a place
+pub record Along (f : Forest) (s : Pen) (g : Forest) (p : Place) (q : Pen) : Type 0 where
+  pub over : p .over ≡ true → q ≡ whole f s
+  pub opens : p .over ≡ false → p .opens ≡ true → Amid f s g (p .goal) q
+  pub peeks : p .over ≡ false → p .opens ≡ false → Midway f s g (p .goal) (p .table) (p .index) q
 
-  pub amid-fits : (b : Bool) → GoalLists g goal q b h r → b ≡ false → goal + 1 < 18446744073709551616
-  amid-fits b x e = let few = amid-few b x e in omega arith
+pub along-start : (f : Forest) (out : List ℕ) (p : Place) → Ready f → p ≡ first-place → Along f (pen out 0) f p (pen out (p .used))
+along-start f out p x e = rw e (record {
+  over = λ z. absurd (false≢true z);
+  opens = λ y z. record { ready = x; same-goals = refl; same-bytes = refl };
+  peeks = λ y z. absurd (true≢false z);
+})
 
-  pub amid-less : (b : Bool) → GoalLists g goal q b h r → b ≡ false → goal-count f - (goal + 1) < goal-count f - goal
-  amid-less b x e = let few = amid-few b x e in omega arith
+pub along-over : (f : Forest) (s : Pen) (g : Forest) (p : Place) (q : Pen) → Along f s g p q → p .over ≡ true → q ≡ whole f s
+along-over f s g p q a e = a .over e
 
-  pub amid-on : (b : Bool) → GoalLists g goal q b h r → b ≡ false → Amid f p h (goal + 1) r
-  amid-on b x e =
-      let y = x .on e in
-      record { ready = y .0; same-goals = y .1 ∙ a .same-goals; same-bytes = y .3 ∙ a .same-bytes }
+-- WHAT IS LEFT TO DO: for each goal at most an open, and a peek at each of 257 indices
+abbrev left-by : (over opens : Bool) → (goals index : ℕ) → ℕ
+left-by true opens goals index = 0
+left-by false true goals index = goals * 259 + 259
+left-by false false goals index = goals * 259 + (258 - index)
 
-  pub amid-over : (b : Bool) → GoalLists g goal q b h r → b ≡ true → r ≡ put-all (lines-bytes (rest-lines 0 f)) p
-  amid-over b x e = x .over e ∙ a .same-bytes
+abbrev pub left-at : Forest → Place → ℕ
+left-at f p = left-by (p .over) (p .opens) (goal-count f - p .goal) (p .index)
+
+left-opens : (over opens : Bool) (goals index : ℕ) → over ≡ false → opens ≡ true → left-by over opens goals index ≡ goals * 259 + 259
+left-opens over opens goals index e f = rw (e, f)
+
+left-peeks : (over opens : Bool) (goals index : ℕ) → over ≡ false → opens ≡ false
+    → left-by over opens goals index ≡ goals * 259 + (258 - index)
+left-peeks over opens goals index e f = rw (e, f)
+
+-- one step: from the place p to the place r
+pub record Moved (f : Forest) (s : Pen) (p : Place) (h : Forest) (r : Place) (q : Pen) : Type 0 where
+  pub along : Along f s h r q
+  pub less : left-at f r < left-at f p
+
+moved-end : (f : Forest) (s : Pen) (p : Place) (h : Forest) (used : ℕ) (q : Pen) → 0 < left-at f p → q ≡ whole f s
+    → Moved f s p h (ended-place used p) q
+moved-end f s p h used q o e = record {
+  along = record { over = λ z. e; opens = λ y z. absurd (true≢false y); peeks = λ y z. absurd (true≢false y) };
+  less = o;
+}
+
+one-up : (n : ℕ) → n + 1 ≡ suc n
+one-up n = omega arith
+
+-- small numbers have one more
+one-more-is : (n : ℕ) → n < 256 → one-more n ≡ n + 1
+one-more-is n h = ap (λ (b : Bool). one-more-by b n) (lt-ltb n MAX (omega arith)) ∙ sym (one-up n)
+
+module _ (f : Forest) (s : Pen) (g : Forest) (p : Place) (q : Pen) (a : Along f s g p q) (live : p .over ≡ false) where
+  abbrev goal : ℕ
+  goal = p .goal
+
+  abbrev goals-left : ℕ
+  goals-left = goal-count f - goal
+
+  -- AN OPEN
+  module _ (opening : p .opens ≡ true) (o : Opened) (says : OpenSays g (p .goal) o) where
+    amid : Amid f s g goal q
+    amid = a .opens live opening
+
+    left-now : left-at f p ≡ goals-left * 259 + 259
+    left-now = left-opens (p .over) (p .opens) goals-left (p .index) live opening
+
+    put-rest : (ls : List Line) → rest-lines goal g ≡ ls → put-all (lines-bytes ls) q ≡ whole f s
+    put-rest ls e = ap (λ (z : List Line). put-all (lines-bytes z) q) (sym e) ∙ amid .same-bytes
+
+    opened-by-case : (z : Opening) (used : ℕ) (after : Pen) → o .opening ≡ z → after ≡ put-all (opened-bytes z goal) q
+        → Moved f s p (o .forest) (opened-place z used p) after
+    opened-by-case (openings.Refused n) used after e put =
+        let now = left-now in
+        moved-end f s p (o .forest) used after (omega arith) (put ∙ put-rest [] (goal-past g (amid .ready) goal o says n e))
+    opened-by-case (openings.Stopped n) used after e put =
+        let now = left-now in
+        moved-end f s p (o .forest) used after (omega arith)
+        (put ∙ ap (λ (w : List ℕ). put-all w q) (stop-line goal n ∙ sym (append-nil (line-bytes (line goal 0 (stopped n)))))
+        ∙ put-rest (line goal 0 (stopped n) ∷ []) (goal-stops g (amid .ready) goal o says n e))
+    opened-by-case (openings.Table t) used after e put =
+        let x = amid .ready in
+        let lists = goal-lists g x goal o says t e in
+        let is-named = goal-named g x goal o says t e in
+        let same = amid .same-goals in
+        let now = left-now in
+        let then = left-peeks (p .over) false goals-left 0 live refl in
+        record {
+          along = record {
+            over = λ z. absurd (true≢false (sym z ∙ live));
+            opens = λ y z. absurd (false≢true z);
+            peeks = λ y z. record {
+              stands = goal-stands g x goal o says t e;
+              same-goals = same-count g x goal o says t e ∙ same;
+              named = omega arith;
+              more = 257;
+              enough = omega arith;
+              same-bytes =
+                  ap (put-all _) (put ∙ put-nothing q)
+                  ∙ ap (λ (n : ℕ). put-all (lines-bytes (goals-on (n - (goal + 1)) goal (list-from 257 goal t 0 (view (o .forest))))) q)
+                  (sym same)
+                  ∙ put-rest _ lists;
+            };
+          };
+          less = omega arith;
+        }
+
+    opened-moves : (r : Place) (after : Pen) → OpenedTo (o .opening) p q r after → Moved f s p (o .forest) r after
+    opened-moves r after to =
+        subst (λ (z : Place). Moved f s p (o .forest) z after) (sym (to .place))
+        (opened-by-case (o .opening) (r .used) after refl (to .bytes))
+
+    pub along-opened : (r : Place) (after : Pen) → OpenedTo (o .opening) p q r after → Along f s (o .forest) r after
+    along-opened r after to = opened-moves r after to .along
+
+    pub less-opened : (r : Place) (after : Pen) → OpenedTo (o .opening) p q r after → left-at f r < left-at f p
+    less-opened r after to = opened-moves r after to .less
+
+  -- A PEEK
+  module _ (peeking : p .opens ≡ false) (h : Forest) (replies : List ℕ) where
+    midway : Midway f s g goal (p .table) (p .index) q
+    midway = a .peeks live peeking
+
+    abbrev fewer : ℕ
+    fewer = midway .more - 1
+
+    has-more : midway .more ≡ suc fewer
+    has-more = let a = midway .enough in let b = midway .stands .few in omega arith
+
+    abbrev others : ℕ
+    others = goal-count f - (goal + 1)
+
+    few-goals : goal < 64
+    few-goals =
+        let n = midway .same-goals in
+        let k = midway .stands .ready .sound .forest .goals in
+        let few = midway .stands .ready .sound .forest .few-goals in
+        let lt = midway .named in
+        omega arith
+
+    left-then : left-at f p ≡ goals-left * 259 + (258 - p .index)
+    left-then = left-peeks (p .over) (p .opens) goals-left (p .index) live peeking
+
+    module _ (x : PeekTells g (p .table) (p .index) h replies) where
+      abbrev here : Line
+      here = line goal (x .made .index) (x .made .ending)
+
+      -- the line is put down, and what is behind it is left
+      behind-put : (rest : List Line) (after : Pen)
+          → after ≡ put-all (reply-line goal (getD replies 2 0) (getD replies 0 0) (getD replies 1 0)) q
+          → goals-on others goal (list-from (suc fewer) goal (p .table) (p .index) (view g)) ≡ here ∷ rest
+          → put-all (lines-bytes rest) after ≡ whole f s
+      behind-put rest after put e =
+          ap (put-all (lines-bytes rest)) (put ∙ ap (λ (w : List ℕ). put-all w q) (x .says-line goal))
+          ∙ sym (put-all-append (line-bytes here) (lines-bytes rest) q)
+          ∙ ap (λ (ls : List Line). put-all (lines-bytes ls) q) (sym e)
+          ∙ ap (λ (k : ℕ). put-all (lines-bytes (goals-on others goal (list-from k goal (p .table) (p .index) (view g)))) q) (sym has-more)
+          ∙ midway .same-bytes
+
+      abbrev behind : Next → List Line
+      behind n = lines-behind others fewer goal (p .table) (x .made) n
+
+      peeked-by-case : (n : Next) (used index : ℕ) (after : Pen) → next (x .made .ending) ≡ n → index ≡ x .made .index
+          → put-all (lines-bytes (behind n)) after ≡ whole f s → Moved f s p h (next-place n used index p) after
+      peeked-by-case the-end used index after e i left =
+          let now = left-then in
+          let few = midway .stands .few in
+          moved-end f s p h used after (omega arith) (sym (put-nothing after) ∙ left)
+      peeked-by-case next-goal used index after e i left =
+          let now = left-then in
+          let few = midway .stands .few in
+          let is-named = midway .named in
+          let next = one-more-is goal (let o = few-goals in omega arith) in
+          let then = left-opens (p .over) true (goal-count f - one-more goal) (p .index) live refl in
+          let same = x .same-goals ∙ midway .same-goals in
+          record {
+            along = record {
+              over = λ z. absurd (true≢false (sym z ∙ live));
+              opens = λ y z. record {
+                ready = x .ready e;
+                same-goals = same;
+                same-bytes =
+                    ap (λ (k : ℕ). put-all (lines-bytes (list-goals (k - one-more goal) (one-more goal) (view h))) after) same
+                    ∙ ap (λ (k : ℕ). put-all (lines-bytes (list-goals (goal-count f - k) k (view h))) after) next
+                    ∙ ap (λ (k : ℕ). put-all (lines-bytes (list-goals others k (view h))) after) (one-up goal)
+                    ∙ ap (λ (k : tables.Forest). put-all (lines-bytes (list-goals others (suc goal) k)) after) (sym (x .left))
+                    ∙ left;
+              };
+              peeks = λ y z. absurd (true≢false z);
+            };
+            less = omega arith;
+          }
+      peeked-by-case next-index used index after e i left =
+          let now = left-then in
+          let few = midway .stands .few in
+          let stands-next = x .stands e in
+          let few-next = stands-next .few in
+          let next : one-more index ≡ x .made .index + 1 =
+          ap one-more i ∙ one-more-is (x .made .index) (omega arith) in
+          let then = left-peeks (p .over) (p .opens) goals-left (one-more index) live peeking in
+          let later = x .not-before in
+          let enough = midway .enough in
+          let more = has-more in
+          record {
+            along = record {
+              over = λ z. absurd (true≢false (sym z ∙ live));
+              opens = λ y z. absurd (true≢false (sym z ∙ peeking));
+              peeks = λ y z. record {
+                stands = subst (λ (k : ℕ). Stands h (p .table) k) (sym next) stands-next;
+                same-goals = x .same-goals ∙ midway .same-goals;
+                named = midway .named;
+                more = fewer;
+                enough = omega arith;
+                same-bytes =
+                    ap (λ (k : ℕ). put-all (lines-bytes (goals-on others goal (list-from fewer goal (p .table) k (view h)))) after)
+                    (next ∙ one-up (x .made .index))
+                    ∙ ap (λ (k : tables.Forest). put-all (lines-bytes
+                    (goals-on others goal (list-from fewer goal (p .table) (suc (x .made .index)) k))) after) (sym (x .left))
+                    ∙ left;
+              };
+            };
+            less = omega arith;
+          }
+
+      peeked-moves : (r : Place) (after : Pen) → ToldTo replies p q r after → Moved f s p h r after
+      peeked-moves r after to =
+          subst (λ (z : Place). Moved f s p h z after)
+          (sym (to .place ∙ ap (λ (n : Next). next-place n (r .used) (getD replies 2 0) p) (x .follows)))
+          (peeked-by-case (next (x .made .ending)) (r .used) (getD replies 2 0) after refl (x .ended-at)
+          (behind-put (behind (next (x .made .ending))) after (to .bytes)
+          (peeked-lines others fewer goal (p .table) (x .made) (p .index) (view g) (x .is-made))))
+
+    module _ (l calls before : List ℕ) (room : 5 ≤ length l) (room-too : 3 ≤ length before)
+        (asks : calls ≡ peek-put (p .table) (p .index) l) (says : Sound g → ServeCallsSays g 1 calls before h replies) where
+      told-moves : (r : Place) (after : Pen) → ToldTo replies p q r after → Moved f s p h r after
+      told-moves r after to =
+          peeked-moves (peek-tells g (p .table) (p .index) h replies (midway .stands)
+          (one-peek g (p .table) (p .index) before h replies room-too l calls room asks (says (midway .stands .ready .sound))))
+          r after to
+
+      -- the arrays keep their lengths
+      pub turn-told : (r : Place) (after : Pen) → ToldTo replies p q r after
+          → (5 ≤ length calls) × (3 ≤ length replies) × Along f s h r after
+      turn-told r after to = (
+        asks-room (p .table) (p .index) l calls asks room,
+        tells-room g 1 calls before h replies (says (midway .stands .ready .sound)) room-too,
+        told-moves r after to .along,
+      )
+
+      pub less-told : (r : Place) (after : Pen) → ToldTo replies p q r after → left-at f r < left-at f p
+      less-told r after to = told-moves r after to .less
 
 -- A BYTE STRING
 

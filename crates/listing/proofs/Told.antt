@@ -1,19 +1,16 @@
--- One peek and one open of the code, on a forest that may be asked: they are accepted, and what they tell is the next step of the
--- definitions' listing.
+-- One peek of the code, on a forest that may be asked: as a batch of one call it is a peek, which is accepted, and what the numbers of its
+-- reply tell is the next step of the definitions' listing.
 use Prim.Native.Nat.{ℕ, suc, _+_, _-_, _≤_, _<_}
 use native.Mathlib.Omega.{arith}
-use mathlib.Core.Bool.{Bool, true, false, true≢false, false≢true}
-use mathlib.Core.List.{List, [], _∷_, _++_, append-nil}
+use mathlib.Core.Bool.{true}
+use mathlib.Core.List.{List, [], _∷_, map}
 use mathlib.Core.Logic.{inr}
 use mathlib.Core.Path.{_≡_, refl, sym, ap, subst, _∙_}
-use lib.ListN.{length}
-use Rattle.definitions.specs.{CompleteAnswer}
+use lib.ListN.{length, getD, length-set}
+use Rattle.definitions.specs.Calls as calls
 use Rattle.definitions.specs.Forest as said
-use Rattle.definitions.specs.Listing.{listing-rounds, listing-turns, Line, line, Next, next-index, next-goal, the-end, next}
-use Rattle.definitions.specs.Listing.{Listed, list-from, line-bytes, lines-bytes}
-use Rattle.definitions.specs.Logic as logic
-use Rattle.definitions.specs.Refusal.{Refusable, refused, accepted}
-use Rattle.definitions.specs.Stop.{Stops, stop, go}
+use Rattle.definitions.specs.Listing.{listing-rounds, listing-turns, line, next-index, next-goal, next, line-bytes}
+use Rattle.definitions.specs.Refusal.{accepted}
 use Rattle.definitions.specs.Tables as tables
 use Rattle.definitions.specs.Turn.{Ending, found, fail, cut, stopped}
 use Rattle.definitions.proofs.Refusal.{same-accepted, not-accepted}
@@ -22,19 +19,101 @@ use Rattle.asserts.proofs.Peeks.{PeekWell, peeks-well}
 use Rattle.asserts.proofs.Unwinding.{Ended}
 use Rattle.promises.proofs.ListingStored as stored
 use Rattle.promises.proofs.ListingStored.{PeekStored, peek-stored}
-use Rattle.pen.specs.Pen.{Pen, put-all}
-use Rattle.pen.proofs.Putting.{put-two, put-nothing, put-all-append}
+use Rattle.batch.specs.Calls.{call-at, reply-put}
+use Rattle.batch.specs.declared.calls.Reply.{Reply}
 use Rattle.forest.specs.declared.Forest.{Forest}
 use Rattle.forest.specs.declared.searches.Outcome.{Outcome}
 use Rattle.forest.specs.declared.searches.Outcome.the-variants as outcomes
 use Rattle.forest.specs.declared.searches.Peeked.{Peeked}
-use Rattle.forest.specs.Searches.{PeekSays, reply-by, peeked-means}
+use Rattle.forest.specs.Searches.{PeekSays, reply-by}
+use Rattle.forest.specs.ServeCalls.{call-means, outcome-numbers, numbers, all-put, all-left, ServeCallsSays}
+use Rattle.forest.specs.Sittings.{Told, opens, searches, peeks, asks-future, left, Gives, Sits, asked}
 use Rattle.forest.specs.View.{view, Sound}
-use Rattle.listing.specs.Lines.{complete, ending-of, outcome-line}
-use Rattle.listing.specs.Goals.{is-found, is-stopped, Ready, Stands, goal-count, PeekLists}
+use Rattle.listing.specs.Lines.{reply-line}
+use Rattle.listing.specs.Goals.{Ready, Stands, goal-count, peek-put, next-of}
 use Rattle.listing.proofs.Marks.{MarkStays, PeekMarks, peek-mark}
-use Rattle.listing.proofs.Listing.{peek-asked, goes-on, goal-over, all-over}
-use Rattle.listing.proofs.Words.{line-is}
+use Rattle.listing.proofs.Listing.{peek-asked}
+use Rattle.listing.proofs.Words.{ending-of, Tells, reply-tells, peek-line}
+
+-- A BATCH OF ONE PEEK
+
+abbrev peek-numbers : Peeked → Reply
+peek-numbers r = outcome-numbers (r .index) (r .turns) (r .exceeded) (r .outcome)
+
+-- a peek, the forest that it left, and the numbers of its reply
+pub record OnePeek (f : Forest) (table index : ℕ) (g : Forest) (replies : List ℕ) : Type 0 where
+  pub peeked : Peeked
+  pub says : PeekSays f table index listing-rounds listing-turns peeked
+  pub left : g ≡ peeked .forest
+  pub word : getD replies 0 0 ≡ peek-numbers peeked .word
+  pub value : getD replies 1 0 ≡ peek-numbers peeked .value
+  pub ended-at : getD replies 2 0 ≡ peek-numbers peeked .index
+
+-- what the first five numbers ask
+first-call : (table index : ℕ) (l : List ℕ) → 5 ≤ length l
+    → call-means (call-at (peek-put table index l) 0) ≡ calls.peeks table index listing-rounds listing-turns
+first-call table index (a ∷ []) h = absurd (omega arith)
+first-call table index (a ∷ b ∷ []) h = absurd (omega arith)
+first-call table index (a ∷ b ∷ c ∷ []) h = absurd (omega arith)
+first-call table index (a ∷ b ∷ c ∷ d ∷ []) h = absurd (omega arith)
+first-call table index (a ∷ b ∷ c ∷ d ∷ e ∷ l) h = refl
+
+-- what the first reply tells
+first-reply : (m : Reply) (l : List ℕ) → 3 ≤ length l → let after = reply-put 0 m l in
+    (getD after 0 0 ≡ m .word) × (getD after 1 0 ≡ m .value) × (getD after 2 0 ≡ m .index)
+first-reply m (a ∷ []) h = absurd (omega arith)
+first-reply m (a ∷ b ∷ []) h = absurd (omega arith)
+first-reply m (a ∷ b ∷ c ∷ l) h = (refl, refl, refl)
+
+-- the arrays of the calls and of the replies keep their lengths
+pub asks-room : (table index : ℕ) (l numbers : List ℕ) → numbers ≡ peek-put table index l → 5 ≤ length l → 5 ≤ length numbers
+asks-room table index l numbers e h = rw e (simp length-set h)
+
+all-put-length : (at : ℕ) (ts : List Told) (l : List ℕ) → length (all-put at ts l) ≡ length l
+all-put-length at [] l = refl
+all-put-length at (t ∷ ts) l = all-put-length (suc at) ts (reply-put at (numbers t) l) ∙ simp length-set
+
+pub tells-room : (f : Forest) (count : ℕ) (calls before : List ℕ) (g : Forest) (after : List ℕ)
+    → ServeCallsSays f count calls before g after → 3 ≤ length before → 3 ≤ length after
+tells-room f count calls before g after says h =
+    let e = ap length (says .replies) ∙ all-put-length 0 (says .told) before in
+    omega arith
+
+module _ (f : Forest) (table index : ℕ) (before : List ℕ) (g : Forest) (after : List ℕ) (room : 3 ≤ length before) where
+  abbrev asked-for : calls.Call
+  asked-for = calls.peeks table index listing-rounds listing-turns
+
+  told-one : (t : Told) → Gives f t → asked t ≡ asked-for → after ≡ reply-put 0 (numbers t) before → g ≡ left f t
+      → OnePeek f table index g after
+  told-one (opens goal r) gives a e h = let z : _≡_ {A = ℕ} 0 1 = cc in absurd (omega arith)
+  told-one (searches t i limit r) gives a e h = let z : _≡_ {A = ℕ} 0 1 = cc in absurd (omega arith)
+  told-one (asks-future t i v r) gives a e h = let z : _≡_ {A = ℕ} 0 1 = cc in absurd (omega arith)
+  told-one (peeks t i rounds limit r) gives a e h =
+      let first = first-reply (peek-numbers r) before room in
+      let same-table : t ≡ table = cc in
+      let same-index : i ≡ index = cc in
+      let same-rounds : rounds ≡ listing-rounds = cc in
+      let same-limit : limit ≡ listing-turns = cc in
+      record {
+        peeked = r;
+        says = rw (← same-table, ← same-index, ← same-rounds, ← same-limit) gives;
+        left = h;
+        word = ap (λ (l : List ℕ). getD l 0 0) e ∙ first .0;
+        value = ap (λ (l : List ℕ). getD l 1 0) e ∙ first .1;
+        ended-at = ap (λ (l : List ℕ). getD l 2 0) e ∙ first .2;
+      }
+
+  told-all : (ts : List Told) → Sits f ts → map asked ts ≡ asked-for ∷ [] → after ≡ all-put 0 ts before → g ≡ all-left f ts
+      → OnePeek f table index g after
+  told-all [] sits a e h = let z : _≡_ {A = ℕ} 0 1 = cc in absurd (omega arith)
+  told-all (t ∷ []) sits a e h = told-one t (sits .0) (cc) e h
+  told-all (t ∷ u ∷ ts) sits a e h = let z : _≡_ {A = ℕ} 0 1 = cc in absurd (omega arith)
+
+  pub one-peek : (l numbers : List ℕ) → 5 ≤ length l → numbers ≡ peek-put table index l
+      → ServeCallsSays f 1 numbers before g after → OnePeek f table index g after
+  one-peek l numbers fits e says = told-all (says .told) (says .sits)
+      (says .asks ∙ ap (λ (n : List ℕ). call-means (call-at n 0) ∷ []) e ∙ ap (λ (k : calls.Call). k ∷ []) (first-call table index l fits))
+      (says .replies) (says .left)
 
 -- AN OUTCOME AND ITS ENDING
 
@@ -49,40 +128,6 @@ told-by outcomes.NegativeCycle with p x = (_, refl, sym (same-accepted x))
 told-by outcomes.InvalidAnswer with p x = (_, refl, sym (same-accepted x))
 told-by outcomes.Cut with p x = (_, refl, sym (same-accepted x))
 told-by (outcomes.Stopped n) with p x = (_, refl, sym (same-accepted x))
-
--- what follows the line of an ending, by the code's tests
-abbrev Follows : Outcome → Ending → Type 0
-Follows o e =
-    (is-found o ≡ true → next e ≡ next-index) × (is-found o ≡ false → is-stopped o ≡ false → next e ≡ next-goal)
-    × (is-found o ≡ false → is-stopped o ≡ true → next e ≡ the-end)
-
-follows-found : (a : CompleteAnswer) (o : Outcome) → is-found o ≡ true → Follows o (found a)
-follows-found a o f = (λ q. refl, λ q. absurd (true≢false (sym f ∙ q)), λ q. absurd (true≢false (sym f ∙ q)))
-
-follows-end : (n : ℕ) (o : Outcome) → is-found o ≡ false → is-stopped o ≡ true → Follows o (stopped n)
-follows-end n o f s = (λ q. absurd (true≢false (sym q ∙ f)), λ q r. absurd (true≢false (sym s ∙ r)), λ q r. refl)
-
--- by the ending that an outcome stands for
-follows-told : (o : Outcome) (d e : Ending) → ending-of o ≡ accepted d → ending-of o ≡ accepted e → Follows o d → Follows o e
-follows-told o d e x y f = subst (λ (z : Ending). Follows o z) (same-accepted (sym x ∙ y)) f
-
-follows-goal : (o : Outcome) (d e : Ending) → ending-of o ≡ accepted d → ending-of o ≡ accepted e → next d ≡ next-goal → is-found o ≡ false
-    → is-stopped o ≡ false → Follows o e
-follows-goal o d e x y n f s =
-    follows-told o d e x y (λ q. absurd (true≢false (sym q ∙ f)), λ q r. n, λ q r. absurd (true≢false (sym r ∙ s)))
-
-follows : (o : Outcome) (e : Ending) → ending-of o ≡ accepted e → Follows o e
-follows (outcomes.Refused n) e x = absurd (not-accepted x)
-follows (outcomes.Found variant ambiguous) e x =
-    let a = complete variant ambiguous in
-    follows-told (outcomes.Found variant ambiguous) (found a) e refl x (follows-found a (outcomes.Found variant ambiguous) refl)
-follows outcomes.NoMoreSolutions e x = follows-goal outcomes.NoMoreSolutions (fail logic.NoMoreSolutions) e refl x refl refl refl
-follows outcomes.Floundered e x = follows-goal outcomes.Floundered (fail logic.Floundered) e refl x refl refl refl
-follows outcomes.QuantumExceeded e x = follows-goal outcomes.QuantumExceeded (fail logic.QuantumExceeded) e refl x refl refl refl
-follows outcomes.NegativeCycle e x = follows-goal outcomes.NegativeCycle (fail logic.NegativeCycle) e refl x refl refl refl
-follows outcomes.InvalidAnswer e x = follows-goal outcomes.InvalidAnswer (fail logic.InvalidAnswer) e refl x refl refl refl
-follows outcomes.Cut e x = follows-goal outcomes.Cut cut e refl x refl refl refl
-follows (outcomes.Stopped n) e x = follows-told (outcomes.Stopped n) (stopped n) e refl x (follows-end n (outcomes.Stopped n) refl refl)
 
 next-found : (e : Ending) → next e ≡ next-index → stored.is-found e ≡ true
 next-found (found a) q = refl
@@ -103,6 +148,20 @@ goal-stays m cut f q h = h
 goal-stays m (stopped n) f q h = let z : _≡_ {A = ℕ} 0 1 = cc in absurd (omega arith)
 
 -- ONE PEEK
+
+-- what a peek tells the listing: how it ended and where, which is the definitions' peek; its line; and what may be asked of the forest next
+pub record PeekTells (f : Forest) (table index : ℕ) (g : Forest) (replies : List ℕ) : Type 0 where
+  pub made : said.Peeked
+  pub is-made : said.peek-rounds (listing-rounds - 1) listing-turns 0 table index (view f) ≡ made
+  pub left : made .forest ≡ view g
+  pub follows : next-of (getD replies 0 0) ≡ next (made .ending)
+  pub ended-at : getD replies 2 0 ≡ made .index
+  pub says-line : (goal : ℕ)
+      → reply-line goal (getD replies 2 0) (getD replies 0 0) (getD replies 1 0) ≡ line-bytes (line goal (made .index) (made .ending))
+  pub same-goals : goal-count g ≡ goal-count f
+  pub not-before : index ≤ made .index
+  pub stands : next (made .ending) ≡ next-index → Stands g table (made .index + 1)
+  pub ready : next (made .ending) ≡ next-goal → Ready g
 
 module _ (f : Forest) (t i : ℕ) (x : Stands f t i) (r : Peeked) (says : PeekSays f t i listing-rounds listing-turns r) where
   abbrev told : Ending → said.Peeked
@@ -134,9 +193,6 @@ module _ (f : Forest) (t i : ℕ) (x : Stands f t i) (r : Peeked) (says : PeekSa
   same-goals : goal-count (r .forest) ≡ goal-count f
   same-goals = well .ended .sound .goals ∙ sym (x .ready .sound .forest .goals)
 
-  after : Follows (r .outcome) ending
-  after = follows (r .outcome) ending (is-told .1)
-
   left-sound : Sound (r .forest)
   left-sound = says .sound (x .ready .sound)
 
@@ -146,94 +202,38 @@ module _ (f : Forest) (t i : ℕ) (x : Stands f t i) (r : Peeked) (says : PeekSa
   at-most : length (well .ended .own .answers) ≤ 256
   at-most = answers-at-most (well .ended .sound) t (well .ended .own) (well .ended .is-made)
 
-  -- the next index is a small number
-  pub index-small : (b : Bool) → b ≡ is-found (r .outcome) → b ≡ true → r .index < 256
-  index-small b is e = let under = is-under (after .0 (sym is ∙ e)) in let most = at-most in omega arith
-
-  pub index-fits : (b : Bool) → b ≡ is-found (r .outcome) → b ≡ true → r .index + 1 < 18446744073709551616
-  index-fits b is e = let small = index-small b is e in omega arith
-
-  stands-next : is-found (r .outcome) ≡ true → Stands (r .forest) t (r .index + 1)
+  stands-next : next ending ≡ next-index → Stands (r .forest) t (r .index + 1)
   stands-next e =
-      let a = is-under (after .0 e) in
+      let a = is-under e in
       let b = at-most in
       record {
-        ready = record { sound = left-sound; unmarked = found-stays 0 ending (view (r .forest)) (after .0 e) marks };
+        ready = record { sound = left-sound; unmarked = found-stays 0 ending (view (r .forest)) e marks };
         own = well .ended .own;
         is-made = well .ended .is-made;
         reached = inr (omega arith);
         few = omega arith;
       }
 
-  module _ (goal : ℕ) (p q : Pen) (put : q ≡ put-all (outcome-line goal (r .index) (r .outcome)) p) where
-    abbrev here : Line
-    here = line goal (r .index) ending
+  tells : Tells (peek-numbers r) (r .index) ending
+  tells = reply-tells (r .index) (r .turns) (r .exceeded) (r .outcome) ending (is-told .1)
 
-    line-put : q ≡ put-all (line-bytes here) p
-    line-put = put ∙ ap (λ (w : List ℕ). put-all w p) (line-is goal (r .index) (r .outcome) ending (is-told .1))
+  tells-by : (replies : List ℕ) → getD replies 0 0 ≡ peek-numbers r .word → getD replies 1 0 ≡ peek-numbers r .value
+      → getD replies 2 0 ≡ peek-numbers r .index → PeekTells f t i (r .forest) replies
+  tells-by replies a b c = record {
+    made = told ending;
+    is-made = is-told .2;
+    left = refl;
+    follows = ap next-of a ∙ tells .follows;
+    ended-at = c ∙ tells .ended-at;
+    says-line = λ goal. rw (a, b, c) (peek-line goal (r .index) (peek-numbers r) ending tells);
+    same-goals = same-goals;
+    not-before = is-stored .not-before;
+    stands = stands-next;
+    ready = λ e. record { sound = left-sound; unmarked = goal-stays 0 ending (view (r .forest)) e marks };
+  }
 
-    abbrev whole : (more : ℕ) → Listed
-    whole more = list-from (suc more) goal t i (view f)
-
-    last-put : q ≡ put-all (lines-bytes (here ∷ [])) p
-    last-put = line-put ∙ ap (λ (w : List ℕ). put-all w p) (sym (append-nil (line-bytes here)))
-
-    on-lines : (rest : List Line) → put-all (lines-bytes rest) q ≡ put-all (lines-bytes (here ∷ rest)) p
-    on-lines rest = ap (put-all (lines-bytes rest)) line-put ∙ sym (put-all-append (line-bytes here) (lines-bytes rest) p)
-
-    left-after : (more next : ℕ) → suc (r .index) ≡ next → is-found (r .outcome) ≡ true →
-        let rest = list-from more goal t next (view (r .forest)) in
-        (put-all (lines-bytes (rest .lines)) q ≡ put-all (lines-bytes (whole more .lines)) p)
-        × (rest .stops ≡ whole more .stops) × (rest .forest ≡ whole more .forest)
-    left-after more next same e =
-        let rest = list-from more goal t next (view (r .forest)) in
-        let is : whole more ≡ record { lines = here ∷ rest .lines; stops = rest .stops; forest = rest .forest } =
-        goes-on more goal t i (view f) (told ending) (is-told .2) (after .0 e)
-        ∙ ap (λ (n : ℕ). let z = list-from more goal t n (view (r .forest)) in
-        record { lines = here ∷ z .lines; stops = z .stops; forest = z .forest }) same in (
-          on-lines (rest .lines) ∙ ap (λ (w : Listed). put-all (lines-bytes (w .lines)) p) (sym is),
-          ap (λ (w : Listed). w .stops) (sym is),
-          ap (λ (w : Listed). w .forest) (sym is),
-        )
-
-    -- the code's test, and what it answers
-    pub step-on : (b : Bool) → b ≡ is-found (r .outcome) → b ≡ true → PeekLists f goal t i p false false (r .index + 1) (r .forest) q
-    step-on b is e =
-        let found = sym is ∙ e in
-        record {
-          same-goals = same-goals;
-          on = λ z. (
-            stands-next found,
-            (let a = is-stored .not-before in omega arith),
-            λ more. left-after more (r .index + 1) (omega arith) found,
-          );
-          over = λ z. absurd (false≢true z);
-        }
-
-    ends-by : (stops : Bool) → stops ≡ is-stopped (r .outcome) → is-found (r .outcome) ≡ false
-        → (stops ≡ false → Ready (r .forest))
-        × ((more : ℕ) → whole more ≡ record { lines = here ∷ []; stops = stops; forest = view (r .forest) })
-    ends-by true s e = (
-      λ z. absurd (true≢false z),
-      λ more. all-over more goal t i (view f) (told ending) (is-told .2) (after .2 e (sym s)),
-    )
-    ends-by false s e = (
-      λ z. record { sound = left-sound; unmarked = goal-stays 0 ending (view (r .forest)) (after .1 e (sym s)) marks },
-      λ more. goal-over more goal t i (view f) (told ending) (is-told .2) (after .1 e (sym s)),
-    )
-
-    pub step-over : (b stops : Bool) → b ≡ is-found (r .outcome) → b ≡ false → stops ≡ is-stopped (r .outcome)
-        → PeekLists f goal t i p true stops (r .index) (r .forest) q
-    step-over b stops is e s = record {
-      same-goals = same-goals;
-      on = λ z. absurd (true≢false z);
-      over = λ z. (
-        ends-by stops s (sym is ∙ e) .0,
-        λ more.
-            let is = ends-by stops s (sym is ∙ e) .1 more in (
-              last-put ∙ ap (λ (w : Listed). put-all (lines-bytes (w .lines)) p) (sym is),
-              ap (λ (w : Listed). w .stops) (sym is),
-              ap (λ (w : Listed). w .forest) (sym is),
-            ),
-      );
-    }
+pub peek-tells : (f : Forest) (t i : ℕ) (g : Forest) (replies : List ℕ) → Stands f t i → OnePeek f t i g replies
+    → PeekTells f t i g replies
+peek-tells f t i g replies x o =
+    subst (λ (h : Forest). PeekTells f t i h replies) (sym (o .left))
+    (tells-by f t i x (o .peeked) (o .says) replies (o .word) (o .value) (o .ended-at))

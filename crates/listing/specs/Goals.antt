@@ -1,43 +1,21 @@
--- What the loops of the listing are known to do: how the lines of the definitions are left to be put down, peek by peek and goal by goal.
-use Prim.Native.Nat.{ℕ, suc, _+_, _-_, _≤_, _<_}
-use mathlib.Core.Bool.{Bool, true, false}
-use mathlib.Core.List.{List}
+-- What the listing is known to do, call by call: the line that is written, and where the listing is then.
+use Prim.Native.Nat.{ℕ, _-_, _≤_}
+use mathlib.Core.Bool.{true, false}
+use mathlib.Core.List.{List, [], _∷_}
 use mathlib.Core.Option.{some}
 use mathlib.Core.Path.{_≡_}
-use lib.ListN.{length, getElem?}
-use Rattle.definitions.specs.Listing.{Line, Listed, list-from, list-goals, lines-bytes}
+use lib.ListN.{length, getD, getElem?, set}
+use Rattle.definitions.specs.Listing.{listing-rounds, listing-turns, Line, Next, next-index, next-goal, the-end, list-goals}
 use Rattle.definitions.specs.Table.{Table}
-use Rattle.definitions.specs.Tables as tables
 use Rattle.asserts.proofs.Sound.{Reached}
 use Rattle.pen.specs.Pen.{Pen, put-all}
+use Rattle.search.specs.RootAnswer.{one-more}
 use Rattle.forest.specs.declared.Forest.{Forest}
-use Rattle.forest.specs.declared.searches.Outcome.{Outcome}
-use Rattle.forest.specs.declared.searches.Outcome.the-variants as outcomes
+use Rattle.forest.specs.declared.open.Opening.{Opening}
+use Rattle.forest.specs.declared.open.Opening.the-variants as openings
 use Rattle.forest.specs.View.{view, Sound}
-
--- after these outcomes the next index is listed
-abbrev pub is-found : Outcome → Bool
-is-found (outcomes.Refused n) = false
-is-found (outcomes.Found variant ambiguous) = true
-is-found outcomes.NoMoreSolutions = false
-is-found outcomes.Floundered = false
-is-found outcomes.QuantumExceeded = false
-is-found outcomes.NegativeCycle = false
-is-found outcomes.InvalidAnswer = false
-is-found outcomes.Cut = false
-is-found (outcomes.Stopped n) = false
-
--- after these nothing
-abbrev pub is-stopped : Outcome → Bool
-is-stopped (outcomes.Refused n) = true
-is-stopped (outcomes.Found variant ambiguous) = false
-is-stopped outcomes.NoMoreSolutions = false
-is-stopped outcomes.Floundered = false
-is-stopped outcomes.QuantumExceeded = false
-is-stopped outcomes.NegativeCycle = false
-is-stopped outcomes.InvalidAnswer = false
-is-stopped outcomes.Cut = false
-is-stopped (outcomes.Stopped n) = true
+use Rattle.listing.specs.declared.goals.Place.{Place}
+use Rattle.listing.specs.Lines.{reply-line}
 
 -- a forest that may be asked: sound, and not marked by a stop
 pub record Ready (f : Forest) : Type 0 where
@@ -55,33 +33,80 @@ pub record Stands (f : Forest) (table index : ℕ) : Type 0 where
 abbrev pub goal-count : Forest → ℕ
 goal-count f = length (view f .book)
 
--- ONE PEEK, from the pen p on; q is the pen behind its line. Unless the line is the goal's last, what is left of it is from the next
--- index on, whatever the bound; else it is over, and the forest may be asked unless a stop came.
-pub record PeekLists (f : Forest) (goal table index : ℕ) (p : Pen) (last stops : Bool) (next : ℕ) (g : Forest) (q : Pen) : Type 0 where
-  pub same-goals : goal-count g ≡ goal-count f
-  pub on : last ≡ false → Stands g table next × (index < next) × ((more : ℕ) →
-      let whole = list-from (suc more) goal table index (view f) in
-      let rest = list-from more goal table next (view g) in
-      (put-all (lines-bytes (rest .lines)) q ≡ put-all (lines-bytes (whole .lines)) p)
-      × (rest .stops ≡ whole .stops) × (rest .forest ≡ whole .forest))
-  pub over : last ≡ true → (stops ≡ false → Ready g) × ((more : ℕ) →
-      let whole = list-from (suc more) goal table index (view f) in
-      (q ≡ put-all (lines-bytes (whole .lines)) p) × (stops ≡ whole .stops) × (view g ≡ whole .forest))
-
--- A TABLE, from its first index on
-pub record TableLists (f : Forest) (goal table : ℕ) (p : Pen) (stops : Bool) (g : Forest) (q : Pen) : Type 0 where
-  pub same-goals : goal-count g ≡ goal-count f
-  pub ready : stops ≡ false → Ready g
-  pub said : q ≡ put-all (lines-bytes (list-from 257 goal table 0 (view f) .lines)) p
-  pub stopped : stops ≡ list-from 257 goal table 0 (view f) .stops
-  pub left : view g ≡ list-from 257 goal table 0 (view f) .forest
-
 -- the lines of the goals from this one on
 abbrev pub rest-lines : (goal : ℕ) → Forest → List Line
 rest-lines goal f = list-goals (goal-count f - goal) goal (view f)
 
--- ONE GOAL: where the listing is over, all that was left is put down; else the goals behind this one are left.
-pub record GoalLists (f : Forest) (goal : ℕ) (p : Pen) (stops : Bool) (g : Forest) (q : Pen) : Type 0 where
-  pub over : stops ≡ true → q ≡ put-all (lines-bytes (rest-lines goal f)) p
-  pub on : stops ≡ false → Ready g × (goal-count g ≡ goal-count f) × (goal < goal-count f)
-      × (put-all (lines-bytes (rest-lines (goal + 1) g)) q ≡ put-all (lines-bytes (rest-lines goal f)) p)
+-- at first goal 0 is to be opened
+abbrev pub first-place : Place
+first-place = record { used = 0; over = false; opens = true; goal = 0; table = 0; index = 0 }
+
+-- nothing is listed any more
+abbrev pub ended-place : (used : ℕ) → Place → Place
+ended-place used p = record {
+  used = used;
+  over = true;
+  opens = p .opens;
+  goal = p .goal;
+  table = p .table;
+  index = p .index;
+}
+
+-- AN OPEN: where it leads, and the bytes of its line
+abbrev pub opened-place : Opening → (used : ℕ) → Place → Place
+opened-place (openings.Refused n) used p = ended-place used p
+opened-place (openings.Table t) used p = record {
+  used = used;
+  over = p .over;
+  opens = false;
+  goal = p .goal;
+  table = t;
+  index = 0;
+}
+opened-place (openings.Stopped n) used p = ended-place used p
+
+abbrev pub opened-bytes : Opening → (goal : ℕ) → List ℕ
+opened-bytes (openings.Refused n) goal = []
+opened-bytes (openings.Table t) goal = []
+opened-bytes (openings.Stopped n) goal = reply-line goal 0 2 n
+
+-- from the place p and its pen to the place r and its pen
+pub record OpenedTo (opening : Opening) (p : Place) (before : Pen) (r : Place) (after : Pen) : Type 0 where
+  pub place : r ≡ opened-place opening (r .used) p
+  pub bytes : after ≡ put-all (opened-bytes opening (p .goal)) before
+
+-- A PEEK, as the first call of a batch
+abbrev pub peek-put : (table index : ℕ) → List ℕ → List ℕ
+peek-put table index l = set (set (set (set (set l 0 2) 1 table) 2 index) 3 listing-rounds) 4 listing-turns
+
+-- what follows a reply, by its word: nothing behind stop, the next index behind yes and maybe
+abbrev pub next-of : (word : ℕ) → Next
+next-of word = getD (next-goal ∷ next-goal ∷ the-end ∷ next-index ∷ next-index ∷ []) word next-goal
+
+abbrev pub next-place : Next → (used index : ℕ) → Place → Place
+next-place next-index used index p = record {
+  used = used;
+  over = p .over;
+  opens = p .opens;
+  goal = p .goal;
+  table = p .table;
+  index = one-more index;
+}
+next-place next-goal used index p = record {
+  used = used;
+  over = p .over;
+  opens = true;
+  goal = one-more (p .goal);
+  table = p .table;
+  index = p .index;
+}
+next-place the-end used index p = ended-place used p
+
+-- by a reply's word, its value and the index at which the peek ended
+pub record PeekedTo (word value index : ℕ) (p : Place) (before : Pen) (r : Place) (after : Pen) : Type 0 where
+  pub place : r ≡ next-place (next-of word) (r .used) index p
+  pub bytes : after ≡ put-all (reply-line (p .goal) index word value) before
+
+-- by the numbers of all replies, of which the first is this one
+abbrev pub ToldTo : List ℕ → Place → Pen → Place → Pen → Type 0
+ToldTo replies p before r after = PeekedTo (getD replies 0 0) (getD replies 1 0) (getD replies 2 0) p before r after

@@ -1,17 +1,18 @@
 // From a book's bytes to the lines: one forest, each goal opened and peeked at from index 0 on (document 01, "The listing program").
 use crate::lines::line;
 use crate::lines::refusal;
+use batch::calls::NUMBERS;
 use forest::Forest;
 use forest::make::Making;
 use forest::make::make;
 use forest::open::Opening;
 use forest::open::open;
-use forest::searches::Outcome;
-use forest::searches::peek;
+use forest::serve_calls::serve_calls;
+use search::root_answer::one_more;
 ghost use mathlib.Core.Path.{_≡_};
-ghost use Rattle.definitions.specs.Listing.{lines-bytes, listing};
+ghost use Rattle.definitions.specs.Listing.{next-index, lines-bytes, listing};
 ghost use Rattle.pen.specs.Pen.{pen, put-all};
-ghost use Rattle.listing.specs.Goals.{is-found, is-stopped, Ready, Stands, PeekLists, TableLists, rest-lines, GoalLists};
+ghost use Rattle.listing.specs.Goals.{Ready, rest-lines, first-place, OpenedTo, peek-put, next-place, ToldTo};
 
 const CLOCK: u64 = 1000000;
 
@@ -19,130 +20,98 @@ const ROUNDS: u64 = 1000;
 
 const TURNS: u64 = 10000;
 
-// After these outcomes the next index is listed.
-fn is_found(outcome: Outcome) -> bool
-    ensures { λ r. ⌜ r ≡ is-found outcome ⌝ }
-{
-    match outcome {
-        Outcome::Refused(n) => false,
-        Outcome::Found(variant, ambiguous) => true,
-        Outcome::NoMoreSolutions => false,
-        Outcome::Floundered => false,
-        Outcome::QuantumExceeded => false,
-        Outcome::NegativeCycle => false,
-        Outcome::InvalidAnswer => false,
-        Outcome::Cut => false,
-        Outcome::Stopped(n) => false,
-    }
-}
-
-// After these nothing is.
-fn is_stopped(outcome: Outcome) -> bool
-    ensures { λ r. ⌜ r ≡ is-stopped outcome ⌝ }
-{
-    match outcome {
-        Outcome::Refused(n) => true,
-        Outcome::Found(variant, ambiguous) => false,
-        Outcome::NoMoreSolutions => false,
-        Outcome::Floundered => false,
-        Outcome::QuantumExceeded => false,
-        Outcome::NegativeCycle => false,
-        Outcome::InvalidAnswer => false,
-        Outcome::Cut => false,
-        Outcome::Stopped(n) => true,
-    }
-}
-
-// After one line of a goal: how much of the buffer is in use, whether it was the goal's last and if not at which index the next one is to
-// be looked for, whether a stop ended the listing, and the forest left.
-struct Step {
+// Where the listing is: how much of the buffer is in use, whether the last line is written, whether the goal is to be opened, and if not,
+// which table is to be peeked at and from which index on.
+struct Place {
     used: usize,
-    last: bool,
-    stops: bool,
+    over: bool,
+    opens: bool,
+    goal: u64,
+    table: u64,
     index: u64,
-    forest: Forest,
 }
 
-fn list_peek(out: &mut [u8], at: usize, f: Forest, goal: u64, table: u64, index: u64) -> Step
-    requires { ⌜ Stands f table index ⌝ }
-    ensures { λ r. ⌜ PeekLists f goal table index (pen (now (out .entry)) at) (r .last) (r .stops) (r .index) (r .forest)
-        (pen (now (out .exit)) (r .used)) ⌝ }
+fn first_place() -> Place
+    ensures { λ r. ⌜ r ≡ first-place ⌝ }
 {
-    let p = peek(f, table, index, ROUNDS, TURNS);
-    let outcome = p.outcome;
-    let forest = p.forest;
-    let used = line(out, at, goal, p.index, outcome);
-    if is_found(outcome) {
-        return Step {
-            used,
-            last: false,
-            stops: false,
-            index: p.index + 1,
-            forest,
-        };
-    }
-    let stops = is_stopped(outcome);
-    Step {
-        used,
-        last: true,
-        stops,
-        index: p.index,
-        forest,
+    Place {
+        used: 0,
+        over: false,
+        opens: true,
+        goal: 0,
+        table: 0,
+        index: 0,
     }
 }
 
-// After the lines of a goal: whether they are the last ones.
-struct Listed {
-    used: usize,
-    stops: bool,
-    forest: Forest,
-}
-
-fn list_table(out: &mut [u8], at: usize, f: Forest, goal: u64, table: u64) -> Listed
-    requires { ⌜ Stands f table 0 ⌝ }
-    ensures { λ r. ⌜ TableLists f goal table (pen (now (out .entry)) at) (r .stops) (r .forest) (pen (now (out .exit)) (r .used)) ⌝ }
+// Where an open leads: a goal that is not in the book ends the listing, and so does a stop, which is written as that of a peek is: 2 is its
+// word.
+fn opened(out: &mut [u8], opening: Opening, p: Place) -> Place
+    ensures { λ r. ⌜ OpenedTo opening p (pen (now (out .entry)) (p .used)) r (pen (now (out .exit)) (r .used)) ⌝ }
 {
-    let mut forest = f;
-    let mut used = at;
-    let mut index: u64 = 0;
-    loop {
-        let s = list_peek(out, used, forest, goal, table, index);
-        used = s.used;
-        index = s.index;
-        forest = s.forest;
-        if s.last {
-            return Listed {
-                used,
-                stops: s.stops,
-                forest,
-            };
-        }
-    }
-}
-
-// A goal that is not in the book ends the listing.
-fn list_goal(out: &mut [u8], at: usize, f: Forest, goal: u64) -> Listed
-    requires { ⌜ Ready f ⌝ }
-    ensures { λ r. ⌜ GoalLists f goal (pen (now (out .entry)) at) (r .stops) (r .forest) (pen (now (out .exit)) (r .used)) ⌝ }
-{
-    let o = open(f, goal);
-    let opening = o.opening;
-    let forest = o.forest;
     match opening {
-        Opening::Refused(n) => Listed {
-            used: at,
-            stops: true,
-            forest,
+        Opening::Refused(n) => Place { over: true, ..p },
+        Opening::Table(table) => Place {
+            opens: false,
+            table,
+            index: 0,
+            ..p
         },
-        Opening::Table(table) => list_table(out, at, forest, goal, table),
         Opening::Stopped(n) => {
-            let used = line(out, at, goal, 0, Outcome::Stopped(n));
-            Listed {
+            let used = line(out, p.used, p.goal, 0, 2, n as u64);
+            Place {
                 used,
-                stops: true,
-                forest,
+                over: true,
+                ..p
             }
         }
+    }
+}
+
+// One peek, as the numbers of the first call (crate `batch`, calls.rt): a peek's kind is 2.
+fn ask(calls: &mut [u64; NUMBERS], table: u64, index: u64)
+    ensures { λ r. ⌜ now (calls .exit) ≡ peek-put table index (now (calls .entry)) ⌝ }
+{
+    calls[0] = 2;
+    calls[1] = table;
+    calls[2] = index;
+    calls[3] = ROUNDS;
+    calls[4] = TURNS;
+}
+
+// Behind an answer the goal's next one is looked for.
+fn next_index(used: usize, index: u64, p: Place) -> Place
+    ensures { λ r. ⌜ r ≡ next-place next-index used index p ⌝ }
+{
+    Place {
+        used,
+        index: one_more(index),
+        ..p
+    }
+}
+
+// Where a peek leads, by the numbers of its reply: behind a stop nothing is listed, and behind what is no answer the next goal.
+fn told(out: &mut [u8], replies: &[u64; NUMBERS], p: Place) -> Place
+    ensures { λ r. ⌜ ToldTo (now (replies .entry)) p (pen (now (out .entry)) (p .used)) r (pen (now (out .exit)) (r .used)) ⌝ }
+{
+    let word = replies[0];
+    let value = replies[1];
+    let index = replies[2];
+    let used = line(out, p.used, p.goal, index, word, value);
+    match word {
+        2 => Place {
+            used,
+            over: true,
+            ..p
+        },
+        3 => next_index(used, index, p),
+        4 => next_index(used, index, p),
+        _ => Place {
+            used,
+            opens: true,
+            goal: one_more(p.goal),
+            ..p
+        },
     }
 }
 
@@ -154,22 +123,31 @@ fn tell(shown: bool, goal: u64) {
     }
 }
 
+// The forest stays in this function, since handing one on by value copies it whole: what the other functions need of it is told by an
+// opening and by the numbers of a reply. So a peek is a batch of one call.
 fn list_goals(out: &mut [u8], f: Forest, shown: bool) -> usize
     requires { ⌜ Ready f ⌝ }
     ensures { λ r. ⌜ pen (now (out .exit)) r ≡ put-all (lines-bytes (rest-lines 0 f)) (pen (now (out .entry)) 0) ⌝ }
 {
+    let mut calls = [0u64; NUMBERS];
+    let mut replies = [0u64; NUMBERS];
     let mut forest = f;
-    let mut used: usize = 0;
-    let mut goal: u64 = 0;
+    let mut p = first_place();
     loop {
-        tell(shown, goal);
-        let r = list_goal(out, used, forest, goal);
-        used = r.used;
-        forest = r.forest;
-        if r.stops {
-            return used;
+        if p.over {
+            return p.used;
         }
-        goal += 1;
+        if p.opens {
+            tell(shown, p.goal);
+            let o = open(forest, p.goal);
+            let opening = o.opening;
+            forest = o.forest;
+            p = opened(out, opening, p);
+            continue;
+        }
+        ask(&mut calls, p.table, p.index);
+        forest = serve_calls(forest, 1, &calls, &mut replies);
+        p = told(out, &replies, p);
     }
 }
 

@@ -10,7 +10,7 @@ use intake::input;
 // buffer when that is written, and whether it could be written is known.
 // At a terminal standard error tells which goal is at hand, until the lines are written.
 fn answer(bytes: &[u8]) {
-    let mut out = io::large_buffer();
+    let mut out = [0u8; 8192];
     let shown = libc::isatty(2) == 1;
     let used = goals::list(&mut out, bytes, shown);
     if shown {

@@ -26,4 +26,13 @@ returns : tie.Need-returns
 returns c = search line-said
 
 pub line-spec : {M : Type 1} → statement M
-line-spec = tie.close (tie.spec field-requires field-requires-2 words-requires slice-aggregate-text text-requires same-length returns)
+line-spec =
+    tie.close
+    (tie.spec
+    field-requires
+    field-requires-2
+    words-requires
+    slice-aggregate-text
+    text-requires
+    same-length
+    returns)
