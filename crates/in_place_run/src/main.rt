@@ -1,4 +1,5 @@
-// A search in the hand: a turn at a time, and a cut, through the functions that are lent the search. Cases p8 and p1 of document 01.
+// A search in the hand: a turn at a time, and a cut, through the functions that are lent the search. A book from standard input, cut
+// after three turns; where there is none, cases p8 and p1 of document 01. `tools/turns` holds it against the Rust's searches.
 // No contract can speak of what is written: the program's run, held to its file `stdout`, guards that.
 mod begun; // begun.rt: a search before its first turn
 mod words; // words.rt: what is written
@@ -8,66 +9,62 @@ use begun::rooted;
 use control::perform::Flow;
 use in_place::by_value::cut;
 use in_place::by_value::turn;
+use intake::input;
 
-// Between two steps: how much of the output's buffer is in use, how many turns the search may still have, how many times it is begun
-// again, whether it is put back next, and whether all is over.
+// A search has so many turns, unless it is the first.
+const MOST_TURNS: u64 = 1000;
+
+// Between two steps: how much of the output's buffer is in use, how many turns the search may still have, whether it is put back next,
+// and whether all is over.
 struct Progress {
     at: usize,
     turns: u64,
-    again: u64,
     cuts: bool,
     over: bool,
 }
 
-fn goes_on(flow: Flow) -> bool {
+// What follows a turn: 0 the next one, 1 the search is put back, 2 no more. A search that ended in QuantumExceeded is begun again.
+fn next_step(flow: Flow, turns: u64) -> u8 {
     match flow {
-        Flow::Continue => true,
-        Flow::ReturnOk => false,
-        Flow::NoMoreSolutions => false,
-        Flow::QuantumExceeded => false,
-        Flow::NegativeCycle => false,
-        Flow::Stop(_) => false,
+        Flow::Continue => if turns > 1 { 0 } else { 1 },
+        Flow::ReturnOk => 2,
+        Flow::NoMoreSolutions => 2,
+        Flow::QuantumExceeded => 1,
+        Flow::NegativeCycle => 2,
+        Flow::Stop(_) => 2,
     }
 }
 
-// After a turn: the next one, or the search is put back, or no more.
 fn turned(out: &mut [u8], p: Progress, flow: Flow, depth: usize, clock: u64) -> Progress {
     let at = words::turned(out, p.at, flow, depth, clock);
-    if p.turns > 1 && goes_on(flow) {
-        return Progress {
-            at,
-            turns: p.turns - 1,
-            ..p
-        };
-    }
+    let next = next_step(flow, p.turns);
+    let turns = if p.turns > 0 { p.turns - 1 } else { 0 };
     Progress {
         at,
-        cuts: p.again > 0,
-        over: p.again == 0,
-        ..p
+        turns,
+        cuts: next == 1,
+        over: next == 2,
     }
 }
 
-// After a cut: the search is begun again, with as many turns as it takes.
-fn put_back(out: &mut [u8], p: Progress, depth: usize, clock: u64) -> Progress {
+// After a cut the search is begun again, unless its table has floundered.
+fn put_back(out: &mut [u8], p: Progress, depth: usize, clock: u64, floundered: bool) -> Progress {
     let at = words::cut(out, p.at, depth, clock);
-    let again = if p.again > 0 { p.again - 1 } else { 0 };
     Progress {
         at,
-        turns: 1000,
-        again,
+        turns: MOST_TURNS,
         cuts: false,
-        over: false,
+        over: floundered,
     }
 }
 
-// The first search of a book has so many turns at most; it is put back and begun again so many times. The search stays here.
-fn run(out: &mut [u8], at: usize, book: &[u8], turns: u64, again: u64) -> usize {
+// The first search of a book has so many turns at most. The search stays here. A proved loop has to end, and nothing says that searches
+// that are cut do: so many steps are taken.
+fn run(out: &mut [u8], at: usize, book: &[u8], turns: u64) -> usize {
     let mut s = rooted(begun(book));
     let mut p = Progress {
         at,
         turns,
-        again,
         cuts: false,
         over: false,
     };
@@ -76,7 +73,7 @@ fn run(out: &mut [u8], at: usize, book: &[u8], turns: u64, again: u64) -> usize 
         left -= 1;
         if p.cuts {
             let c = cut(s);
-            p = put_back(out, p, c.depth, c.clock);
+            p = put_back(out, p, c.depth, c.clock, c.floundered[0] != 0);
             s = rooted(c);
             continue;
         }
@@ -89,9 +86,9 @@ fn run(out: &mut [u8], at: usize, book: &[u8], turns: u64, again: u64) -> usize 
 }
 
 // `0 :- 1`, 1 a fact: four turns. Cut after three, it takes one more.
-fn p8(out: &mut [u8], at: usize, turns: u64, again: u64) -> usize {
+fn p8(out: &mut [u8], at: usize, turns: u64) -> usize {
     let a = pen::text(out, at, b"# p8\n");
-    run(out, a, b"G\0C\0\0\0P\x01\0\0\0\0G\0C\0\0\0E", turns, again)
+    run(out, a, b"G\0C\0\0\0P\x01\0\0\0\0G\0C\0\0\0E", turns)
 }
 
 // `0 :- 1, not 2`, 1 has facts /1 and /2, `2 :- 2`: the first two searches end in QuantumExceeded.
@@ -101,20 +98,33 @@ fn p1(out: &mut [u8], at: usize) -> usize {
         out,
         a,
         b"G\0C\0\0\0P\x01\0\0\0\0N\x02\0\0G\0C\x01\0\0C\x02\0\0G\0C\0\0\0P\x02\0\0\0\0E",
-        1000,
-        2,
+        MOST_TURNS,
     )
 }
 
-fn all(out: &mut [u8]) -> usize {
-    let whole = p8(out, 0, 1000, 0);
-    let in_two = p8(out, whole, 3, 1);
+fn cases(out: &mut [u8]) -> usize {
+    let whole = p8(out, 0, MOST_TURNS);
+    let in_two = p8(out, whole, 3);
     p1(out, in_two)
 }
 
+fn all(out: &mut [u8], book: &[u8]) -> usize {
+    if book.len() == 0 {
+        return cases(out);
+    }
+    run(out, 0, book, 3)
+}
+
 fn main() {
+    let mut bytes = [0u8; 16384];
+    let got = input(&mut bytes);
+    if !got.whole {
+        io::write_all(2, b"in_place_run: the input can't be read\n");
+        return;
+    }
+    let n = got.count;
     let mut out = [0u8; 4096];
-    let used = all(&mut out);
+    let used = all(&mut out, &bytes[..n]);
     if !pen::flush(&out, used) {
         io::write_all(2, b"in_place_run: the turns can't be written\n");
     }

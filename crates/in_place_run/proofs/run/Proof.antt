@@ -6,10 +6,10 @@ use Rattle.in_place_run.proofs.run.Statement.{statement}
 use Rattle.in_place_run.proofs.run.Tie as tie
 
 abbrev Inv-loop : tie.InvT-loop
-Inv-loop out₀ at book turns again s₀ p₀ left₀ out s p left = length out ≡ length out₀
+Inv-loop out₀ at book turns s₀ p₀ left₀ out s p left = length out ≡ length out₀
 
 abbrev μ-loop : tie.MeasureT-loop
-μ-loop out₀ at book turns again s₀ p₀ left₀ out s p left = left
+μ-loop out₀ at book turns s₀ p₀ left₀ out s p left = left
 
 begun-requires : tie.Need-begun-requires Inv-loop μ-loop
 begun-requires c κs = search needs
@@ -25,6 +25,9 @@ sub-left c = search needs
 
 cut-requires : tie.Need-cut-requires Inv-loop μ-loop
 cut-requires c κs = search needs
+
+element-copy-out-put-back : tie.Need-element-copy-out-put-back Inv-loop μ-loop
+element-copy-out-put-back c = search needs
 
 put-back-requires : tie.Need-put-back-requires Inv-loop μ-loop
 put-back-requires c κs = search needs
@@ -73,6 +76,7 @@ run-spec =
     loop-holds
     sub-left
     cut-requires
+    element-copy-out-put-back
     put-back-requires
     rooted-requires-2
     loop-less
