@@ -70,6 +70,8 @@ pub(crate) fn first_serving(f: Forest) -> Serving
 }
 
 // As many calls as `count` says, at most 256. What the numbers of a call and of a reply say is told in crate `batch`, calls.rt.
+// Arrays are filled with zeros alone, and the book goes out from what was lent: so the compiler drops the copies of a forest that nothing
+// needs (`docs/SPEED.md`).
 pub fn serve_calls(
     f: Forest,
     count: u64,
