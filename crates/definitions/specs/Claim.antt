@@ -112,8 +112,8 @@ module _ (I : ℕ → Type 0) (clock-limit : ℕ) where
   EndingSays f t i cut = Unit {0}
   EndingSays f t i (stopped n) = (n ≡ 21) × (f .clock ≡ clock-limit)
 
-  -- What a reply says, on a forest that no stop has marked: `Refuses` are the numbers by which the call is refused, `made` the searches that
-  -- it made, `at` what it is about, and f the forest that it left. Of the reply of `any_future_answer` nothing is said.
+  -- What a reply says, on a forest that no stop has marked: `Refuses` are the numbers by which the call is refused, `made` the searches
+  -- that it made, `at` what it is about, and f the forest that it left. Of the reply of `any_future_answer` nothing is said.
   abbrev pub ReplySays :
       (Refuses : ℕ → Type 0) (made : List SearchMade) (at : Option (TableIndex × ℕ)) → Forest → Reply → Type 0
   ReplySays Refuses made at f (refusal n) = Refuses n

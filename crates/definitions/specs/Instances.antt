@@ -120,7 +120,8 @@ second-replies = refl
 
 -- With a clock limit of 1 the second search stops, and every call after it gets 20.
 pub second-stops :
-    replies-of (calls (sitting (just-made second-book 1)) (opens 0 ∷ searches 0 0 100 ∷ searches 0 0 100 ∷ opens 0 ∷ asks-future 0 0 0 ∷ []))
+    replies-of (calls (sitting (just-made second-book 1))
+    (opens 0 ∷ searches 0 0 100 ∷ searches 0 0 100 ∷ opens 0 ∷ asks-future 0 0 0 ∷ []))
     ≡ table (go 0) ∷ searched (fail QuantumExceeded) 2 ∷ searched (stopped 21) 0 ∷ refusal 20 ∷ future true ∷ []
 second-stops = refl
 

@@ -64,7 +64,8 @@ made-for g f =
 -- a forest with these tables and strands, and this mark
 abbrev forest-with : Tabling → (mark : ℕ) → Forest → Forest
 forest-with m mark f =
-    forest-by (book-in f) (lent-of (m .tables) (m .strands) (lent-with f blank-stack .answers) blank-stack (f .clock)) (f .«clock_limit») mark
+    forest-by (book-in f) (lent-of (m .tables) (m .strands) (lent-with f blank-stack .answers) blank-stack (f .clock)) (f .«clock_limit»)
+    mark
 
 -- A TABLE THAT IS BUILT, where the book has the goal
 module _ (book : Book) (goal : ℕ) where

@@ -216,14 +216,16 @@ pub fn conclude<'a>(
         (places (now (next .exit)) (now (tail .exit)) (now (len .exit)) (r .used)))
         (answers-of answers (now («answer_variant» .entry)) (now («answer_key» .entry)) (now («answer_ambiguous» .entry))
         (places (now («answer_next» .entry)) (now («answer_tail» .entry)) (now («answer_len» .entry)) (r .«answer_used»)))
-        (stack-of (r .depth) (now («entry_table» .exit)) (now («entry_clock» .exit)) (now (positive .exit)) (now (negative .exit)) (now (active .exit))) (r .clock))
+        (stack-of (r .depth) (now («entry_table» .exit)) (now («entry_clock» .exit)) (now (positive .exit)) (now (negative .exit)) (now
+        (active .exit))) (r .clock))
         ≡ conclude asked c
         (lent-of (tables-of (c .count) goals coinductives (now (floundered .entry)) modes)
         (store strands times flags variants waiting wanted
         (places (now (next .entry)) (now (tail .entry)) (now (len .entry)) (c .used)))
         (answers-of answers (now («answer_variant» .entry)) (now («answer_key» .entry)) (now («answer_ambiguous» .entry))
         (places (now («answer_next» .entry)) (now («answer_tail» .entry)) (now («answer_len» .entry)) (c .«answer_used»)))
-        (stack-of (c .depth) (now («entry_table» .entry)) (now («entry_clock» .entry)) (now (positive .entry)) (now (negative .entry)) (now (active .entry))) (c .clock))) ⌝ }
+        (stack-of (c .depth) (now («entry_table» .entry)) (now («entry_clock» .entry)) (now (positive .entry)) (now (negative .entry)) (now
+        (active .entry))) (c .clock))) ⌝ }
 {
     if goes_on(asked, c) {
         let done = one_more(c.done);
@@ -310,19 +312,24 @@ pub fn pass(
         (answers : List Answer)
         → walk (r .course)
         (lent-of (tables-of (r .course .count) (now (goal .exit)) (now (coinductive .exit)) (now (floundered .exit)) (now (complete .exit)))
-        (store (set (set strands (r .«copy_place») (r .copy)) (r .place) (r .strand)) (now (time .exit)) (now (ambiguous .exit)) (now (variant .exit)) (now (waits .exit)) (now (wants .exit))
+        (store (set (set strands (r .«copy_place») (r .copy)) (r .place) (r .strand)) (now (time .exit)) (now (ambiguous .exit)) (now
+        (variant .exit)) (now (waits .exit)) (now (wants .exit))
         (places (now (next .exit)) (now (tail .exit)) (now (len .exit)) (r .course .used)))
-        (answers-of (set answers (r .«answer_place») (r .answer)) (now («answer_variant» .exit)) (now («answer_key» .exit)) (now («answer_ambiguous» .exit))
+        (answers-of (set answers (r .«answer_place») (r .answer)) (now («answer_variant» .exit)) (now («answer_key» .exit)) (now
+        («answer_ambiguous» .exit))
         (places (now («answer_next» .exit)) (now («answer_tail» .exit)) (now («answer_len» .exit)) (r .course .«answer_used»)))
-        (stack-of (r .course .depth) (now («entry_table» .exit)) (now («entry_clock» .exit)) (now (positive .exit)) (now (negative .exit)) (now (active .exit))) (r .course .clock))
-        ≡ pass-with (book-of goals clauses (now («goal_flags» .entry)) (now («goal_first» .entry)) (now («goal_len» .entry)) (now («clause_variant» .entry)) (now («clause_flags» .entry)) clause-len literal-kind literal-goal
+        (stack-of (r .course .depth) (now («entry_table» .exit)) (now («entry_clock» .exit)) (now (positive .exit)) (now (negative .exit))
+        (now (active .exit))) (r .course .clock))
+        ≡ pass-with (book-of goals clauses (now («goal_flags» .entry)) (now («goal_first» .entry)) (now («goal_len» .entry)) (now
+        («clause_variant» .entry)) (now («clause_flags» .entry)) clause-len literal-kind literal-goal
         literal-want) asked c l k a
         (lent-of (tables-of (c .count) (now (goal .entry)) (now (coinductive .entry)) (now (floundered .entry)) (now (complete .entry)))
         (store strands (now (time .entry)) (now (ambiguous .entry)) (now (variant .entry)) (now (waits .entry)) (now (wants .entry))
         (places (now (next .entry)) (now (tail .entry)) (now (len .entry)) (c .used)))
         (answers-of answers (now («answer_variant» .entry)) (now («answer_key» .entry)) (now («answer_ambiguous» .entry))
         (places (now («answer_next» .entry)) (now («answer_tail» .entry)) (now («answer_len» .entry)) (c .«answer_used»)))
-        (stack-of (c .depth) (now («entry_table» .entry)) (now («entry_clock» .entry)) (now (positive .entry)) (now (negative .entry)) (now (active .entry))) (c .clock))) ⌝ }
+        (stack-of (c .depth) (now («entry_table» .entry)) (now («entry_clock» .entry)) (now (positive .entry)) (now (negative .entry)) (now
+        (active .entry))) (c .clock))) ⌝ }
 {
     let chosen = k.chosen;
     let top = l.top;
@@ -461,21 +468,25 @@ pub fn ensure_root_answer<'a>(
     literal_want: &'a [u16; 2048],
 ) -> Ran
     ensures { λ r. ⌜ ((goals clauses : ℕ)
-        → Comes (book-of goals clauses (now («goal_flags» .entry)) (now («goal_first» .entry)) (now («goal_len» .entry)) (now («clause_variant» .entry)) (now («clause_flags» .entry)) (now («clause_len» .entry)) (now («literal_kind» .entry)) (now («literal_goal» .entry)) (now («literal_want» .entry))) asked
+        → Comes (book-of goals clauses (now («goal_flags» .entry)) (now («goal_first» .entry)) (now («goal_len» .entry)) (now
+        («clause_variant» .entry)) (now («clause_flags» .entry)) (now («clause_len» .entry)) (now («literal_kind» .entry)) (now
+        («literal_goal» .entry)) (now («literal_want» .entry))) asked
         (walk from
         (lent-of (tables-of (from .count) (now (goal .entry)) (now (coinductive .entry)) (now (floundered .entry)) (now (complete .entry)))
         (store «first_strands» (now (time .entry)) (now (ambiguous .entry)) (now (variant .entry)) (now (waits .entry)) (now (wants .entry))
         (places (now (next .entry)) (now (tail .entry)) (now (len .entry)) (from .used)))
         (answers-of «first_answers» (now («answer_variant» .entry)) (now («answer_key» .entry)) (now («answer_ambiguous» .entry))
         (places (now («answer_next» .entry)) (now («answer_tail» .entry)) (now («answer_len» .entry)) (from .«answer_used»)))
-        (stack-of (from .depth) (now («entry_table» .entry)) (now («entry_clock» .entry)) (now (positive .entry)) (now (negative .entry)) (now (active .entry))) (from .clock)))
+        (stack-of (from .depth) (now («entry_table» .entry)) (now («entry_clock» .entry)) (now (positive .entry)) (now (negative .entry))
+        (now (active .entry))) (from .clock)))
         (walk (r .course)
         (lent-of (tables-of (r .course .count) (now (goal .exit)) (now (coinductive .exit)) (now (floundered .exit)) (now (complete .exit)))
         (store (r .strands) (now (time .exit)) (now (ambiguous .exit)) (now (variant .exit)) (now (waits .exit)) (now (wants .exit))
         (places (now (next .exit)) (now (tail .exit)) (now (len .exit)) (r .course .used)))
         (answers-of (r .answers) (now («answer_variant» .exit)) (now («answer_key» .exit)) (now («answer_ambiguous» .exit))
         (places (now («answer_next» .exit)) (now («answer_tail» .exit)) (now («answer_len» .exit)) (r .course .«answer_used»)))
-        (stack-of (r .course .depth) (now («entry_table» .exit)) (now («entry_clock» .exit)) (now (positive .exit)) (now (negative .exit)) (now (active .exit))) (r .course .clock)))) ⌝ }
+        (stack-of (r .course .depth) (now («entry_table» .exit)) (now («entry_clock» .exit)) (now (positive .exit)) (now (negative .exit))
+        (now (active .exit))) (r .course .clock)))) ⌝ }
 {
     let mut strands = first_strands;
     let mut answers = first_answers;

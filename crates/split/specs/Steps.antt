@@ -96,8 +96,8 @@ pub data Ends : Progress → Searched → Type 0 where
   at-once : {r : Searched} → Ends (ended r) r
   after-step : {w : Standing} {r : Searched} → Ends (step w) r → Ends (stands w) r
 
--- A PEEK AS STEPS (forest.rs `peek_answer`): search after search for an answer of table t, step after step. `more` are the rounds after this
--- one, `exceeded` the searches so far that ended in QuantumExceeded, and the search that goes on is for the answer at this index.
+-- A PEEK AS STEPS (forest.rs `peek_answer`): search after search for an answer of table t, step after step. `more` are the rounds after
+-- this one, `exceeded` the searches so far that ended in QuantumExceeded, and the search that goes on is for the answer at this index.
 pub data Peeks (limit : ℕ) (t : TableIndex) : (more exceeded index : ℕ) → Progress → Peeked → Type 0 where
   goes-on : {m k i : ℕ} {w : Standing} {p : Peeked} → Peeks limit t m k i (step w) p → Peeks limit t m k i (stands w) p
   skips : {m k i : ℕ} {r : Searched} {p : Peeked} → is-invalid (r .ending) ≡ true

@@ -136,9 +136,11 @@ module _ (G : Premises) where
           says = (says, subst (λ (z : Forest). ReadOff made z (R .ending) i (R .turns) (R .exceeded)) (s .forest) reads);
           left = peek-left p i (R .turns) (R .exceeded) (exceeded-among made) (s .ends) (s .agree) (k .rest) lower;
         } in
-        subst (λ (z : Forest). CallOK p S made (peeks t i (suc r) (suc n)) (peeked (R .ending) (R .index) (R .turns) (R .exceeded)) (sitting z))
+        subst (λ (z : Forest). CallOK p S made (peeks t i (suc r) (suc n)) (peeked (R .ending) (R .index) (R .turns) (R .exceeded))
+        (sitting z))
         (sym (s .forest))
-        (subst (λ (z : ℕ). CallOK p S made (peeks t i (suc r) (suc n)) (peeked (R .ending) z (R .turns) (R .exceeded)) (sitting left-forest))
+        (subst (λ (z : ℕ). CallOK p S made (peeks t i (suc r) (suc n)) (peeked (R .ending) z (R .turns) (R .exceeded))
+        (sitting left-forest))
         (sym (s .index)) x)
 
     -- the table is made
@@ -156,7 +158,8 @@ module _ (G : Premises) where
     searching : (t i n : ℕ) (o : Refusable Searched)
         → Comes (is-marked F refuses 20 ∷ not-made F t refuses 10 ∷ index-above F t i refuses 11 ∷ eqb n 0 refuses 12 ∷ [])
         (root-answer n t i F) o
-        → (r : Reply × Sitting) → r ≡ elim o [ refused n ↦ (refusal n, S) | accepted r ↦ (searched (r .ending) (r .turns), with-forest S (r .forest)) ]
+        → (r : Reply × Sitting)
+        → r ≡ elim o [ refused n ↦ (refusal n, S) | accepted r ↦ (searched (r .ending) (r .turns), with-forest S (r .forest)) ]
         → (made : List SearchMade) → made ≡ elim o [ refused n ↦ [] | accepted r ↦ record { index = i; result = r } ∷ [] ]
         → CallOK p S made (searches t i n) (r .0) (r .1)
     searching t i n (refused k) (turned-down x) r e made q =

@@ -19,10 +19,13 @@ opening-of-requires c κs = search needs
 
 returns : tie.Need-returns
 returns c =
-    let opening = c .before .before .before .before .before .before .before .before .before .before .before .before .before .before .before .before .before in
+    let opening = c .before .before .before .before .before .before .before .before .before .before .before .before .before .before .before
+    .before .before in
     let served = opening .before .before in
-    let first = served .before .before .before .before .before .before .before .before .before .before .before .before .before .before .before .before .before .before in
-    let a = first .before .before .before .before .before .before .before .before .before .before .before .before .before .before .before .before .before .before .args in
+    let first = served .before .before .before .before .before .before .before .before .before .before .before .before .before .before
+    .before .before .before .before in
+    let a = first .before .before .before .before .before .before .before .before .before .before .before .before .before .before .before
+    .before .before .before .args in
     let f = a .f in
     open-served f (a .goal-asked) (first .first-serving .result) (first .first-serving .ensures) (served .serve-open .result) _
     (opening .opening-of .result) (opening .opening-of .ensures)

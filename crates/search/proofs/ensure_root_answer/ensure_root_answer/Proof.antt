@@ -83,23 +83,29 @@ mul-strands-2 : tie.Need-mul-strands-2 Inv-loop μ-loop
 mul-strands-2 c = byte-strand (c .before .before .before .before .before .pass .result .place) (c .struct-known5 .given .1 .1 .1 .0)
 
 array-set-from-strands-2 : tie.Need-array-set-from-strands-2 Inv-loop μ-loop
-array-set-from-strands-2 c = byte-index (c .before .before .before .before .before .pass .result .place) (c .struct-known5 .given .1 .1 .1 .0)
+array-set-from-strands-2 c = byte-index (c .before .before .before .before .before .pass .result .place) (c .struct-known5 .given .1 .1 .1
+    .0)
 
 cast-answers : tie.Need-cast-answers Inv-loop μ-loop
-cast-answers c = byte-fits (c .before .before .before .before .before .before .pass .result .«answer_place») (c .struct-known6 .given .1 .1 .1 .1 .1 .0)
+cast-answers c = byte-fits (c .before .before .before .before .before .before .pass .result .«answer_place») (c .struct-known6 .given .1 .1
+    .1 .1 .1 .0)
 
 mul-answers : tie.Need-mul-answers Inv-loop μ-loop
-mul-answers c = byte-answer (c .before .before .before .before .before .before .pass .result .«answer_place») (c .struct-known6 .given .1 .1 .1 .1 .1 .0)
+mul-answers c = byte-answer (c .before .before .before .before .before .before .pass .result .«answer_place») (c .struct-known6 .given .1
+    .1 .1 .1 .1 .0)
 
 array-set-from-answers : tie.Need-array-set-from-answers Inv-loop μ-loop
-array-set-from-answers c = byte-index (c .before .before .before .before .before .before .pass .result .«answer_place») (c .struct-known6 .given .1 .1 .1 .1 .1 .0)
+array-set-from-answers c = byte-index (c .before .before .before .before .before .before .pass .result .«answer_place») (c .struct-known6
+    .given .1 .1 .1 .1 .1 .0)
 
 loop-less : tie.Need-loop-less Inv-loop μ-loop
 loop-less c =
     let passing = c .before .before .before .before .before .before .before in
-    let picking = passing .before .before .before .before .before .before .before .before .before .before .before .before .before .before .before .before .before .before .before .before .before .before .before .before .before .before .before in
+    let picking = passing .before .before .before .before .before .before .before .before .before .before .before .before .before .before
+    .before .before .before .before .before .before .before .before .before .before .before .before .before in
     let looking = picking .before .before .before .before .before .before .before .before .before .before .before .before .before in
-    let settling = looking .before .before .before .before .before .before .before .before .before .before .before .before .before .before in
+    let settling = looking .before .before .before .before .before .before .before .before .before .before .before .before .before .before
+    in
     let lending = settling .before .before .before .before .before .before .before .before .before .before in
     let test = lending .before .before .before .before .before .before .before .before .before in
     let r = settling .settle .result in
@@ -120,9 +126,11 @@ loop-less c =
 loop-again : tie.Need-loop-again Inv-loop μ-loop
 loop-again c =
     let passing = c .before .before .before .before .before .before .before in
-    let picking = passing .before .before .before .before .before .before .before .before .before .before .before .before .before .before .before .before .before .before .before .before .before .before .before .before .before .before .before in
+    let picking = passing .before .before .before .before .before .before .before .before .before .before .before .before .before .before
+    .before .before .before .before .before .before .before .before .before .before .before .before .before in
     let looking = picking .before .before .before .before .before .before .before .before .before .before .before .before .before in
-    let settling = looking .before .before .before .before .before .before .before .before .before .before .before .before .before .before in
+    let settling = looking .before .before .before .before .before .before .before .before .before .before .before .before .before .before
+    in
     let lending = settling .before .before .before .before .before .before .before .before .before .before in
     let test = lending .before .before .before .before .before .before .before .before .before in
     let r = settling .settle .result in

@@ -49,9 +49,11 @@ conclude-requires c κs = search needs
 returns : tie.Need-returns
 returns c =
     let concluded = c .before .before .before in
-    let carrying = concluded .before .before .before .before .before .before .before .before .before .before .before .before .before .before .before .before in
+    let carrying = concluded .before .before .before .before .before .before .before .before .before .before .before .before .before
+    .before .before .before in
     let performing = carrying .before in
-    let numbers = performing .before .before .before .before .before .before .before .before .before .before .before .before .before .before .before .before .before .before .before .before .before .before .before .before in
+    let numbers = performing .before .before .before .before .before .before .before .before .before .before .before .before .before
+    .before .before .before .before .before .before .before .before .before .before .before in
     let deciding = numbers .before .before .before .before in
     let taken = deciding .before .before .before in
     let l = taken .before .before .before .before in

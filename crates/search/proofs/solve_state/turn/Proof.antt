@@ -19,7 +19,8 @@ returns c =
     .before .before .before .before .before .before .before .before .before .before .before .before .before .before .before
     .before .before .before .before .before .before .before .before .before .before .before .before .before .before .before
     .before .before .before .before .before .before .before .args .s in
-    turn-stopped s (ran .ensure-root-answer .ensures (s .goals) (s .clauses)) (test .is-stop .result) (test .is-stop .ensures) (c .if1 .taken)
+    turn-stopped s (ran .ensure-root-answer .ensures (s .goals) (s .clauses)) (test .is-stop .result) (test .is-stop .ensures) (c .if1
+    .taken)
 
 one-more-requires : tie.Need-one-more-requires
 one-more-requires c κs = search needs
