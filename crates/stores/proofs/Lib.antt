@@ -10,6 +10,7 @@ pub mod PlacesSearch
 pub mod QueueCases
 pub mod QueueSound
 pub mod QueueViews
+pub mod QueueInPlace
 pub mod QueueStores
 pub mod TableKeys
 pub mod TablePushCases

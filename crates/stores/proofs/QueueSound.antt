@@ -3,7 +3,7 @@ use Prim.Native.Nat.{ℕ, suc, _+_, _≤_, _<_}
 use native.Mathlib.Omega.{arith}
 use mathlib.Core.Path.{_≡_, refl, sym, ap, subst, _∙_}
 use mathlib.Core.Bool.{Bool, true, false, true≢false}
-use mathlib.Core.List.{List, [], _∷_, _++_}
+use mathlib.Core.List.{List, [], _∷_, _++_, map}
 use lib.ListN.{length, getD, set, length-set, length-replicate}
 use lib.Seq.{getD-set-same, getD-set-other}
 use lib.Dec.{eqb, ltb}
@@ -17,11 +17,13 @@ use Rattle.stores.specs.declared.places.Places.{Places}
 use Rattle.stores.specs.declared.queue.Strands.{Strands}
 use Rattle.stores.specs.Numbers.{waits-fresh, free, flag-number}
 use Rattle.stores.specs.Places.{ring, enqueued, taken-at, free-place, moved-to}
-use Rattle.stores.specs.View.{FirstStrands, unread-strand}
+use Rattle.stores.specs.View.{FirstStrands, unread-strand, strand-at}
 use Rattle.stores.specs.Sound.{SoundPlaces, InUse, FirstOf, Long, SoundStrands, Ready}
 use Rattle.stores.specs.Queue.{waits-of, wants-of, with-places, with-numbers, written, made-fresh, enqueued-strand, given, cleared}
 use Rattle.stores.specs.Queue.{freed-strands, blank-strand, blank-strands}
+use Rattle.stores.specs.QueueInPlace.{TakenAt}
 use Rattle.stores.proofs.ListsAlike.{Alike, times-at, times-cases}
+use Rattle.stores.proofs.ListsSpans.{map-turned}
 use Rattle.stores.proofs.PlacesWaiting.{sound-alike, sound-grown}
 use Rattle.stores.proofs.PlacesViews.{
   number-here,
@@ -205,7 +207,7 @@ given-strand-sound fresh s n held q sound =
     (λ u x k i. sound .queued u x k (rw (given-other (s .places) n held q (sound .places) u k) at i))
     (λ x k. sound .in-hand x (omega arith))
 
--- TAKE the first eligible strand: its place is held
+-- TAKE a strand of a queue: its place is held
 module _ (fresh : FirstStrands) (s : Strands) (n : ℕ) (held : List ℕ) (t j : ℕ) (h : t < n) (sound : SoundStrands fresh s n held)
     (there : j < length (ring (s .places) t)) where
   small : t < 256
@@ -224,6 +226,22 @@ module _ (fresh : FirstStrands) (s : Strands) (n : ℕ) (held : List ℕ) (t j :
       (λ x k. times-cases x (getD (ring (s .places) t) j 0) held k (InUse fresh s x)
       (λ e. subst (InUse fresh s) (sym e) (sound .queued t (getD (ring (s .places) t) j 0) h (times-at (ring (s .places) t) j there)))
       (λ i. sound .in-hand x i))
+
+  other : (u : ℕ) → (u ≡ t → ⊥) → ring (taken-at t j (s .places)) u ≡ ring (s .places) u
+  other u d = taken-other (s .places) n held t j (sound .places) small there u d
+
+  -- order 6, wherever the strand stands
+  pub taken-there : TakenAt fresh n held t j s (with-places s (taken-at t j (s .places))) (getD (ring (s .places) t) j 0)
+  taken-there = record {
+    gives = refl;
+    writes = refl;
+    leaves = ap (map (strand-at fresh s)) (taken-own (s .places) n held t j (sound .places) small there)
+        ∙ map-turned (strand-at fresh s) j (ring (s .places) t);
+    others = λ u d. (other u d, ap (map (strand-at fresh s)) (other u d));
+    free-places = (other free (λ e. omega (arith, sound .places .few)), refl);
+    held-places = taken-at-sound;
+    shows = λ x. refl;
+  }
 
 -- TAKE ALL of a table's strands: their places are free
 pub cleared-sound : (fresh : FirstStrands) (s : Strands) (n : ℕ) (held : List ℕ) (t : ℕ) → t < n → SoundStrands fresh s n held

@@ -31,6 +31,7 @@ use Rattle.stores.specs.Numbers.{waits-fresh, flag, flag-number}
 use Rattle.stores.specs.Sound.{SoundPlaces, InUse, FirstOf, Long, SoundStrands}
 use Rattle.stores.specs.Queue.{waits-of, wants-of, with-places, strands-of, with-numbers, written, made-fresh}
 use Rattle.stores.specs.Queue.{enqueued-strand, given, test-at, taken-strand, strand-place, any-strand, cleared, freed-strands}
+use Rattle.stores.specs.QueueInPlace.{TakenAt}
 use Rattle.stores.proofs.NumbersCases.{flag-of}
 use Rattle.stores.proofs.ListsSpans.{
   span-same,
@@ -40,14 +41,14 @@ use Rattle.stores.proofs.ListsSpans.{
   first-map,
   first-cong,
   rotate-front,
-  map-turned,
   map-at,
   all-times,
 }
-use Rattle.stores.proofs.PlacesViews.{enqueued-own, enqueued-other, given-other, taken-own, taken-other}
+use Rattle.stores.proofs.PlacesViews.{enqueued-own, enqueued-other, given-other}
 use Rattle.stores.proofs.PlacesCases.{freed-sound}
 use Rattle.stores.proofs.PlacesMoves.{moved-own, moved-other}
 use Rattle.stores.proofs.QueueCases.{waits-written}
+use Rattle.stores.proofs.QueueSound.{taken-there}
 
 -- THE LIST OF TABLES, when the strands of one change or of none
 module _ (fresh : FirstStrands) (ts : Tables) (a : Answers) (s s′ : Strands) where
@@ -230,15 +231,8 @@ module _ (fresh : FirstStrands) (ts : Tables) (a : Answers) (s : Strands) (held 
     pub place-is : strand-place clock complete t s ≡ getD (ring (s .places) t) (first-of (test-at clock complete s) t (s .places)) 0
     place-is = ap (λ (b : Bool). place-if b (getD places j 0)) e
 
-    fits : t < 256
-    fits = omega (arith, sound .places .few)
-
-    own : strands-of fresh (with-places s (taken-at t j (s .places))) t ≡ turned j (strands-of fresh s t)
-    own = ap (map (strand-at fresh s)) (taken-own (s .places) (ts .count) held t j (sound .places) fits there)
-        ∙ map-turned (strand-at fresh s) j places
-
-    other : (u : ℕ) → (u ≡ t → ⊥) → strands-of fresh (with-places s (taken-at t j (s .places))) u ≡ strands-of fresh s u
-    other u d = ap (map (strand-at fresh s)) (taken-other (s .places) (ts .count) held t j (sound .places) fits there u d)
+    took : TakenAt fresh (ts .count) held t j s (with-places s (taken-at t j (s .places))) (getD places j 0)
+    took = taken-there fresh s (ts .count) held t j h sound there
 
     -- what the queue gives, and what it leaves: those behind, and then those before
     pub taken-view : dequeue-next-strand-that test (held-table fresh ts s a t) ≡ some
@@ -257,10 +251,10 @@ module _ (fresh : FirstStrands) (ts : Tables) (a : Answers) (s : Strands) (held 
         ∙ ap (λ (m : List said-strand.Strand). pop-front (with-strands (held-table fresh ts s a t) m)) f
         ∙ ap₂ (λ (x : said-strand.Strand) (m : List said-strand.Strand). some (x, with-strands (held-table fresh ts s a t) m))
         (ap (strand-at fresh s) (sym place-is))
-        (sym own ∙ ap (λ (r : Strands). strands-of fresh r t) (sym taken-is))
+        (sym (took .leaves) ∙ ap (λ (r : Strands). strands-of fresh r t) (sym taken-is))
 
     -- no other table changes
     pub taken-tables : tables fresh ts (taken-strand clock complete t s) a ≡ set (tables fresh ts s a) t
         (held-table fresh ts (taken-strand clock complete t s) a t)
     taken-tables = subst (λ (r : Strands). tables fresh ts r a ≡ set (tables fresh ts s a) t (held-table fresh ts r a t)) (sym taken-is)
-        (tables-changed fresh ts a s (with-places s (taken-at t j (s .places))) t h (λ u k d. other u d))
+        (tables-changed fresh ts a s (with-places s (taken-at t j (s .places))) t h (λ u k d. took .others u d .1))

@@ -6,3 +6,4 @@ pub mod Table
 pub mod Tables
 pub mod Stack
 pub mod Sound
+pub mod QueueInPlace
