@@ -3,7 +3,7 @@
 use Prim.Native.Nat.{ℕ, suc, _-_, _<_}
 use native.Mathlib.Omega.{arith}
 use mathlib.Core.Bool.{Bool, true, false}
-use mathlib.Core.List.{List, [], _∷_, map}
+use mathlib.Core.List.{List, [], _∷_}
 use mathlib.Core.Path.{_≡_, refl, sym, ap, subst, _∙_}
 use lib.Dec.{ltb}
 use lib.ListN.{length, getD, set, drop, take, length-map}
@@ -23,12 +23,13 @@ use Rattle.stores.specs.declared.queue.Strands.{Strands}
 use Rattle.stores.specs.Numbers.{free, flag}
 use Rattle.stores.specs.Places.{ring, taken-at, first-of}
 use Rattle.stores.specs.Queue.{with-places, strands-of, eligible, test-at, spot-from}
+use Rattle.stores.specs.QueueInPlace.{TakenAt}
 use Rattle.stores.specs.Stack.{top-written}
 use Rattle.stores.specs.View.{FirstStrands, strand-at, tables}
-use Rattle.stores.proofs.ListsSpans.{rotate-front, map-turned}
-use Rattle.stores.proofs.PlacesViews.{length-ring, taken-own, taken-other}
+use Rattle.stores.proofs.ListsSpans.{rotate-front}
+use Rattle.stores.proofs.PlacesViews.{length-ring}
 use Rattle.stores.proofs.QueueCases.{spot-is}
-use Rattle.stores.proofs.QueueSound.{taken-at-sound}
+use Rattle.stores.proofs.QueueSound.{taken-there}
 use Rattle.stores.proofs.QueueViews.{tables-changed}
 use Rattle.stores.proofs.StackCases.{top-some}
 use Rattle.control.specs.declared.ensure_root_answer.Next.{Next}
@@ -71,21 +72,15 @@ module _ (z : Stores) (n : ℕ) (o : Sounds [] z) (t-made : getD (z .stack .tabl
   abbrev after : Strands
   after = with-places (z .strands) (taken-at u j (z .strands .places))
 
-  small : u < 256
-  small = omega (arith, t-made, o .strands .places .few)
+  -- order 6
+  took : TakenAt shows (z .tables .count) (held-places z) u j (z .strands) after (getD (ring (z .strands .places) u) j 0)
+  took = taken-there shows (z .strands) (z .tables .count) (held-places z) u j t-made (o .strands) there
 
   own : strands-of shows after u ≡ drop 1 (rotate-left (strands-of shows (z .strands) u) j)
   own =
-      ap (map (strand-at shows (z .strands))) (taken-own (z .strands .places) (z .tables .count) (held-places z) u j
-      (o .strands .places) small there)
-      ∙ map-turned (strand-at shows (z .strands)) j (ring (z .strands .places) u)
+      took .leaves
       ∙ sym (without-front (strands-of shows (z .strands) u) j (strand-at shows (z .strands) 0)
       (omega (arith, there, length-map (ring (z .strands .places) u) (strand-at shows (z .strands)))))
-
-  others : (v : ℕ) → (v ≡ u → ⊥) → strands-of shows after v ≡ strands-of shows (z .strands) v
-  others v d =
-      ap (map (strand-at shows (z .strands))) (taken-other (z .strands .places) (z .tables .count) (held-places z) u j
-      (o .strands .places) small there v d)
 
   abbrev without : Table → Table
   without x = tabled.with-strands x (drop 1 (rotate-left (x .strands) j))
@@ -94,7 +89,7 @@ module _ (z : Stores) (n : ℕ) (o : Sounds [] z) (t-made : getD (z .stack .tabl
       (z .clock)) z)
   queue-sound = record {
     tables = o .tables;
-    strands = taken-at-sound shows (z .strands) (z .tables .count) (held-places z) u j t-made (o .strands) there;
+    strands = took .held-places;
     answers = o .answers;
     stack = o .stack;
     made = o .made;
@@ -104,20 +99,14 @@ module _ (z : Stores) (n : ℕ) (o : Sounds [] z) (t-made : getD (z .stack .tabl
       ≡ split.taken (split.was-queued j) (state-above n z)
   queue-view =
       top-table-view z n t-made without (z .tables) after (z .answers)
-      (tables-changed shows (z .tables) (z .answers) (z .strands) after u t-made (λ v k d. others v d)
+      (tables-changed shows (z .tables) (z .answers) (z .strands) after u t-made (λ v k d. took .others v d .1)
       ∙ ap (λ (l : List held.Strand). set (forest z .tables) u (tabled.with-strands (table-held z u) l)) own)
       (same-entries z (after .places) (suc n))
 
   -- as many are live, the one in hand with them
   queue-live : in-use (after .places) ≡ in-use (z .strands .places)
   queue-live =
-      let other : free ≡ u → ⊥ = λ e. omega (arith, t-made, o .strands .places .few) in
-      omega (
-        arith,
-        length-ring (after .places) free,
-        length-ring (z .strands .places) free,
-        ap length (taken-other (z .strands .places) (z .tables .count) (held-places z) u j (o .strands .places) small there free other),
-      )
+      omega (arith, length-ring (after .places) free, length-ring (z .strands .places) free, ap length (took .free-places .0))
 
 -- FOR SOUND STORES
 -- what is known once the strand at p's place is taken

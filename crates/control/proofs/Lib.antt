@@ -58,3 +58,4 @@ pub mod DoingAble
 pub mod DoingTurn
 pub mod TurnDoes
 pub mod PutBack
+pub mod QueueInPlace

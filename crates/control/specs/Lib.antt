@@ -18,3 +18,4 @@ pub mod PerformStrand
 pub mod Perform
 pub mod Doing
 pub mod Performing
+pub mod QueueInPlace
