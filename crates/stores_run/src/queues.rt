@@ -19,14 +19,14 @@ ghost use mathlib.Core.Path.{_≡_};
 ghost use Rattle.stores.specs.Queue.{written, enqueued-strand, clauses-from, fresh-each};
 ghost use Rattle.stores_run.specs.Owner.{Puts, Takes, Clears};
 
-struct Placed {
-    done: bool,
-    strands: Strands,
+pub(crate) struct Placed {
+    pub done: bool,
+    pub strands: Strands,
 }
 
-struct Took {
-    place: usize,
-    strands: Strands,
+pub(crate) struct Took {
+    pub place: usize,
+    pub strands: Strands,
 }
 
 // A strand pursued at the time `at` stands at a place, with the numbers beside it.
@@ -63,7 +63,7 @@ fn write(s: Strands, q: u8, at: u64, x: Strand) -> Strands
 }
 
 // A new strand at the end of a table's queue: a place is taken, written and enqueued.
-fn put(s: Strands, t: u8, at: u64, x: Strand) -> Placed
+pub(crate) fn put(s: Strands, t: u8, at: u64, x: Strand) -> Placed
     ensures { λ r. ⌜ Puts s t at x r ⌝ }
 {
     let p = s.places;
@@ -94,7 +94,7 @@ fn put(s: Strands, t: u8, at: u64, x: Strand) -> Placed
 }
 
 // The first strand of a table's queue that was pursued before the time.
-fn take(s: Strands, t: u8, clock: u64) -> Took
+pub(crate) fn take(s: Strands, t: u8, clock: u64) -> Took
     ensures { λ r. ⌜ Takes s t clock r ⌝ }
 {
     let p = s.places;
@@ -147,7 +147,7 @@ fn clear(s: Strands, t: u8) -> Strands
     r
 }
 
-fn strand(variant: u16) -> Strand {
+pub(crate) fn strand(variant: u16) -> Strand {
     let mut x = blank();
     x.variant = variant;
     x
@@ -178,7 +178,7 @@ fn along(s: Strands, t: u8) {
     }
 }
 
-fn show(s: Strands, t: u8) {
+pub(crate) fn show(s: Strands, t: u8) {
     io::write_all(1, b"queue ");
     along(s, t);
     io::write_all(1, b"\n");
