@@ -3,6 +3,7 @@
 use Prim.Native.Nat.{ℕ, suc}
 use native.Mathlib.Omega.{arith}
 use mathlib.Core.Bool.{Bool, true, false}
+use mathlib.Core.List.{List}
 use mathlib.Core.Path.{_≡_, refl, sym, ap, subst}
 use lib.ListN.{getD}
 use borrow.Author.Tests.{le-ltb}
@@ -18,11 +19,18 @@ use Rattle.stores.specs.QueueInPlace.{InPlace}
 use Rattle.stores.specs.View.{mode}
 use Rattle.stores.proofs.QueueCases.{looked-none, looked-unlinked}
 use Rattle.stores.proofs.QueueInPlace.{in-place}
+use Rattle.control.specs.declared.decision.Decision.{Decision}
 use Rattle.control.specs.declared.ensure_root_answer.Next.{Next}
 use Rattle.control.specs.declared.ensure_root_answer.Top.{Top}
+use Rattle.control.specs.declared.select_subgoal.Made.{Made}
 use Rattle.control.specs.EnsureRootAnswer.{next-by, next-strand}
+use Rattle.control.specs.MakeTables.{tabling, tables-from}
+use Rattle.control.specs.PerformStrand.{Lent, begun}
 use Rattle.control.specs.QueueInPlace.{taken-out, TakesInPlace}
+use Rattle.control.specs.SelectSubgoal.{noted-count}
 use Rattle.control.specs.Stores.{Stores, first-strands, held-places, SoundStores}
+use Rattle.control.specs.Turn.{top, next}
+use Rattle.control.proofs.DoingBack.{strand-found}
 use Rattle.control.proofs.EnsureRootAnswer.{top-is}
 use Rattle.control.proofs.Stores.{table-made}
 
@@ -69,8 +77,21 @@ module _ (root index first : ℕ) (z : Stores) (o : SoundStores root index first
   abbrev next-under : Top → Next
   next-under x = next-strand (p .next) (p .tail) (p .len) (z .strands .time) (z .strands .ambiguous) x
 
-  pub control-in-place : TakesInPlace z n
-  control-in-place =
+  found-in-place : SaysOf (next z) (top z .table)
+  found-in-place =
       subst (λ (x : Top). SaysOf (next-under x) (x .table)) (sym (top-is root index first z o n d))
       (subst (λ (b : Bool). SaysOf (next-by b (getD (z .stack .active) n 0) spot) t)
       (sym (le-ltb (getD (z .stack .active) n 0) 256 (omega arith))) (taken-by-spot (spot .found) refl))
+
+  pub control-in-place : TakesInPlace z n
+  control-in-place =
+      subst (λ (has : Bool). Says (taken-out has (next z) (top z .table) (z .strands)) (place-if has (next z .place)))
+      (sym (strand-found z)) found-in-place
+
+-- a turn that has a strand begins from the strands that this leaves
+pub begins-in-place : (goal-flags goal-first goal-len clause-variant clause-flags : List ℕ) (p : Next) (x : Top) (made : Made)
+    (d : Decision) (seen : ℕ) (w : Lent)
+    → begun goal-flags goal-first goal-len clause-variant clause-flags p x made d seen w
+    ≡ tables-from goal-flags goal-first goal-len clause-variant clause-flags (made .goals) (noted-count made) 0
+    (tabling (w .tables) (taken-out true p (x .table) (w .strands)))
+begins-in-place goal-flags goal-first goal-len clause-variant clause-flags p x made d seen w = refl

@@ -11,19 +11,22 @@ use Rattle.stores.specs.Queue.{with-places}
 use Rattle.stores.specs.QueueInPlace.{InPlace}
 use Rattle.stores.specs.View.{mode}
 use Rattle.control.specs.declared.ensure_root_answer.Next.{Next}
+use Rattle.control.specs.Perform.{has-strand}
 use Rattle.control.specs.PerformDeed.{left-rings}
 use Rattle.control.specs.Stores.{Stores, first-strands, held-places}
-use Rattle.control.specs.Turn.{top, next}
+use Rattle.control.specs.Turn.{top, next, idle}
 
--- the strands, once what was found has left its queue; `leave` is not called where nothing was found
-abbrev pub taken-out : (found : Bool) → Next → (t : ℕ) → Strands → Strands
+-- the strands that a turn goes on from: what was found has left its queue (`begun`, in PerformStrand, and `pursued`, in crate `moves`, have
+-- it so); as they were where the turn has no strand
+abbrev pub taken-out : (has-strand : Bool) → Next → (t : ℕ) → Strands → Strands
 taken-out true p t s = with-places s (left-rings (p .queued) t (p .before) (s .places))
 taken-out false p t s = s
 
--- What a turn's two calls do to the queue of the top's table, where the top, the entry at n, has no active strand to go on with.
+-- What a turn's two calls do to the queue of the top's table, where the top, the entry at n, has no active strand to go on with. Whether
+-- the turn has a strand is the test of `performed` (Perform): without one no act takes any.
 abbrev pub TakesInPlace : (z : Stores) → (n : ℕ) → Type 0
 TakesInPlace z n =
     let t = getD (z .stack .table) n 0 in
     InPlace (first-strands (z .book)) (z .tables .count) (held-places z)
     (turns.eligible (getD (z .stack .clock) n 0) (mode (getD (z .tables .complete) t 0))) t (z .strands)
-    (taken-out (next z .found) (next z) (top z .table) (z .strands)) (place-if (next z .found) (next z .place))
+    (taken-out (has-strand (idle z)) (next z) (top z .table) (z .strands)) (place-if (has-strand (idle z)) (next z .place))

@@ -1,5 +1,5 @@
-// Order 6: a strand is taken within its queue. What the queue shows then, and how many links, ends and lengths of all the rings are written
-// for it. A strand is told by its variant; one that was pursued at time 1 may be taken, one at 9 may not.
+// Order 6: a strand is taken within its queue. What the queue shows then, and how many links, ends and lengths of all the rings are other
+// than they were. A strand is told by its variant; one that was pursued at time 1 may be taken, one at 9 may not.
 use crate::queues::put;
 use crate::queues::show;
 use crate::queues::strand;
@@ -50,9 +50,9 @@ fn compare(p: Places, r: Places) {
         lengths = lengths + one(len[i] != len_then[i]);
         i = i + 1;
     }
-    line(b"links written", links);
-    line(b"ends written", ends);
-    line(b"lengths written", lengths);
+    line(b"links changed", links);
+    line(b"ends changed", ends);
+    line(b"lengths changed", lengths);
 }
 
 fn waiting(p: Places, t: u8) {
