@@ -4,3 +4,4 @@ pub mod Book
 pub mod RoundTrip
 pub mod Written
 pub mod Prefix
+pub mod Fitting

@@ -4,7 +4,7 @@
 -- far and says that the bytes of a part (a literal, the literals of a clause, the clauses of a goal, the goals) bring it to the
 -- book so far with that part at its end. The part's own limits, with what is there already, keep every refusal away.
 -- Assumes nothing.
-use Prim.Native.Nat.{ℕ, _+_, _*_, _/_, _%_, _<_, _≤_}
+use Prim.Native.Nat.{ℕ, zero, suc, _+_, _*_, _/_, _%_, _<_, _≤_}
 use native.Mathlib.Omega.{arith}
 use mathlib.Core.Bool.{Bool, true, false, not}
 use mathlib.Core.Path.{_≡_, refl, ap, _∙_}
@@ -13,13 +13,13 @@ use lib.ListN.{length, length-append}
 use lib.Dec.{ltb, leb, eqb}
 use borrow.Author.Tests.{le-ltb, lt-ltb, lt-leb, ne-eqb}
 use Rattle.definitions.specs.Refusal.{accepted, _refuses_, unless}
-use Rattle.definitions.specs.Book.{Literal, Positive, Negative, Clause, Goal, Book, clause-count}
+use Rattle.definitions.specs.Book.{any, exactly, between, Literal, Positive, Negative, Clause, Goal, Book, clause-count}
 use Rattle.definitions.specs.Book.{Command, end, command, width, is-end}
-use Rattle.definitions.specs.Book.{bit0, bit1, flag}
+use Rattle.definitions.specs.Book.{bit0, bit1, flag, want-of, crossed}
 use Rattle.definitions.specs.Book.{literals-so-far, literals-name, clauses-name, goals-name}
 use Rattle.definitions.specs.Book.{apply-command, literal-command, whole-command, read-from, read}
 use Rattle.definitions.specs.Book.{write-literal, write-literals, write-clauses, write-goals, write}
-use Rattle.definitions.specs.Book.{LiteralsWithin, ClausesWithin, GoalsWithin, Within}
+use Rattle.definitions.specs.Book.{LiteralWithin, LiteralsWithin, ClausesWithin, GoalsWithin, Within}
 use Rattle.definitions.proofs.Book.{clause-count-append, add-clause-last, add-to-last-last, last-literals-last, ends-in-clause}
 use Rattle.definitions.proofs.Book.{add-literal-last, literals-so-far-last}
 
@@ -57,16 +57,32 @@ bit-known : (a : Bool) → ltb 1 (flag a) ≡ false
 bit-known true = refl
 bit-known false = refl
 
+-- Wants.
+
+want-of-some : (v : ℕ) → 0 < v → want-of v ≡ exactly v
+want-of-some zero h = absurd (omega arith)
+want-of-some (suc v) h = refl
+
+not-crossed : (n : ℕ) (l : Literal) → LiteralWithin n l → crossed l ≡ false
+not-crossed n (Positive g any x) w = refl
+not-crossed n (Positive g (exactly v) x) w = le-ltb v v (omega arith)
+not-crossed n (Positive g (between least most) x) w = le-ltb most least (w .1 .0)
+not-crossed n (Negative g x) w = refl
+
 -- One command.
 
 module _ {A : Type 0} where
-  -- two tests, and three, that find no fault
+  -- two tests, and three, and four, that find no fault
   unless-two : (p q : Bool) (m n : ℕ) (a : A) → p ≡ false → q ≡ false → unless (p refuses m ∷ q refuses n ∷ []) a ≡ accepted a
   unless-two p q m n a e f = rw (e, f)
 
   unless-three : (p q r : Bool) (l m n : ℕ) (a : A) → p ≡ false → q ≡ false → r ≡ false
       → unless (p refuses l ∷ q refuses m ∷ r refuses n ∷ []) a ≡ accepted a
   unless-three p q r l m n a e f g = rw (e, f, g)
+
+  unless-four : (p q r s : Bool) (k l m n : ℕ) (a : A) → p ≡ false → q ≡ false → r ≡ false → s ≡ false
+      → unless (p refuses k ∷ q refuses l ∷ r refuses m ∷ s refuses n ∷ []) a ≡ accepted a
+  unless-four p q r s k l m n a e f g h = rw (e, f, g, h)
 
 -- where the operands are there, the command's own tests decide
 pub whole-apply : (c : Command) (after : List ℕ) (book : Book) → width c ≤ length after
@@ -114,51 +130,67 @@ read-clause gs a b cs v p o rest h =
     ∙ rw (two-bytes v, bits-bit0 p o, bits-bit1 p o, add-clause-last (clause-with v p o []) gs (goal-with a b cs)))
     refl
 
--- 50 and 4E: the new literal stands at the end of the last clause's
+-- 50, 52 and 4E: the new literal stands at the end of the last clause's
 abbrev so-far : Book → Bool → Bool → List Clause → ℕ → Bool → Bool → List Literal → Book
 so-far gs a b cs v p o ls = gs ++ (goal-with a b (cs ++ (clause-with v p o ls ∷ [])) ∷ [])
 
 module _ (gs : Book) (a b : Bool) (cs : List Clause) (v : ℕ) (p o : Bool) (ls : List Literal) where
-  literal-accepted : (l : Literal) (flags : ℕ) → ltb 1 flags ≡ false → length ls < 8
+  literal-accepted : (l : Literal) (flags : ℕ) → ltb 1 flags ≡ false → crossed l ≡ false → length ls < 8
       → literal-command l flags (so-far gs a b cs v p o ls) ≡ accepted (so-far gs a b cs v p o (ls ++ (l ∷ [])))
-  literal-accepted l flags known h =
+  literal-accepted l flags known straight h =
       let c : Clause = clause-with v p o ls in
       let g : Goal = goal-with a b (cs ++ (c ∷ [])) in
       let has-clause : 0 < length (g .clauses) = omega (arith, length-append cs (c ∷ [])) in
       let so-many : literals-so-far (so-far gs a b cs v p o ls) ≡ length ls =
       literals-so-far-last gs g has-clause ∙ last-literals-last cs c in
-      unless-three _ _ _ 3 4 5 _ (ends-in-clause gs g has-clause) known
+      unless-four _ _ _ _ 3 4 32 5 _ (ends-in-clause gs g has-clause) known straight
       (lt-leb 8 (literals-so-far (so-far gs a b cs v p o ls)) (omega arith))
       ∙ rw (add-literal-last l gs g has-clause, add-to-last-last l cs c)
 
-  read-literal : (l : Literal) (rest : List ℕ) → length ls < 8
+  read-literal : (n : ℕ) (l : Literal) (rest : List ℕ) → LiteralWithin n l → length ls < 8
       → read-from (write-literal l ++ rest) 0 (so-far gs a b cs v p o ls) ≡ read-from rest 0 (so-far gs a b cs v p o (ls ++ (l ∷ [])))
-  read-literal (Positive g w x) rest h =
-      read-command 0x50 (g % 256 ∷ g / 256 ∷ w % 256 ∷ w / 256 ∷ flag x ∷ rest) (so-far gs a b cs v p o ls)
-      (so-far gs a b cs v p o (ls ++ (Positive g w x ∷ [])))
+  read-literal n (Positive g any x) rest w h =
+      read-command 0x50 (g % 256 ∷ g / 256 ∷ 0 ∷ 0 ∷ flag x ∷ rest) (so-far gs a b cs v p o ls)
+      (so-far gs a b cs v p o (ls ++ (Positive g any x ∷ [])))
       (omega arith)
-      (rw (two-bytes g, two-bytes w, bit-bit0 x) (literal-accepted (Positive g w x) (flag x) (bit-known x) h))
+      (rw (two-bytes g, bit-bit0 x) (literal-accepted (Positive g any x) (flag x) (bit-known x) refl h))
       refl
-  read-literal (Negative g x) rest h =
+  read-literal n (Positive g (exactly u) x) rest w h =
+      let l : Literal = Positive g (exactly u) x in
+      read-command 0x50 (g % 256 ∷ g / 256 ∷ u % 256 ∷ u / 256 ∷ flag x ∷ rest) (so-far gs a b cs v p o ls)
+      (so-far gs a b cs v p o (ls ++ (l ∷ [])))
+      (omega arith)
+      (rw (two-bytes g, two-bytes u, want-of-some u (w .1 .0), bit-bit0 x)
+      (literal-accepted l (flag x) (bit-known x) (not-crossed n l w) h))
+      refl
+  read-literal n (Positive g (between least most) x) rest w h =
+      let l : Literal = Positive g (between least most) x in
+      read-command 0x52 (g % 256 ∷ g / 256 ∷ least % 256 ∷ least / 256 ∷ most % 256 ∷ most / 256 ∷ flag x ∷ rest)
+      (so-far gs a b cs v p o ls) (so-far gs a b cs v p o (ls ++ (l ∷ [])))
+      (omega arith)
+      (rw (two-bytes g, two-bytes least, two-bytes most, bit-bit0 x)
+      (literal-accepted l (flag x) (bit-known x) (not-crossed n l w) h))
+      refl
+  read-literal n (Negative g x) rest w h =
       read-command 0x4E (g % 256 ∷ g / 256 ∷ flag x ∷ rest) (so-far gs a b cs v p o ls) (so-far gs a b cs v p o (ls ++ (Negative g x ∷ [])))
       (omega arith)
-      (rw (two-bytes g, bit-bit0 x) (literal-accepted (Negative g x) (flag x) (bit-known x) h))
+      (rw (two-bytes g, bit-bit0 x) (literal-accepted (Negative g x) (flag x) (bit-known x) refl h))
       refl
 
 -- The parts of a book, each from any book so far.
 
-read-literals : (gs : Book) (a b : Bool) (cs : List Clause) (v : ℕ) (p o : Bool) (ls ms : List Literal) (rest : List ℕ)
-    → length ls + length ms ≤ 8
+read-literals : (n : ℕ) (gs : Book) (a b : Bool) (cs : List Clause) (v : ℕ) (p o : Bool) (ls ms : List Literal) (rest : List ℕ)
+    → LiteralsWithin n ms → length ls + length ms ≤ 8
     → read-from (write-literals ms ++ rest) 0 (so-far gs a b cs v p o ls) ≡ read-from rest 0 (so-far gs a b cs v p o (ls ++ ms))
-read-literals gs a b cs v p o ls [] rest h = rw (append-nil ls)
-read-literals gs a b cs v p o ls (m ∷ ms) rest h =
+read-literals n gs a b cs v p o ls [] rest w h = rw (append-nil ls)
+read-literals n gs a b cs v p o ls (m ∷ ms) rest w h =
     let few : length (ls ++ (m ∷ [])) + length ms ≤ 8 = omega (arith, length-append ls (m ∷ [])) in
     rw (append-assoc (write-literal m) (write-literals ms) rest)
-    (read-literal gs a b cs v p o ls m (write-literals ms ++ rest) (omega arith)
-    ∙ read-literals gs a b cs v p o (ls ++ (m ∷ [])) ms rest few
+    (read-literal gs a b cs v p o ls n m (write-literals ms ++ rest) (w .0) (omega arith)
+    ∙ read-literals n gs a b cs v p o (ls ++ (m ∷ [])) ms rest (w .1) few
     ∙ rw (append-assoc ls (m ∷ []) ms))
 
--- the number of goals only tells how far the clauses' literals reach, which does not matter before the end
+-- how far the clauses' literals reach, which the number of goals tells, does not matter before the end
 read-clauses : (n : ℕ) (gs : Book) (a b : Bool) (cs ds : List Clause) (rest : List ℕ) → ClausesWithin n ds
     → clause-count gs + length cs + length ds ≤ 256
     → read-from (write-clauses ds ++ rest) 0 (gs ++ (goal-with a b cs ∷ [])) ≡ read-from rest 0 (gs ++ (goal-with a b (cs ++ ds) ∷ []))
@@ -168,8 +200,8 @@ read-clauses n gs a b cs (d ∷ ds) rest w h =
     rw (append-assoc (write-literals (d .literals)) (write-clauses ds) rest)
     (read-clause gs a b cs (d .variant) (d .cannot-prove) (d .outsized) (write-literals (d .literals) ++ (write-clauses ds ++ rest))
     (omega arith)
-    ∙ read-literals gs a b cs (d .variant) (d .cannot-prove) (d .outsized) [] (d .literals) (write-clauses ds ++ rest)
-    (omega (arith, w .0 .few-literals))
+    ∙ read-literals n gs a b cs (d .variant) (d .cannot-prove) (d .outsized) [] (d .literals) (write-clauses ds ++ rest)
+    (w .0 .literals-fit) (omega (arith, w .0 .few-literals))
     ∙ read-clauses n gs a b (cs ++ (d ∷ [])) ds rest (w .1) few
     ∙ rw (append-assoc cs (d ∷ []) ds))
 

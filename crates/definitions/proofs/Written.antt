@@ -6,7 +6,7 @@ use native.Mathlib.Omega.{arith}
 use mathlib.Core.Bool.{Bool, true, false}
 use mathlib.Core.List.{List, [], _∷_, _++_}
 use lib.ListN.{length}
-use Rattle.definitions.specs.Book.{Literal, Positive, Negative, Clause, Goal, Book, byte, flag}
+use Rattle.definitions.specs.Book.{any, exactly, between, Literal, Positive, Negative, Clause, Goal, Book, byte, flag}
 use Rattle.definitions.specs.Book.{write-literal, write-literals, write-clauses, write-goals, write}
 use Rattle.definitions.specs.Book.{LiteralWithin, LiteralsWithin, ClausesWithin, GoalsWithin, Within}
 
@@ -42,7 +42,12 @@ bit a = omega (arith, flag-small a)
 -- a goal's number fits two bytes in a book of at most 65,536 goals
 module _ (n : ℕ) (h : n ≤ 65536) where
   literal-bytes : (l : Literal) → LiteralWithin n l → Bytes (write-literal l)
-  literal-bytes (Positive g v x) w = (omega arith, (low g, (high g (omega arith), (low v, (high v (w .1), (bit x, tt))))))
+  literal-bytes (Positive g any x) w = (omega arith, (low g, (high g (omega arith), (omega arith, (omega arith, (bit x, tt))))))
+  literal-bytes (Positive g (exactly v) x) w = (omega arith, (low g, (high g (omega arith), (low v, (high v (w .1 .1), (bit x, tt))))))
+  literal-bytes (Positive g (between l m) x) w = (
+    omega arith,
+    (low g, (high g (omega arith), (low l, (high l (omega arith), (low m, (high m (w .1 .1), (bit x, tt))))))),
+  )
   literal-bytes (Negative g x) w = (omega arith, (low g, (high g (omega arith), (bit x, tt))))
 
   literals-bytes : (ls : List Literal) → LiteralsWithin n ls → Bytes (write-literals ls)

@@ -7,9 +7,26 @@ use lib.ListN.{length, getD}
 use lib.Dec.{ltb, leb, eqb}
 use Rattle.definitions.specs.Refusal.{Refusable, refused, accepted, _refuses_, unless}
 
--- lib.rs `Literal`: a positive literal names a goal and the variant that it wants (0: any), a "not" a goal alone
+-- which variants of a goal a positive literal takes
+pub data Want : Type 0 where
+  any : Want
+  exactly : (variant : ℕ) → Want
+  between : (least most : ℕ) → Want
+
+-- a want as a range: from `low` to `high`, with both
+abbrev pub low : Want → ℕ
+low any = 0
+low (exactly variant) = variant
+low (between least most) = least
+
+abbrev pub high : Want → ℕ
+high any = 65535
+high (exactly variant) = variant
+high (between least most) = most
+
+-- lib.rs `Literal`: a positive literal names a goal and which variants of it it wants, a "not" a goal alone
 pub data Literal : Type 0 where
-  Positive : (goal want : ℕ) (outsized : Bool) → Literal
+  Positive : (goal : ℕ) (want : Want) (outsized : Bool) → Literal
   Negative : (goal : ℕ) (outsized : Bool) → Literal
 
 -- variant 0: the goal as a whole; `outsized`: the answer that it gives is
@@ -47,13 +64,14 @@ pub data Command : Type 0 where
   goal : Command
   clause : Command
   positive : Command
+  ranged : Command
   negative : Command
   end : Command
   unknown : Command
 
 -- the bytes of the commands
 abbrev pub commands : List (ℕ × Command)
-commands = (0x47, goal) ∷ (0x43, clause) ∷ (0x50, positive) ∷ (0x4E, negative) ∷ (0x45, end) ∷ []
+commands = (0x47, goal) ∷ (0x43, clause) ∷ (0x50, positive) ∷ (0x52, ranged) ∷ (0x4E, negative) ∷ (0x45, end) ∷ []
 
 abbrev pub command-in : List (ℕ × Command) → ℕ → Command
 command-in [] b = unknown
@@ -67,6 +85,7 @@ abbrev pub width : Command → ℕ
 width goal = 1
 width clause = 3
 width positive = 5
+width ranged = 7
 width negative = 3
 width end = 0
 width unknown = 0
@@ -75,16 +94,16 @@ width unknown = 0
 abbrev pub command-bytes : Command → ℕ
 command-bytes c = suc (width c)
 
--- the bytes of the largest book: all its goals and clauses, each clause with all its literals, and the end
+-- the bytes of the largest book: all its goals and clauses, each clause with all its literals, each of them a range, and the end
 abbrev pub largest-book : ℕ
 largest-book =
     most-goals * command-bytes goal
-    + most-clauses * (command-bytes clause + most-literals * command-bytes positive)
+    + most-clauses * (command-bytes clause + most-literals * command-bytes ranged)
     + command-bytes end
 
 -- how many bytes of an input a program reads: more than any book has, and enough to settle how any input is read
 abbrev pub read-ahead : ℕ
-read-ahead = 16384
+read-ahead = 20480
 
 abbrev pub byte : List ℕ → ℕ → ℕ
 byte bs i = getD bs i 0
@@ -168,12 +187,23 @@ clause-command operands book =
     ∷ [])
     (add-clause (record { variant = u16 operands 0; cannot-prove = bit0 flags; outsized = bit1 flags; literals = [] }) book)
 
--- 50 and 4E, by the literal and its flags
+-- 50: 0 stands for any variant
+abbrev pub want-of : ℕ → Want
+want-of zero = any
+want-of (suc v) = exactly (suc v)
+
+-- a range whose low end is above its high one
+abbrev pub crossed : Literal → Bool
+crossed (Positive g want outsized) = ltb (high want) (low want)
+crossed (Negative g outsized) = false
+
+-- 50, 52 and 4E, by the literal and its flags
 abbrev pub literal-command : Literal → (flags : ℕ) → Book → Refusable Book
 literal-command l flags book =
     unless
     (eqb (clause-count book) 0 refuses 3
     ∷ ltb 1 flags refuses 4
+    ∷ crossed l refuses 32
     ∷ leb most-literals (literals-so-far book) refuses 5
     ∷ [])
     (add-literal l book)
@@ -211,7 +241,10 @@ apply-command goal operands book = goal-command operands book
 apply-command clause operands book = clause-command operands book
 apply-command positive operands book =
     let flags = byte operands 4 in
-    literal-command (Positive (u16 operands 0) (u16 operands 2) (bit0 flags)) flags book
+    literal-command (Positive (u16 operands 0) (want-of (u16 operands 2)) (bit0 flags)) flags book
+apply-command ranged operands book =
+    let flags = byte operands 6 in
+    literal-command (Positive (u16 operands 0) (between (u16 operands 2) (u16 operands 4)) (bit0 flags)) flags book
 apply-command negative operands book =
     let flags = byte operands 2 in
     literal-command (Negative (u16 operands 0) (bit0 flags)) flags book
@@ -229,6 +262,7 @@ abbrev pub is-end : Command → Bool
 is-end goal = false
 is-end clause = false
 is-end positive = false
+is-end ranged = false
 is-end negative = false
 is-end end = true
 is-end unknown = false
@@ -252,8 +286,12 @@ flag true = 1
 flag false = 0
 
 abbrev pub write-literal : Literal → List ℕ
-write-literal (Positive g want outsized) =
-    0x50 ∷ g % 256 ∷ g / 256 ∷ want % 256 ∷ want / 256 ∷ flag outsized ∷ []
+write-literal (Positive g any outsized) =
+    0x50 ∷ g % 256 ∷ g / 256 ∷ 0 ∷ 0 ∷ flag outsized ∷ []
+write-literal (Positive g (exactly v) outsized) =
+    0x50 ∷ g % 256 ∷ g / 256 ∷ v % 256 ∷ v / 256 ∷ flag outsized ∷ []
+write-literal (Positive g (between least most) outsized) =
+    0x52 ∷ g % 256 ∷ g / 256 ∷ least % 256 ∷ least / 256 ∷ most % 256 ∷ most / 256 ∷ flag outsized ∷ []
 write-literal (Negative g outsized) =
     0x4E ∷ g % 256 ∷ g / 256 ∷ flag outsized ∷ []
 
@@ -278,8 +316,13 @@ write book = write-goals book ++ (0x45 ∷ [])
 
 -- A book within the limits: the books that can be written.
 
+abbrev pub WantWithin : Want → Type 0
+WantWithin any = Unit {0}
+WantWithin (exactly v) = (0 < v) × (v < 65536)
+WantWithin (between least most) = (least ≤ most) × (most < 65536)
+
 abbrev pub LiteralWithin : (goals : ℕ) → Literal → Type 0
-LiteralWithin goals (Positive g want outsized) = (g < goals) × (want < 65536)
+LiteralWithin goals (Positive g want outsized) = (g < goals) × WantWithin want
 LiteralWithin goals (Negative g outsized) = g < goals
 
 abbrev pub LiteralsWithin : (goals : ℕ) → List Literal → Type 0

@@ -8,7 +8,7 @@ use Rattle.definitions.specs.{CompleteAnswer}
 use Rattle.definitions.specs.Ascii.{ascii}
 use Rattle.definitions.specs.Refusal.{refused, accepted}
 use Rattle.definitions.specs.Stop.{go}
-use Rattle.definitions.specs.Book.{Literal, Positive, Negative, Clause, Goal, write}
+use Rattle.definitions.specs.Book.{any, Literal, Positive, Negative, Clause, Goal, write}
 use Rattle.definitions.specs.Logic.{NoMoreSolutions}
 use Rattle.definitions.specs.Turn.{found, fail, cut, stopped}
 use Rattle.definitions.specs.Forest.{make}
@@ -40,7 +40,7 @@ run-on book (runs limit cs) = elim (make book limit) [
 -- Notation: `0 :- 1` is a goal with the clause `rule 0 (pos 1 ∷ [])`; `/v` is the variant, `rule`'s first argument.
 
 abbrev pub pos : ℕ → Literal
-pos g = Positive g 0 false
+pos g = Positive g any false
 
 abbrev pub neg : ℕ → Literal
 neg g = Negative g false

@@ -23,6 +23,7 @@ pub mod Ascii
 pub mod Listing
 pub mod Cases
 pub mod MoreCases
+pub mod RangeCases
 pub mod Model
 pub mod Claim
 pub mod Instances

@@ -6,7 +6,7 @@ use mathlib.Core.Logic.{_⊎_}
 use mathlib.Core.Option.{none, some}
 use mathlib.Core.List.{List, [], _∷_, List·Memᴰ}
 use lib.ListN.{getElem?}
-use Rattle.definitions.specs.Book.{Literal, Positive, Negative, Clause, Goal, Book}
+use Rattle.definitions.specs.Book.{Want, any, Literal, Positive, Negative, Clause, Goal, Book}
 
 module _ {A : Type 0} where
   -- each one of a list
@@ -14,10 +14,10 @@ module _ {A : Type 0} where
   Each P [] = Unit {0}
   Each P (a ∷ l) = P a × Each P l
 
--- Plain: every clause has variant 0, every want is 0 and every flag is clear.
+-- Plain: every clause has variant 0, every literal wants any variant, by command 50, and every flag is clear.
 
 abbrev pub PlainLiteral : Literal → Type 0
-PlainLiteral (Positive goal want outsized) = (want ≡ 0) × (outsized ≡ false)
+PlainLiteral (Positive goal want outsized) = (want ≡ any) × (outsized ≡ false)
 PlainLiteral (Negative goal outsized) = outsized ≡ false
 
 pub record PlainClause (c : Clause) : Type 0 where
@@ -53,10 +53,10 @@ Levelled book level = (goal : ℕ) (c : Clause) → List·Memᴰ c (clauses-of b
 pub data Holds (book : Book) (level : ℕ → ℕ) (n : ℕ) (Below : ℕ → Type 0) : List Literal → Type 0 where
   holds-end : Holds book level n Below []
   holds-below :
-      {goal want : ℕ} {outsized : Bool} {ls : List Literal} → Below goal → Holds book level n Below ls →
+      {goal : ℕ} {want : Want} {outsized : Bool} {ls : List Literal} → Below goal → Holds book level n Below ls →
       Holds book level n Below (Positive goal want outsized ∷ ls)
   holds-here :
-      {goal want : ℕ} {outsized : Bool} {ls : List Literal} (c : Clause) →
+      {goal : ℕ} {want : Want} {outsized : Bool} {ls : List Literal} (c : Clause) →
       level goal ≡ n → List·Memᴰ c (clauses-of book goal) → Holds book level n Below (c .literals) → Holds book level n Below ls →
       Holds book level n Below (Positive goal want outsized ∷ ls)
   holds-not :
@@ -67,8 +67,8 @@ module _ (book : Book) (level : ℕ → ℕ) where
   -- the goals of the levels below n that are in the model
   abbrev pub Below : ℕ → (goal : ℕ) → Type 0
   Below zero goal = ⊥
-  Below (suc n) goal = Below n goal ⊎ ((level goal ≡ n) × Holds book level n (Below n) (Positive goal 0 false ∷ []))
+  Below (suc n) goal = Below n goal ⊎ ((level goal ≡ n) × Holds book level n (Below n) (Positive goal any false ∷ []))
 
   -- the goal is in the layered least model
   abbrev pub In : (goal : ℕ) → Type 0
-  In goal = Holds book level (level goal) (Below (level goal)) (Positive goal 0 false ∷ [])
+  In goal = Holds book level (level goal) (Below (level goal)) (Positive goal any false ∷ [])

@@ -7,7 +7,7 @@ use mathlib.Core.Bool.{true, false}
 use mathlib.Core.List.{List, [], _∷_, map}
 use Rattle.definitions.specs.Ascii.{ascii}
 use Rattle.definitions.specs.Stop.{go}
-use Rattle.definitions.specs.Book.{Literal, Positive, Clause, write}
+use Rattle.definitions.specs.Book.{Literal, Positive, Clause, want-of, write}
 use Rattle.definitions.specs.Logic.{NoMoreSolutions, QuantumExceeded, NegativeCycle}
 use Rattle.definitions.specs.Turn.{Ending, found, fail, stopped}
 use Rattle.definitions.specs.Calls.{Call, opens, searches, peeks, asks-future, Reply, refusal, table, searched, peeked, future}
@@ -18,10 +18,10 @@ use Rattle.definitions.specs.Cases.{inductive, coinductive, floundered, 
 
 -- a literal that wants a variant, and one that is outsized
 abbrev pub want : (goal variant : ℕ) → Literal
-want g v = Positive g v false
+want g v = Positive g (want-of v) false
 
 abbrev pub outsized : (goal variant : ℕ) → Literal
-outsized g v = Positive g v true
+outsized g v = Positive g (want-of v) true
 
 -- a clause that cannot prove, and one with an outsized answer
 abbrev pub doubtful : (variant : ℕ) → List Literal → Clause

@@ -7,7 +7,7 @@ use lib.ListN.{getElem?}
 use lib.Dec.{eqb, leb, ltb}
 use Rattle.definitions.specs.{TableIndex, TimeStamp, MAX, Answer, CompleteAnswer, AnswerMode, Ambiguous, is-complete}
 use Rattle.definitions.specs.{Minimums, minimums-MAX, take-minimums, minimum-of-pos-and-neg}
-use Rattle.definitions.specs.Book.{Literal, Positive, Negative}
+use Rattle.definitions.specs.Book.{any, Literal, Positive, Negative}
 use Rattle.definitions.specs.Fitting.{is-trivial, is-outsized}
 use Rattle.definitions.specs.Stop.{Stops, stop, go, _>>=_, _>>_, stop-if, unwrap}
 use Rattle.definitions.specs.Lists.{is-empty, remove}
@@ -142,7 +142,7 @@ create-refinement-strand a = elim (is-empty (a .delayed-subgoals)) [
     ex-clause = record {
       subst = record { variant = a .variant; outsized = false };
       ambiguous = a .ambiguous;
-      subgoals = map (λ g. Positive g 0 false) (a .delayed-subgoals);
+      subgoals = map (λ g. Positive g any false) (a .delayed-subgoals);
       delayed-subgoals = [];
       answer-time = 0;
       floundered-subgoals = [];
