@@ -9,8 +9,8 @@ use lib.ListN.{length, length-append}
 use lib.Dec.{ltb, leb, eqb}
 use Rattle.definitions.specs.Refusal.{Refusable, refused, accepted, _refuses_}
 use Rattle.definitions.specs.Book.{Book, Goal, Clause, Literal, Positive, Negative, clause-count}
-use Rattle.definitions.specs.Book.{Command, goal, clause, positive, negative, end, unknown, command, width, is-end}
-use Rattle.definitions.specs.Book.{add-clause, add-literal, goals-name, literals-so-far, byte, u16, bit0, bit1}
+use Rattle.definitions.specs.Book.{Command, goal, clause, positive, ranged, negative, end, unknown, command, width, is-end}
+use Rattle.definitions.specs.Book.{add-clause, add-literal, goals-name, literals-so-far, byte, u16, bit0, bit1, between, want-of, crossed}
 use Rattle.definitions.specs.Book.{apply-command, whole-command, read-from, literal-command, end-command}
 use Rattle.definitions.proofs.Prefix.{go-on}
 use Rattle.definitions.proofs.Refusal.{same-accepted, not-accepted, all-pass}
@@ -24,8 +24,8 @@ pub record Small (book : Book) : Type 0 where
 
 literal-small : (l : Literal) (flags : ℕ) (book next : Book) → literal-command l flags book ≡ accepted next → Small book → Small next
 literal-small l flags book next e s =
-    let a = all-pass (eqb (clause-count book) 0 refuses 3 ∷ ltb 1 flags refuses 4 ∷ leb 8 (literals-so-far book) refuses 5 ∷ [])
-    (add-literal l book) next e in
+    let a = all-pass (eqb (clause-count book) 0 refuses 3 ∷ ltb 1 flags refuses 4 ∷ crossed l refuses 32
+    ∷ leb 8 (literals-so-far book) refuses 5 ∷ []) (add-literal l book) next e in
     let r = added l book in
     subst Small (a .1) (record {
       few-goals = let x = s .few-goals in let y = r .same-goals in omega arith;
@@ -55,7 +55,10 @@ command-small clause operands book next n e s =
       few-clauses = let y = clause-count-add-clause c book (not-zero (length book) (a .0 .0)) in omega arith;
     })
 command-small positive operands book next n e s =
-    literal-small (Positive (u16 operands 0) (u16 operands 2) (bit0 (byte operands 4))) (byte operands 4) book next e s
+    literal-small (Positive (u16 operands 0) (want-of (u16 operands 2)) (bit0 (byte operands 4))) (byte operands 4) book next e s
+command-small ranged operands book next n e s =
+    literal-small (Positive (u16 operands 0) (between (u16 operands 2) (u16 operands 4)) (bit0 (byte operands 6))) (byte operands 6) book
+    next e s
 command-small negative operands book next n e s =
     literal-small (Negative (u16 operands 0) (bit0 (byte operands 2))) (byte operands 2) book next e s
 command-small end operands book next n e s = absurd (true≢false n)
@@ -91,6 +94,8 @@ command-read clause bs book r s ih (accepted next) k e =
     ih 3 next (command-small clause bs book next refl (whole-applied clause bs book next k) s) e
 command-read positive bs book r s ih (accepted next) k e =
     ih 5 next (command-small positive bs book next refl (whole-applied positive bs book next k) s) e
+command-read ranged bs book r s ih (accepted next) k e =
+    ih 7 next (command-small ranged bs book next refl (whole-applied ranged bs book next k) s) e
 command-read negative bs book r s ih (accepted next) k e =
     ih 3 next (command-small negative bs book next refl (whole-applied negative bs book next k) s) e
 command-read end bs book r s ih (accepted next) k e =

@@ -8,10 +8,10 @@ use mathlib.Core.List.{List, [], _∷_, _++_}
 use lib.ListN.{length, length-append}
 use lib.Dec.{ltb, leb, eqb}
 use Rattle.definitions.specs.Refusal.{Refusable, refused, accepted, _refuses_}
-use Rattle.definitions.specs.Book.{Book, Goal, Clause, Literal, Positive, Negative, clause-count, Command, goal, clause, positive, negative}
+use Rattle.definitions.specs.Book.{Book, Goal, Clause, Literal, Positive, Negative, clause-count, Command, goal, clause, positive, ranged, negative}
 use Rattle.definitions.specs.Book.{end, unknown, command, width, is-end, with-clauses, add-clause, add-to-last, add-literal, last-literals}
 use Rattle.definitions.specs.Book.{literals-so-far, goals-name, whole-command, read-from, apply-command, literal-command, byte, u16, bit0}
-use Rattle.definitions.specs.Book.{bit1}
+use Rattle.definitions.specs.Book.{bit1, between, want-of, crossed}
 use Rattle.definitions.proofs.Refusal.{same-accepted, not-accepted, all-pass}
 use Rattle.definitions.proofs.Lists.{all-push}
 use Rattle.laws.proofs.All.{All, more, all-first, all-rest}
@@ -48,9 +48,9 @@ few-literal l (g ∷ gs) o x = at (eqb (clause-count gs) 0) o (few-literal l gs)
 literal-few : (l : Literal) (flags : ℕ) (book next : Book) → literal-command l flags book ≡ accepted next → FewLiterals book
     → FewLiterals next
 literal-few l flags book next e x =
-    let a = all-pass (eqb (clause-count book) 0 refuses 3 ∷ ltb 1 flags refuses 4 ∷ leb 8 (literals-so-far book) refuses 5 ∷ [])
-    (add-literal l book) next e in
-    subst FewLiterals (a .1) (few-literal l book (leb-false 8 (literals-so-far book) (a .0 .1 .1 .0)) x)
+    let a = all-pass (eqb (clause-count book) 0 refuses 3 ∷ ltb 1 flags refuses 4 ∷ crossed l refuses 32
+    ∷ leb 8 (literals-so-far book) refuses 5 ∷ []) (add-literal l book) next e in
+    subst FewLiterals (a .1) (few-literal l book (leb-false 8 (literals-so-far book) (a .0 .1 .1 .1 .0)) x)
 
 command-few : (c : Command) (operands : List ℕ) (book next : Book) → apply-command c operands book ≡ accepted next → FewLiterals book
     → FewLiterals next
@@ -64,8 +64,11 @@ command-few clause operands book next e x =
     let c : Clause = record { variant = u16 operands 0; cannot-prove = bit0 flags; outsized = bit1 flags; literals = [] } in
     subst FewLiterals (all-pass (eqb (length book) 0 refuses 3 ∷ ltb 3 flags refuses 4 ∷ leb 256 (clause-count book) refuses 5 ∷ [])
     (add-clause c book) next e .1) (few-clause c (omega arith) book x)
-command-few positive operands book next e x = literal-few (Positive (u16 operands 0) (u16 operands 2) (bit0 (byte operands 4)))
+command-few positive operands book next e x = literal-few (Positive (u16 operands 0) (want-of (u16 operands 2)) (bit0 (byte operands 4)))
     (byte operands 4) book next e x
+command-few ranged operands book next e x =
+    literal-few (Positive (u16 operands 0) (between (u16 operands 2) (u16 operands 4)) (bit0 (byte operands 6))) (byte operands 6) book next e
+    x
 command-few negative operands book next e x = literal-few (Negative (u16 operands 0) (bit0 (byte operands 2))) (byte operands 2) book next e
     x
 command-few end operands book next e x =

@@ -7,7 +7,7 @@ use mathlib.Core.Option.{Option, none, some}
 use mathlib.Core.List.{List, [], _∷_, map}
 use lib.ListN.{length-map, length, getElem?}
 use Rattle.definitions.specs.{Answer, is-complete}
-use Rattle.definitions.specs.Book.{Positive}
+use Rattle.definitions.specs.Book.{any, Positive}
 use Rattle.definitions.specs.Stop.{go, _>>=_, unwrap}
 use Rattle.definitions.specs.Lists.{is-empty}
 use Rattle.definitions.specs.Strand.{Strand}
@@ -26,7 +26,7 @@ use Rattle.asserts.proofs.Unwinding.{Flows, unwinding}
 use Rattle.asserts.proofs.States.{state, with-queued, enqueue-is, takes-back, leaves}
 use Rattle.asserts.proofs.Answers.{Answered, Pursued, pursues}
 
-as-literals : {n : ℕ} {ds : List ℕ} → Goals n ds → All (Named n) (map (λ g. Positive g 0 false) ds)
+as-literals : {n : ℕ} {ds : List ℕ} → Goals n ds → All (Named n) (map (λ g. Positive g any false) ds)
 as-literals end = end
 as-literals (more p x) = more p (as-literals x)
 
@@ -42,7 +42,7 @@ refines {n} ts a g = case-bool (Refines n ts) (is-empty (a .delayed-subgoals))
         subgoals-named = as-literals (g .0);
         floundered-named = end;
         delayed-named = end;
-        few-literals = let o = g .1 in let p = length-map (a .delayed-subgoals) (λ g. Positive g 0 false) in omega arith;
+        few-literals = let o = g .1 in let p = length-map (a .delayed-subgoals) (λ g. Positive g any false) in omega arith;
         few-delayed = omega arith;
       },
       tt,

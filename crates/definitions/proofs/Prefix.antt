@@ -46,8 +46,8 @@ literal-room book l some few =
 
 literal-taken : (l : Literal) (flags : ℕ) (book next : Book) → literal-command l flags book ≡ accepted next → room next + 8 ≤ room book
 literal-taken l flags book next e =
-    let t = all-pass (eqb (clause-count book) 0 refuses 3 ∷ ltb 1 flags refuses 4 ∷ crossed l refuses 32 ∷ leb 8 (literals-so-far book) refuses 5 ∷ [])
-    (add-literal l book) next e in
+    let t = all-pass (eqb (clause-count book) 0 refuses 3 ∷ ltb 1 flags refuses 4 ∷ crossed l refuses 32
+    ∷ leb 8 (literals-so-far book) refuses 5 ∷ []) (add-literal l book) next e in
     subst (λ (n : Book). room n + 8 ≤ room book) (t .1)
     (literal-room book l (not-zero (clause-count book) (t .0 .0)) (leb-false 8 (literals-so-far book) (t .0 .1 .1 .1 .0)))
 

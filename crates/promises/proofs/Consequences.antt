@@ -7,7 +7,7 @@ use mathlib.Core.Path.{_≡_, refl, sym, subst}
 use mathlib.Core.Bool.{false}
 use mathlib.Core.List.{List, [], _∷_, map, List·Memᴰ, List·Memᴰ·not-nil, List·Memᴰ·eq-of-singleton}
 use lib.ListN.{length, getD}
-use Rattle.definitions.specs.Book.{Book, Clause, Positive, Negative, clause-count}
+use Rattle.definitions.specs.Book.{any, Book, Clause, Positive, Negative, clause-count}
 use Rattle.definitions.specs.Refusal.{accepted}
 use Rattle.definitions.specs.Stop.{go}
 use Rattle.definitions.specs.Tables.{Forest}
@@ -32,7 +32,7 @@ book =
     record {
       coinductive = false;
       floundered = false;
-      clauses = record { variant = 0; cannot-prove = false; outsized = false; literals = Positive 1 0 false ∷ Negative 2 false ∷ [] } ∷ [];
+      clauses = record { variant = 0; cannot-prove = false; outsized = false; literals = Positive 1 any false ∷ Negative 2 false ∷ [] } ∷ [];
     }
     ∷ record {
       coinductive = false;
@@ -42,7 +42,7 @@ book =
     ∷ record {
       coinductive = false;
       floundered = false;
-      clauses = record { variant = 0; cannot-prove = false; outsized = false; literals = Positive 2 0 false ∷ [] } ∷ [];
+      clauses = record { variant = 0; cannot-prove = false; outsized = false; literals = Positive 2 any false ∷ [] } ∷ [];
     }
     ∷ []
 
@@ -88,14 +88,14 @@ levelled zero c m = one-clause 1 (record {
   variant = 0;
   cannot-prove = false;
   outsized = false;
-  literals = Positive 1 0 false ∷ Negative 2 false ∷ [];
+  literals = Positive 1 any false ∷ Negative 2 false ∷ [];
 }) c (omega arith, (omega arith, tt)) m
 levelled (suc zero) c m = one-clause 0 (record { variant = 0; cannot-prove = false; outsized = false; literals = [] }) c tt m
 levelled (suc (suc zero)) c m = one-clause 0 (record {
   variant = 0;
   cannot-prove = false;
   outsized = false;
-  literals = Positive 2 0 false ∷ [];
+  literals = Positive 2 any false ∷ [];
 }) c (omega arith, tt) m
 levelled (suc (suc (suc g))) c m = absurd (List·Memᴰ·not-nil m)
 
@@ -133,7 +133,7 @@ abbrev loop-book : Book
 loop-book = record {
   coinductive = false;
   floundered = false;
-  clauses = record { variant = 0; cannot-prove = false; outsized = false; literals = Positive 0 0 false ∷ [] } ∷ [];
+  clauses = record { variant = 0; cannot-prove = false; outsized = false; literals = Positive 0 any false ∷ [] } ∷ [];
 } ∷ []
 
 abbrev loop-forest : Forest

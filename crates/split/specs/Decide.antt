@@ -7,7 +7,7 @@ use mathlib.Core.List.{List, [], _∷_, map}
 use lib.ListN.{length, getElem?}
 use lib.Dec.{eqb, leb, ltb}
 use Rattle.definitions.specs.{TableIndex, TimeStamp, MAX, ExClause, Answer, is-complete}
-use Rattle.definitions.specs.Book.{Literal, Positive, Negative, goal-of}
+use Rattle.definitions.specs.Book.{any, Literal, Positive, Negative, goal-of}
 use Rattle.definitions.specs.Fitting.{gets-table, is-trivial, is-outsized}
 use Rattle.definitions.specs.Stop.{Stops, stop, go, _>>=_, _>>_, stop-if}
 use Rattle.definitions.specs.Lists.{is-empty, push, remove, position, any-passes}
@@ -31,7 +31,7 @@ or d none = d
 or d (some a) = a
 
 abbrev pub no-literal : Literal
-no-literal = Positive 0 0 false
+no-literal = Positive 0 any false
 
 abbrev pub no-table : Table
 no-table = new 0 false

@@ -58,7 +58,7 @@ abbrev pub wants-any : ℕ → Literal
 wants-any goal = record { goal = goal; kind = 0; want = 0 }
 
 abbrev pub positive : ℕ → books.Literal
-positive goal = books.Positive goal 0 false
+positive goal = books.Positive goal books.any false
 
 abbrev pub positives : List ℕ → List Literal
 positives goals = sets (replicate 8 no-literal) 0 (map wants-any goals)

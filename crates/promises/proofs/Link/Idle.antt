@@ -9,7 +9,7 @@ use mathlib.Core.Option.{Option, none, some}
 use mathlib.Core.List.{List, [], _∷_, append-nil}
 use lib.ListN.{length, getElem?, set}
 use Rattle.definitions.specs.{MAX}
-use Rattle.definitions.specs.Book.{Book, Positive, Negative}
+use Rattle.definitions.specs.Book.{any, Book, Positive, Negative}
 use Rattle.definitions.specs.Strand.{Strand}
 use Rattle.definitions.specs.Tables.{Tables, Forest}
 use Rattle.definitions.specs.Stack.{Stack}
@@ -53,7 +53,7 @@ module _ (book : Book) (limit : ℕ) {gs : List ℕ} {ts : Tables} {p : M.Forest
   emptied-is (s-more {es = es} i' g' c' pm' nm' e' (an-active (bound a (pos h) b t j w k)) xs) lined =
       let d = unwound-is book limit 0 (p .clock) xs (lined-busy (limits-of book limit) (machine-entry g' c' pm' nm' _) es (lined .3))
       agree in
-      rw (last-one (literals b) (Positive h 0 false)) (rw (d .is) (gave-up (λ i h o. o) refl (d .agree)))
+      rw (last-one (literals b) (Positive h any false)) (rw (d .is) (gave-up (λ i h o. o) refl (d .agree)))
   emptied-is (s-more i' g' c' pm' nm' e' (an-active (bound a (neg h) b t j w k)) xs) lined =
       rw (last-one (literals b) (Negative h false)) (rw (remove-push (literals b) (Negative h false))
       (going (λ i h o. o) agree (s-more i' g' c' pm' nm' e' (an-active (free a b t (names-tail w))) xs)))
@@ -69,7 +69,7 @@ module _ (book : Book) (limit : ℕ) {gs : List ℕ} {ts : Tables} {p : M.Forest
   part-is (s-more i' g' c' pm' nm' e' (an-active (bound a (pos h) b t j w k)) xs) lined =
       let d = enqueued book limit 0 (p .clock) agree i' g' e' (strand-of a (pos h ∷ b) (some (selection j b)) t)
       (machine-strand (pos h ∷ b) true t) (bound a (pos h) b t j w k) in
-      rw (last-one (literals b) (Positive h 0 false))
+      rw (last-one (literals b) (Positive h any false))
       (rw (d .is) (going (λ i h o. o) (d .agree) (s-more i' g' c' (min pm' pm) (min nm' nm) e' no-active xs)))
   part-is (s-more i' g' c' pm' nm' e' (an-active (bound a (neg h) b t j w k)) xs) lined =
       let d = enqueued book limit 0 (p .clock) agree i' g' e' (strand-of a (neg h ∷ b) (some (selection j b)) t)

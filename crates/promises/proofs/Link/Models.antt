@@ -8,7 +8,7 @@ use mathlib.Core.Logic.{inl, inr}
 use mathlib.Core.Option.{Option, none, some}
 use mathlib.Core.List.{List, [], _∷_, _++_, List·Memᴰ, List·Memᴰ·head, List·Memᴰ·tail, List·Memᴰ·not-nil, List·Memᴰ·cases-cons}
 use lib.ListN.{length, getElem?}
-use Rattle.definitions.specs.Book.{Book, Goal, Clause, Literal, Positive, Negative, clause-count}
+use Rattle.definitions.specs.Book.{any, Book, Goal, Clause, Literal, Positive, Negative, clause-count}
 use Rattle.definitions.specs.Model as D
 use Rattle.definitions.specs.Model.{Each, PlainClause, clauses-of, LevelLiteral, Holds, holds-end, holds-below, holds-here, holds-not}
 use Rattle.laws.proofs.Sums.{sum, sum-shift}
@@ -119,11 +119,11 @@ module _ (book : Book) (level : ℕ → ℕ) (n : ℕ) where
 
     derived-holds : {b : Body} → Derived (book-of book) level n R b → Holds book level n Q (literals b)
     derived-holds done = holds-end
-    derived-holds (lower {h = g} {b = b} x r) = holds-append Q (literals b) (Positive g 0 false ∷ []) (derived-holds r)
+    derived-holds (lower {h = g} {b = b} x r) = holds-append Q (literals b) (Positive g any false ∷ []) (derived-holds r)
         (holds-below (from g x) holds-end)
     derived-holds (here {h = g} {b = b} c e m x r) =
         let k = clause-holds g c m (derived-holds x) in
-        holds-append Q (literals b) (Positive g 0 false ∷ []) (derived-holds r) (holds-here (k .0) e (k .1) (k .2) holds-end)
+        holds-append Q (literals b) (Positive g any false ∷ []) (derived-holds r) (holds-here (k .0) e (k .1) (k .2) holds-end)
     derived-holds (absent {h = g} {b = b} x r) = holds-append Q (literals b) (Negative g false ∷ []) (derived-holds r)
         (holds-not (λ y. x (to g y)) holds-end)
 

@@ -9,7 +9,7 @@ use mathlib.Core.Option.{Option, none, some}
 use mathlib.Core.List.{List, [], _∷_}
 use lib.ListN.{length, getElem?, take}
 use Rattle.definitions.specs.{MAX, Answer, is-complete}
-use Rattle.definitions.specs.Book.{Book, Positive, Negative}
+use Rattle.definitions.specs.Book.{any, Book, Positive, Negative}
 use Rattle.definitions.specs.Stop.{go, _>>=_}
 use Rattle.definitions.specs.Strand.{Strand}
 use Rattle.definitions.specs.Table.{Table}
@@ -40,7 +40,7 @@ module _ (book : Book) (limit : ℕ) (ts : Tables) (k i c pm nm : ℕ) (ds : Sta
       (strand-of a (pos h ∷ b) (some (selection j b)) t) (selection j b) the-answer
       ≡ go (merged (strand-of (suc a) b none t) (state-of book limit ts k (entry-of i c pm nm none ∷ ds)))
   merge-positive = rw here (rw (and-false (is-complete (tb .answer-mode)))
-      (rw (last-one (literals b) (Positive h 0 false)) (rw (remove-push (literals b) (Positive h 0 false)))))
+      (rw (last-one (literals b) (Positive h any false)) (rw (remove-push (literals b) (Positive h any false)))))
 
   merge-negative : merge-answer-into-strand (state-of book limit ts k (entry-of i c pm nm none ∷ ds))
       (strand-of a (neg h ∷ b) (some (selection j b)) t) (selection j b) the-answer
@@ -117,7 +117,7 @@ module _ (book : Book) (limit : ℕ) {gs : List ℕ} {ts : Tables} {p : M.Forest
       (machine-strand (pos h ∷ b) true c) (bound a (pos h) b c j w at-j) in
       let o = lined-top (limits-of book limit) (machine-entry g c pm nm (some m)) es lined in
       let q : min nm MAX ≡ nm = omega arith in
-      rw e (rw (t .is) (rw (s .1) (rw (last-one (literals b) (Positive h 0 false))
+      rw e (rw (t .is) (rw (s .1) (rw (last-one (literals b) (Positive h any false))
       (rw (d .is) (rw (k, q) (going (λ i h o. o) (d .agree) (s-more i g c (min pm clock) nm at no-active xs)))))))
   parked (neg h) b w at-j depth clock x e k =
       let t = table-here agree i g at in

@@ -7,7 +7,7 @@ use mathlib.Core.Option.{Option, none, some}
 use mathlib.Core.List.{List, [], _∷_, _++_}
 use lib.ListN.{length, getElem?}
 use Rattle.definitions.specs.{ExClause, Answer, AnswerMode, Complete, Ambiguous}
-use Rattle.definitions.specs.Book.{Literal, Positive, Negative}
+use Rattle.definitions.specs.Book.{any, Literal, Positive, Negative}
 use Rattle.definitions.specs.Strand.{SelectedSubgoal, Strand}
 use Rattle.definitions.specs.Table.{Table}
 use Rattle.definitions.specs.Tables.{Tables, Forest}
@@ -18,7 +18,7 @@ use Rattle.promises.proofs.Plain.Machine as M
 -- A body's chosen literal stands first, a strand's last.
 
 abbrev pub literal : Lit → Literal
-literal (pos h) = Positive h 0 false
+literal (pos h) = Positive h any false
 literal (neg h) = Negative h false
 
 abbrev pub literals : Body → List Literal
