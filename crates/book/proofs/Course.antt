@@ -1,54 +1,76 @@
 -- Reading a book: what holds before each command, that each command keeps it, and what it gives where reading stops.
-use Prim.Native.Nat.{ℕ, suc, _+_, _-_, _/_, _%_, _≤_, _<_}
+use Prim.Native.Nat.{ℕ, suc, _+_, _-_, _*_, _/_, _%_, _≤_, _<_}
 use native.Mathlib.Omega.{arith}
-use mathlib.Core.Path.{_≡_, refl, sym, ap, subst, _∙_}
+use mathlib.Core.Path.{_≡_, refl, sym, ap, ap₂, subst, _∙_}
 use mathlib.Core.Bool.{Bool, true, false, not}
-use mathlib.Core.Logic.{_⊎_, inl, inr}
 use mathlib.Core.List.{List, [], _∷_, _++_}
 use lib.ListN.{length, getD, drop, length-replicate}
-use lib.Seq.{getD-drop}
 use lib.Dec.{ltb, leb, eqb, leb·zero}
 use borrow.Author.Tests.{ltb-false, leb-false, eqb-true, eqb-false, ne-eqb, not-false}
 use Rattle.definitions.specs.Refusal.{_refuses_}
 use Rattle.definitions.specs.Book as said
-use Rattle.definitions.specs.Book.{goal, clause, positive, negative, end, unknown, command, width, byte, u16, bit0, Positive, Negative}
+use Rattle.definitions.specs.Book.{goal, clause, positive, ranged, negative, end, unknown, command, width, byte, u16, bit0, crossed}
+use Rattle.definitions.specs.Book.{want-of, between, Positive, Negative}
 use Rattle.definitions.specs.Book.{add-clause, add-literal, read-from}
 use Rattle.laws.proofs.Lists.{getD-zeros}
+use Rattle.definitions.proofs.Book.{want-straight}
 use Rattle.book.specs.declared.Book.{Book}
 use Rattle.book.specs.declared.Reading.{Reading}
 use Rattle.book.specs.declared.decode.Operands.{Operands}
-use Rattle.book.specs.View.{view, signed, kept, Full, Ranged, blank, seen-by, Read}
+use Rattle.book.specs.View.{wanted, bit2, numbered, view, signed, kept, literal-viewed, Full, Ranged, blank, seen-by, Read}
 use Rattle.book.specs.Faults.{fault, marked, counts, next-fault, literal-tests, end-tests, largest}
-use Rattle.book.specs.Operands.{kind-by, want-by, OperandsAt}
-use Rattle.book.proofs.Tests.{left-over, others, marked-unknown, marked-known}
+use Rattle.book.specs.Operands.{kind-by, want-at, high-at, OperandsAt}
+use Rattle.book.proofs.Tests.{OfLiteral, of-positive, of-ranged, of-negative, of-literal, byte-after, u16-after}
+use Rattle.book.proofs.Tests.{marked-unknown, marked-known}
 use Rattle.book.proofs.Held.{Held}
 use Rattle.book.proofs.MoreGoals.{with-goal, bare-goal, goal-view, goal-held}
 use Rattle.book.proofs.MoreClauses.{with-clause, bare-clause, clause-view, clause-held, ends as clauses-end}
 use Rattle.book.proofs.MoreLiterals.{with-literal, literal-view, literal-held}
 use Rattle.book.proofs.Turns.{passes, done, turn-refused, some-left, operands-within, tests-passed, turn-end, turn-on}
 
--- A literal's kind says its sign and its flag.
+-- A literal's kind says its sign, its flag and whether it wants a range.
 
-pub positive-literal : (f g w : ℕ) → kept (f % 2) g w ≡ Positive g w (bit0 f)
-positive-literal f g w =
+-- the two ends, out of the number that keeps them
+kept-ends : (k g want high : ℕ) → want < 65536 → kept k g (want + 65536 * high) ≡ numbered k g want high
+kept-ends k g want high h =
+    let l : (want + 65536 * high) % 65536 ≡ want = omega arith in
+    let m : (want + 65536 * high) / 65536 ≡ high = omega arith in
+    ap₂ (numbered k g) l m
+
+positive-literal : (f g w h : ℕ) → numbered (f % 2) g w h ≡ Positive g (want-of w) (bit0 f)
+positive-literal f g w h =
     let n : f % 2 / 2 % 2 ≡ 0 = omega arith in
+    let r : f % 2 / 4 % 2 ≡ 0 = omega arith in
     let o : f % 2 % 2 ≡ f % 2 = omega arith in
-    ap (λ (k : ℕ). signed (eqb k 1) g w (bit0 (f % 2))) n ∙ ap (λ (k : ℕ). Positive g w (eqb k 1)) o
+    ap (λ (k : ℕ). signed (eqb k 1) g (wanted (bit2 (f % 2)) w h) (bit0 (f % 2))) n
+    ∙ ap (λ (k : ℕ). Positive g (wanted (eqb k 1) w h) (bit0 (f % 2))) r
+    ∙ ap (λ (k : ℕ). Positive g (want-of w) (eqb k 1)) o
 
-pub negative-literal : (f g w : ℕ) → kept (f % 2 + 2) g w ≡ Negative g (bit0 f)
-negative-literal f g w =
+ranged-literal : (f g w h : ℕ) → numbered (f % 2 + 4) g w h ≡ Positive g (between w h) (bit0 f)
+ranged-literal f g w h =
+    let n : (f % 2 + 4) / 2 % 2 ≡ 0 = omega arith in
+    let r : (f % 2 + 4) / 4 % 2 ≡ 1 = omega arith in
+    let o : (f % 2 + 4) % 2 ≡ f % 2 = omega arith in
+    ap (λ (k : ℕ). signed (eqb k 1) g (wanted (bit2 (f % 2 + 4)) w h) (bit0 (f % 2 + 4))) n
+    ∙ ap (λ (k : ℕ). Positive g (wanted (eqb k 1) w h) (bit0 (f % 2 + 4))) r
+    ∙ ap (λ (k : ℕ). Positive g (between w h) (eqb k 1)) o
+
+negative-literal : (f g w h : ℕ) → numbered (f % 2 + 2) g w h ≡ Negative g (bit0 f)
+negative-literal f g w h =
     let n : (f % 2 + 2) / 2 % 2 ≡ 1 = omega arith in
     let o : (f % 2 + 2) % 2 ≡ f % 2 = omega arith in
-    ap (λ (k : ℕ). signed (eqb k 1) g w (bit0 (f % 2 + 2))) n ∙ ap (λ (k : ℕ). Negative g (eqb k 1)) o
+    ap (λ (k : ℕ). signed (eqb k 1) g (wanted (bit2 (f % 2 + 2)) w h) (bit0 (f % 2 + 2))) n ∙ ap (λ (k : ℕ). Negative g (eqb k 1)) o
 
-kind-small : (t : Bool) (f : ℕ) → kind-by t f ≤ 3
-kind-small true f = omega arith
-kind-small false f = omega arith
+kind-small : (p q : Bool) (f : ℕ) → kind-by p q f ≤ 5
+kind-small true q f = omega arith
+kind-small false true f = omega arith
+kind-small false false f = omega arith
 
-sign-of : (x : ℕ) (p q : Bool) → eqb x 0x50 ≡ p → eqb x 0x4E ≡ q → (left-over p q ≡ unknown → ⊥) → (x ≡ 0x50) ⊎ (x ≡ 0x4E)
-sign-of x true q ep eq h = inl (eqb-true x 0x50 ep)
-sign-of x false true ep eq h = inr (eqb-true x 0x4E eq)
-sign-of x false false ep eq h = absurd (h refl)
+-- what the tests of a literal command leave
+record Room (clauses literals : ℕ) (crossing : Bool) : Type 0 where
+  some-clause : 0 < clauses
+  few : literals < 8
+  straight : crossing ≡ false
 
 -- the arrays hold what was read before a place, and the rest of the bytes is still to be read
 pub record SoFar (bs : List ℕ) (b : Book) (literals named at : ℕ) : Type 0 where
@@ -77,6 +99,7 @@ blank-ranged = record {
   variants = λ c. omega (arith, getD-zeros 256 c);
   kinds = λ i. omega (arith, getD-zeros 2048 i);
   wants = λ i. omega (arith, getD-zeros 2048 i);
+  straight = λ i. ap (λ (n : ℕ). crossed (kept n n n)) (getD-zeros 2048 i);
 }
 
 blank-held : Held blank 0 0
@@ -168,16 +191,6 @@ module _ (bs : List ℕ) (b : Book) (literals named at : ℕ) (s : SoFar bs b li
             bare = λ n. absurd (n refl);
           }
 
-    -- operands of the bytes behind the command are those of the bytes
-    byte-after : (k i : ℕ) → suc at + k ≡ i → byte after k ≡ byte bs i
-    byte-after k i e = getD-drop (suc at) bs k 0 ∙ ap (byte bs) e
-
-    u16-after : (k i : ℕ) → suc at + k ≡ i → u16 after k ≡ u16 bs i
-    u16-after k i e =
-        let low : byte after k ≡ byte bs i = byte-after k i e in
-        let high : byte after (suc k) ≡ byte bs (suc i) = byte-after (suc k) (suc i) (omega arith) in
-        omega arith
-
     module _ (o : Operands) (ops : OperandsAt bs at o) where
       abbrev x : ℕ
       x = o .command
@@ -200,7 +213,7 @@ module _ (bs : List ℕ) (b : Book) (literals named at : ℕ) (s : SoFar bs b li
             leb-false 64 (b .goals) (passes (leb 64 (b .goals) refuses 5) [] (omega arith) (p .1) .0)
 
         goal-flags : o .flags ≡ byte after 0
-        goal-flags = ops .flags-are ∙ ap (λ (y : ℕ). byte bs (at + marked (command y))) is ∙ sym (byte-after 0 (at + 1) (omega arith))
+        goal-flags = ops .flags-are ∙ ap (λ (y : ℕ). byte bs (at + marked (command y))) is ∙ sym (byte-after bs at 0 (at + 1) (omega arith))
 
         goal-known : o .flags ≤ 3
         goal-known =
@@ -232,7 +245,7 @@ module _ (bs : List ℕ) (b : Book) (literals named at : ℕ) (s : SoFar bs b li
             )
 
         clause-flags : o .flags ≡ byte after 2
-        clause-flags = ops .flags-are ∙ ap (λ (y : ℕ). byte bs (at + marked (command y))) is ∙ sym (byte-after 2 (at + 3) (omega arith))
+        clause-flags = ops .flags-are ∙ ap (λ (y : ℕ). byte bs (at + marked (command y))) is ∙ sym (byte-after bs at 2 (at + 3) (omega arith))
 
         clause-known : o .flags ≤ 3
         clause-known =
@@ -254,7 +267,7 @@ module _ (bs : List ℕ) (b : Book) (literals named at : ℕ) (s : SoFar bs b li
 
           clause-seen : view (with-clause b g (o .number) (o .flags)) ≡ done clause after (view b)
           clause-seen =
-              let v : o .number ≡ u16 after 0 = ops .number-is ∙ sym (u16-after 0 (at + 1) (omega arith)) in
+              let v : o .number ≡ u16 after 0 = ops .number-is ∙ sym (u16-after bs at 0 (at + 1) (omega arith)) in
               clause-view b g (o .number) (o .flags) literals named (s .held) last (clause-room .1) (ops .number-fits) clause-known
               ∙ ap (λ (n : ℕ). add-clause (bare-clause n (o .flags)) (view b)) v
               ∙ ap (λ (n : ℕ). add-clause (bare-clause (u16 after 0) n) (view b)) clause-flags
@@ -275,73 +288,123 @@ module _ (bs : List ℕ) (b : Book) (literals named at : ℕ) (s : SoFar bs b li
             let t : _≡_ {A = ℕ} 2 0 = tests-passed b literals named (s .held) bs at (sym fine) unknown (ap command (sym ex) ∙ e) in
             omega arith
 
-        which : (x ≡ 0x50) ⊎ (x ≡ 0x4E)
-        which = sign-of x (eqb x 0x50) (eqb x 0x4E) refl refl (λ e. known (others x no-goal no-clause no-end ∙ e))
+        which : OfLiteral x
+        which = of-literal x no-goal no-clause no-end known
 
-        room-by : (flags : ℕ) → fault (literal-tests flags (b .clauses) literals) ≡ 0 → (0 < b .clauses) × (literals < 8)
-        room-by flags t =
-            let p = passes (eqb (b .clauses) 0 refuses 3) (ltb 1 flags refuses 4 ∷ leb 8 literals refuses 5 ∷ []) (omega arith) t in
-            let q = passes (ltb 1 flags refuses 4) (leb 8 literals refuses 5 ∷ []) (omega arith) (p .1) in (
-              omega (arith, eqb-false (b .clauses) 0 (p .0)),
-              leb-false 8 literals (passes (leb 8 literals refuses 5) [] (omega arith) (q .1) .0),
-            )
+        room-by : (flags : ℕ) (crossing : Bool) → fault (literal-tests flags crossing (b .clauses) literals) ≡ 0 → Room (b .clauses) literals crossing
+        room-by flags crossing t =
+            let p =
+            passes (eqb (b .clauses) 0 refuses 3) (ltb 1 flags refuses 4 ∷ crossing refuses 32 ∷ leb 8 literals refuses 5 ∷ []) (omega arith) t in
+            let q = passes (ltb 1 flags refuses 4) (crossing refuses 32 ∷ leb 8 literals refuses 5 ∷ []) (omega arith) (p .1) in
+            let r = passes (crossing refuses 32) (leb 8 literals refuses 5 ∷ []) (omega arith) (q .1) in
+            record {
+              some-clause = omega (arith, eqb-false (b .clauses) 0 (p .0));
+              few = leb-false 8 literals (passes (leb 8 literals refuses 5) [] (omega arith) (r .1) .0);
+              straight = r .0;
+            }
 
-        room-of : (x ≡ 0x50) ⊎ (x ≡ 0x4E) → (0 < b .clauses) × (literals < 8)
-        room-of (inl e) = room-by (byte after 4) (tests-passed b literals named (s .held) bs at (sym fine) positive (code 0x50 e))
-        room-of (inr e) = room-by (byte after 2) (tests-passed b literals named (s .held) bs at (sym fine) negative (code 0x4E e))
+        positive-room : x ≡ 0x50 → Room (b .clauses) literals false
+        positive-room e = room-by (byte after 4) false (tests-passed b literals named (s .held) bs at (sym fine) positive (code 0x50 e))
+
+        ranged-room : x ≡ 0x52 → Room (b .clauses) literals (ltb (u16 after 4) (u16 after 2))
+        ranged-room e =
+            room-by (byte after 6) (ltb (u16 after 4) (u16 after 2))
+            (tests-passed b literals named (s .held) bs at (sym fine) ranged (code 0x52 e))
+
+        negative-room : x ≡ 0x4E → Room (b .clauses) literals false
+        negative-room e = room-by (byte after 2) false (tests-passed b literals named (s .held) bs at (sym fine) negative (code 0x4E e))
+
+        room-of : OfLiteral x → (0 < b .clauses) × (literals < 8)
+        room-of (of-positive e) = let r = positive-room e in (r .some-clause, r .few)
+        room-of (of-ranged e) = let r = ranged-room e in (r .some-clause, r .few)
+        room-of (of-negative e) = let r = negative-room e in (r .some-clause, r .few)
 
         pub literal-room : (0 < b .clauses) × (literals < 8)
         literal-room = room-of which
 
+        -- the literal that is kept, by its command
+
+        abbrev low-at : ℕ
+        low-at = want-at bs at x
+
+        abbrev top-at : ℕ
+        top-at = high-at bs at x
+
+        kind-at : (c : ℕ) → x ≡ c → o .kind ≡ kind-by (eqb c 0x4E) (eqb c 0x52) (byte bs (at + marked (command c)))
+        kind-at c e = ops .kind-is ∙ ap (λ (y : ℕ). kind-by (eqb y 0x4E) (eqb y 0x52) (byte bs (at + marked (command y)))) e
+
+        number-after : o .number ≡ u16 after 0
+        number-after = ops .number-is ∙ sym (u16-after bs at 0 (at + 1) (omega arith))
+
+        kept-by : (k : ℕ) → o .kind ≡ k → kept (o .kind) (o .number) (o .want) ≡ numbered k (u16 after 0) low-at top-at
+        kept-by k e =
+            ap (kept (o .kind) (o .number)) (ops .want-is)
+            ∙ kept-ends (o .kind) (o .number) low-at top-at (ops .low-fits)
+            ∙ ap₂ (λ (i j : ℕ). numbered i j low-at top-at) e number-after
+
+        kept-positive : x ≡ 0x50 → kept (o .kind) (o .number) (o .want) ≡ Positive (u16 after 0) (want-of (u16 after 2)) (bit0 (byte after 4))
+        kept-positive e =
+            let f = byte bs (at + 5) in
+            let w : low-at ≡ u16 after 2 = ap (want-at bs at) e ∙ sym (u16-after bs at 2 (at + 3) (omega arith)) in
+            kept-by (f % 2) (kind-at 0x50 e)
+            ∙ positive-literal f (u16 after 0) low-at top-at
+            ∙ ap₂ (λ (i j : ℕ). Positive (u16 after 0) (want-of i) (bit0 j)) w (sym (byte-after bs at 4 (at + 5) (omega arith)))
+
+        kept-ranged : x ≡ 0x52
+            → kept (o .kind) (o .number) (o .want) ≡ Positive (u16 after 0) (between (u16 after 2) (u16 after 4)) (bit0 (byte after 6))
+        kept-ranged e =
+            let f = byte bs (at + 7) in
+            let w : low-at ≡ u16 after 2 = ap (want-at bs at) e ∙ sym (u16-after bs at 2 (at + 3) (omega arith)) in
+            let h : top-at ≡ u16 after 4 = ap (high-at bs at) e ∙ sym (u16-after bs at 4 (at + 5) (omega arith)) in
+            kept-by (f % 2 + 4) (kind-at 0x52 e)
+            ∙ ranged-literal f (u16 after 0) low-at top-at
+            ∙ ap₂ (λ (i j : ℕ). Positive (u16 after 0) (between i j) (bit0 f)) w h
+            ∙ ap (λ (n : ℕ). Positive (u16 after 0) (between (u16 after 2) (u16 after 4)) (bit0 n))
+            (sym (byte-after bs at 6 (at + 7) (omega arith)))
+
+        kept-negative : x ≡ 0x4E → kept (o .kind) (o .number) (o .want) ≡ Negative (u16 after 0) (bit0 (byte after 2))
+        kept-negative e =
+            let f = byte bs (at + 3) in
+            kept-by (f % 2 + 2) (kind-at 0x4E e)
+            ∙ negative-literal f (u16 after 0) low-at top-at
+            ∙ ap (λ (n : ℕ). Negative (u16 after 0) (bit0 n)) (sym (byte-after bs at 2 (at + 3) (omega arith)))
+
+        straight-of : OfLiteral x → crossed (kept (o .kind) (o .number) (o .want)) ≡ false
+        straight-of (of-positive e) = ap crossed (kept-positive e) ∙ want-straight (u16 after 2)
+        straight-of (of-ranged e) = ap crossed (kept-ranged e) ∙ ranged-room e .straight
+        straight-of (of-negative e) = ap crossed (kept-negative e)
+
         module _ (c : ℕ) (last : b .clauses ≡ suc c) where
-          kind-known : o .kind ≤ 3
-          kind-known = omega (arith, ops .kind-is, kind-small (eqb x 0x4E) (byte bs (at + marked (command x))))
+          kind-known : o .kind ≤ 5
+          kind-known = omega (arith, ops .kind-is, kind-small (eqb x 0x4E) (eqb x 0x52) (byte bs (at + marked (command x))))
+
+          want-fits : o .want < 4294967296
+          want-fits = omega (arith, ops .want-is, ops .low-fits, ops .high-fits)
 
           abbrev grown : Book
           grown = with-literal b c literals (o .kind) (o .number) (o .want)
 
-          number-after : o .number ≡ u16 after 0
-          number-after = ops .number-is ∙ sym (u16-after 0 (at + 1) (omega arith))
+          seen : (l : said.Literal) → kept (o .kind) (o .number) (o .want) ≡ l → view grown ≡ add-literal l (view b)
+          seen l e =
+              literal-view b c literals (o .kind) (o .number) (o .want) named (s .held) last (literal-room .1) kind-known want-fits
+              (straight-of which)
+              ∙ ap (λ (k : said.Literal). add-literal k (view b)) e
 
-          seen : view grown ≡ add-literal (kept (o .kind) (o .number) (o .want)) (view b)
-          seen =
-              literal-view b c literals (o .kind) (o .number) (o .want) named (s .held) last (literal-room .1) kind-known (ops .want-fits)
-
-          seen-positive : x ≡ 0x50 → view grown ≡ done positive after (view b)
-          seen-positive e =
-              let f = byte bs (at + 5) in
-              let k : o .kind ≡ f % 2 = ops .kind-is ∙ ap (λ (y : ℕ). kind-by (eqb y 0x4E) (byte bs (at + marked (command y)))) e in
-              let w : o .want ≡ u16 after 2 =
-              ops .want-is ∙ ap (λ (y : ℕ). want-by (eqb y 0x50) (u16 bs (at + 3))) e ∙ sym (u16-after 2 (at + 3) (omega arith)) in
-              seen ∙ ap (λ (l : said.Literal). add-literal l (view b))
-              (ap (λ (n : ℕ). kept n (o .number) (o .want)) k
-              ∙ positive-literal f (o .number) (o .want)
-              ∙ ap (λ (n : ℕ). Positive n (o .want) (bit0 f)) number-after
-              ∙ ap (λ (n : ℕ). Positive (u16 after 0) n (bit0 f)) w
-              ∙ ap (λ (n : ℕ). Positive (u16 after 0) (u16 after 2) (bit0 n)) (sym (byte-after 4 (at + 5) (omega arith))))
-
-          seen-negative : x ≡ 0x4E → view grown ≡ done negative after (view b)
-          seen-negative e =
-              let f = byte bs (at + 3) in
-              let k : o .kind ≡ f % 2 + 2 = ops .kind-is ∙ ap (λ (y : ℕ). kind-by (eqb y 0x4E) (byte bs (at + marked (command y)))) e in
-              seen ∙ ap (λ (l : said.Literal). add-literal l (view b))
-              (ap (λ (n : ℕ). kept n (o .number) (o .want)) k
-              ∙ negative-literal f (o .number) (o .want)
-              ∙ ap (λ (n : ℕ). Negative n (bit0 f)) number-after
-              ∙ ap (λ (n : ℕ). Negative (u16 after 0) (bit0 n)) (sym (byte-after 2 (at + 3) (omega arith))))
-
-          goes-on : (x ≡ 0x50) ⊎ (x ≡ 0x4E) → read-from (drop (o .next) bs) 0 (view grown) ≡ read-from (drop at bs) 0 (view b)
-          goes-on (inl e) =
-              turn-on b literals named (s .held) bs at (sym fine) positive (code 0x50 e) refl grown (seen-positive e) (o .next)
+          goes-on : OfLiteral x → read-from (drop (o .next) bs) 0 (view grown) ≡ read-from (drop at bs) 0 (view b)
+          goes-on (of-positive e) =
+              turn-on b literals named (s .held) bs at (sym fine) positive (code 0x50 e) refl grown (seen _ (kept-positive e)) (o .next)
               (ops .next-is ∙ ap (λ (y : ℕ). at + marked (command y) + 1) e)
-          goes-on (inr e) =
-              turn-on b literals named (s .held) bs at (sym fine) negative (code 0x4E e) refl grown (seen-negative e) (o .next)
+          goes-on (of-ranged e) =
+              turn-on b literals named (s .held) bs at (sym fine) ranged (code 0x52 e) refl grown (seen _ (kept-ranged e)) (o .next)
+              (ops .next-is ∙ ap (λ (y : ℕ). at + marked (command y) + 1) e)
+          goes-on (of-negative e) =
+              turn-on b literals named (s .held) bs at (sym fine) negative (code 0x4E e) refl grown (seen _ (kept-negative e)) (o .next)
               (ops .next-is ∙ ap (λ (y : ℕ). at + marked (command y) + 1) e)
 
           pub literal-again : SoFar bs grown (literals + 1) (largest named (o .number + 1)) (o .next)
           literal-again = record {
             held =
-                literal-held b c literals (o .kind) (o .number) (o .want) named (s .held) last (literal-room .1) kind-known
-                (ops .want-fits);
+                literal-held b c literals (o .kind) (o .number) (o .want) named (s .held) last (literal-room .1) kind-known want-fits
+                (straight-of which);
             rest = goes-on which ∙ s .rest;
           }

@@ -16,7 +16,7 @@ use Rattle.book.specs.declared.Book.{Book}
 use Rattle.book.specs.declared.Literal.{Literal}
 use Rattle.book.specs.View.{kept, meant, literal-viewed, clause-viewed, goal-in, goal-viewed, view, Tiles, Sound}
 use Rattle.book.specs.Access.{entry, entry-by, literal-there, literal-read, literal-by}
-use Rattle.book.proofs.MoreLiterals.{goal-of-signed}
+use Rattle.book.proofs.MoreLiterals.{goal-of-kept}
 use Rattle.book.proofs.Held.{goal-within}
 
 -- an entry within the size is the array's
@@ -138,8 +138,8 @@ module _ (b : Book) (s : Sound b) where
           let named : goal-of (literal-viewed b (8 * c + j)) < b .goals =
           named-literal (b .goals) (literal-viewed b) (8 * c) (getD (b .«clause_len») c 0) j in-clause l in
           subst (λ (n : ℕ). n < b .goals)
-          (goal-of-signed (bit1 (getD (b .«literal_kind») (8 * c + j) 0)) (getD (b .«literal_goal») (8 * c + j) 0)
-          (getD (b .«literal_want») (8 * c + j) 0) (bit0 (getD (b .«literal_kind») (8 * c + j) 0))) named
+          (goal-of-kept (getD (b .«literal_kind») (8 * c + j) 0) (getD (b .«literal_goal») (8 * c + j) 0)
+          (getD (b .«literal_want») (8 * c + j) 0)) named
 
       -- it fits the byte that it is kept in
       goal-fits : getD (b .«literal_goal») (8 * c + j) 0 % 256 ≡ getD (b .«literal_goal») (8 * c + j) 0

@@ -150,6 +150,7 @@ module _ (b : Book) (g variant flags literals named : ℕ) (h : Held b literals 
           variants = every-set (λ (n : ℕ). n < 65536) (b .«clause_variant») (b .clauses) variant 0 fits (r .variants);
           kinds = r .kinds;
           wants = r .wants;
+          straight = r .straight;
         };
     few-goals = h .few-goals;
     few-clauses = omega arith;

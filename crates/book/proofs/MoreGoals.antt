@@ -105,6 +105,7 @@ module _ (b : Book) (flags literals named : ℕ) (h : Held b literals named) (ro
           variants = r .variants;
           kinds = r .kinds;
           wants = r .wants;
+          straight = r .straight;
         };
     few-goals = omega arith;
     few-clauses = h .few-clauses;

@@ -1,21 +1,22 @@
 -- A literal more: the arrays stay in order, and their view has the literal at the end of its last clause.
-use Prim.Native.Nat.{ℕ, suc, _+_, _*_, _≤_, _<_}
+use Prim.Native.Nat.{ℕ, suc, _+_, _*_, _/_, _%_, _≤_, _<_}
 use native.Mathlib.Numerals.{add-one}
 use native.Mathlib.Omega.{arith}
+use native.Mathlib.Decide.{ℕ-discrete}
 use mathlib.Core.Path.{_≡_, refl, sym, ap, subst, _∙_}
 use mathlib.Core.Bool.{Bool, true, false}
 use mathlib.Core.List.{List, [], _∷_, _++_}
 use lib.ListN.{getD, set, length-set}
-use lib.Seq.{getD-set-same}
+use lib.Seq.{getD-set-same, getD-set-other}
 use lib.Dec.{ltb, leb}
 use Rattle.definitions.specs.Book as said
-use Rattle.definitions.specs.Book.{goals-name, clause-count, add-literal, goal-of, with-literals, bit0, bit1}
+use Rattle.definitions.specs.Book.{goals-name, clause-count, add-literal, goal-of, with-literals, crossed, bit0, bit1}
 use Rattle.laws.proofs.Bools.{and-then}
 use Rattle.laws.proofs.Lists.{getD-set-below, every-set}
 use Rattle.laws.proofs.Spans.{span-snoc, span-ext}
 use Rattle.laws.specs.Spans.{span}
 use Rattle.book.specs.declared.Book.{Book}
-use Rattle.book.specs.View.{signed, kept, literal-viewed, clause-made, clause-viewed, view, Tiles, Full}
+use Rattle.book.specs.View.{wanted, bit2, signed, kept, literal-viewed, clause-made, clause-viewed, view, Tiles, Full}
 use Rattle.book.specs.Faults.{largest}
 use Rattle.book.proofs.Names.{names-literal, names-more}
 use Rattle.book.proofs.Tilings.{tiles-add}
@@ -36,12 +37,15 @@ with-literal b c j kind goal want = record {
   «literal_want» = set (b .«literal_want») (8 * c + j) want;
 }
 
-pub goal-of-signed : (t : Bool) (goal want : ℕ) (o : Bool) → goal-of (signed t goal want o) ≡ goal
+goal-of-signed : (t : Bool) (goal : ℕ) (want : said.Want) (o : Bool) → goal-of (signed t goal want o) ≡ goal
 goal-of-signed true goal want o = refl
 goal-of-signed false goal want o = refl
 
-module _ (b : Book) (c j kind goal want named : ℕ) (h : Held b j named) (last : b .clauses ≡ suc c) (room : j < 8) (known : kind ≤ 3)
-    (fits : want < 65536) where
+pub goal-of-kept : (kind goal want : ℕ) → goal-of (kept kind goal want) ≡ goal
+goal-of-kept kind goal want = goal-of-signed (bit1 kind) goal (wanted (bit2 kind) (want % 65536) (want / 65536)) (bit0 kind)
+
+module _ (b : Book) (c j kind goal want named : ℕ) (h : Held b j named) (last : b .clauses ≡ suc c) (room : j < 8) (known : kind ≤ 5)
+    (fits : want < 4294967296) (straight : crossed (kept kind goal want) ≡ false) where
   abbrev next : Book
   next = with-literal b c j kind goal want
 
@@ -54,15 +58,15 @@ module _ (b : Book) (c j kind goal want named : ℕ) (h : Held b j named) (last 
   has-now : getD (set (b .«clause_len») c (j + 1)) c 0 ≡ j + 1
   has-now = getD-set-same (b .«clause_len») c (j + 1) 0 (omega (arith, h .full .clause-len, h .few-clauses))
 
-  literal-before : (i : ℕ) → i < 8 * c + j → literal-viewed next i ≡ literal-viewed b i
-  literal-before i l =
+  literal-other : (i : ℕ) → (i ≡ 8 * c + j → ⊥) → literal-viewed next i ≡ literal-viewed b i
+  literal-other i d =
       let p = 8 * c + j in
       ap (λ (k : ℕ). kept k (getD (set (b .«literal_goal») p goal) i 0) (getD (set (b .«literal_want») p want) i 0))
-      (getD-set-below (b .«literal_kind») p i kind 0 l)
+      (getD-set-other (b .«literal_kind») p i kind 0 d)
       ∙ ap (λ (k : ℕ). kept (getD (b .«literal_kind») i 0) k (getD (set (b .«literal_want») p want) i 0))
-      (getD-set-below (b .«literal_goal») p i goal 0 l)
+      (getD-set-other (b .«literal_goal») p i goal 0 d)
       ∙ ap (λ (k : ℕ). kept (getD (b .«literal_kind») i 0) (getD (b .«literal_goal») i 0) k)
-      (getD-set-below (b .«literal_want») p i want 0 l)
+      (getD-set-other (b .«literal_want») p i want 0 d)
 
   literal-new : literal-viewed next (8 * c + j) ≡ added
   literal-new =
@@ -76,7 +80,7 @@ module _ (b : Book) (c j kind goal want named : ℕ) (h : Held b j named) (last 
       (getD-set-same (b .«literal_want») p want 0 (omega (arith, s .literal-want, h .few-clauses)))
 
   old : (s n : ℕ) → s + n ≤ 8 * c + j → span (literal-viewed next) s n ≡ span (literal-viewed b) s n
-  old s n l = span-ext (literal-viewed next) (literal-viewed b) s n (λ i x y. literal-before i (omega arith))
+  old s n l = span-ext (literal-viewed next) (literal-viewed b) s n (λ i x y. literal-other i (λ e. omega arith))
 
   clause-before : (i : ℕ) → i < c → clause-viewed b i ≡ clause-viewed next i
   clause-before i l =
@@ -122,8 +126,12 @@ module _ (b : Book) (c j kind goal want named : ℕ) (h : Held b j named) (last 
       ap (goals-name n) literal-view
       ∙ names-literal n added (view b) some
       ∙ ap (λ (t : Bool). and-then t (ltb (goal-of added) n)) (h .naming n)
-      ∙ ap (λ (g : ℕ). and-then (leb named n) (ltb g n)) (goal-of-signed (bit1 kind) goal want (bit0 kind))
+      ∙ ap (λ (g : ℕ). and-then (leb named n) (ltb g n)) (goal-of-kept kind goal want)
       ∙ sym (names-more n named goal)
+
+  straight-by : (i : ℕ) → Dec (i ≡ 8 * c + j) → crossed (literal-viewed next i) ≡ false
+  straight-by i (yes e) = ap (λ (k : ℕ). crossed (literal-viewed next k)) e ∙ ap crossed literal-new ∙ straight
+  straight-by i (no d) = ap crossed (literal-other i d) ∙ h .ranged .straight i
 
   pub literal-held : Held next (j + 1) (largest named (goal + 1))
   literal-held = record {
@@ -134,8 +142,9 @@ module _ (b : Book) (c j kind goal want named : ℕ) (h : Held b j named) (last 
           goal-flags = r .goal-flags;
           clause-flags = r .clause-flags;
           variants = r .variants;
-          kinds = every-set (λ (n : ℕ). n ≤ 3) (b .«literal_kind») (8 * c + j) kind 0 known (r .kinds);
-          wants = every-set (λ (n : ℕ). n < 65536) (b .«literal_want») (8 * c + j) want 0 fits (r .wants);
+          kinds = every-set (λ (n : ℕ). n ≤ 5) (b .«literal_kind») (8 * c + j) kind 0 known (r .kinds);
+          wants = every-set (λ (n : ℕ). n < 4294967296) (b .«literal_want») (8 * c + j) want 0 fits (r .wants);
+          straight = λ i. straight-by i (ℕ-discrete i (8 * c + j));
         };
     few-goals = h .few-goals;
     few-clauses = h .few-clauses;

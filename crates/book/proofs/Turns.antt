@@ -10,10 +10,11 @@ use lib.Dec.{ltb, eqb}
 use borrow.Author.Tests.{ltb-false}
 use Rattle.definitions.specs.Refusal.{Refusable, refused, accepted, Test, _refuses_, unless}
 use Rattle.definitions.specs.Book as said
-use Rattle.definitions.specs.Book.{Command, goal, clause, positive, negative, end, unknown, command, width, byte, u16, bit0, Positive}
-use Rattle.definitions.specs.Book.{Negative, add-clause, add-literal, clause-count, literals-so-far, apply-command, whole-command, is-end}
+use Rattle.definitions.specs.Book.{Command, goal, clause, positive, ranged, negative, end, unknown, command, width, byte, u16, bit0}
+use Rattle.definitions.specs.Book.{want-of, between, Positive, Negative}
+use Rattle.definitions.specs.Book.{add-clause, add-literal, clause-count, literals-so-far, apply-command, whole-command, is-end}
 use Rattle.definitions.specs.Book.{read-from}
-use Rattle.definitions.proofs.Book.{literals-none}
+use Rattle.definitions.proofs.Book.{literals-none, want-straight}
 use Rattle.laws.proofs.Spans.{length-span}
 use Rattle.book.specs.declared.Book.{Book}
 use Rattle.book.specs.View.{clause-viewed, literal-viewed, view, Tiles}
@@ -64,8 +65,9 @@ module _ {A : Type 0} where
 numbered : (c : Command) (after : List ℕ) (n : Counts) → Numbered (whole-tests c after n)
 numbered goal after n = (omega arith, (omega arith, (omega arith, tt)))
 numbered clause after n = (omega arith, (omega arith, (omega arith, (omega arith, tt))))
-numbered positive after n = (omega arith, (omega arith, (omega arith, (omega arith, tt))))
-numbered negative after n = (omega arith, (omega arith, (omega arith, (omega arith, tt))))
+numbered positive after n = (omega arith, (omega arith, (omega arith, (omega arith, (omega arith, tt)))))
+numbered ranged after n = (omega arith, (omega arith, (omega arith, (omega arith, (omega arith, tt)))))
+numbered negative after n = (omega arith, (omega arith, (omega arith, (omega arith, (omega arith, tt)))))
 numbered end after n = (omega arith, (omega arith, (omega arith, (omega arith, tt))))
 numbered unknown after n = (omega arith, (omega arith, tt))
 
@@ -73,7 +75,8 @@ numbered unknown after n = (omega arith, (omega arith, tt))
 abbrev pub done : Command → List ℕ → said.Book → said.Book
 done goal after book = book ++ (bare-goal (byte after 0) ∷ [])
 done clause after book = add-clause (bare-clause (u16 after 0) (byte after 2)) book
-done positive after book = add-literal (Positive (u16 after 0) (u16 after 2) (bit0 (byte after 4))) book
+done positive after book = add-literal (Positive (u16 after 0) (want-of (u16 after 2)) (bit0 (byte after 4))) book
+done ranged after book = add-literal (Positive (u16 after 0) (between (u16 after 2) (u16 after 4)) (bit0 (byte after 6))) book
 done negative after book = add-literal (Negative (u16 after 0) (bit0 (byte after 2))) book
 done end after book = book
 done unknown after book = book
@@ -92,12 +95,12 @@ module _ (b : Book) (literals named : ℕ) (h : Held b literals named) where
   literals-counted : literals-so-far (view b) ≡ literals
   literals-counted = literals-counted-by (b .clauses) refl
 
-  literal-counted : (flags : ℕ) (next : said.Book)
-      → unless (literal-tests flags (clause-count (view b)) (literals-so-far (view b))) next
-      ≡ unless (literal-tests flags (b .clauses) literals) next
-  literal-counted flags next =
-      ap (λ (n : ℕ). unless (literal-tests flags n (literals-so-far (view b))) next) (clauses-counted b (h .tiles))
-      ∙ ap (λ (n : ℕ). unless (literal-tests flags (b .clauses) n) next) literals-counted
+  literal-counted : (flags : ℕ) (crossed : Bool) (next : said.Book)
+      → unless (literal-tests flags crossed (clause-count (view b)) (literals-so-far (view b))) next
+      ≡ unless (literal-tests flags crossed (b .clauses) literals) next
+  literal-counted flags crossed next =
+      ap (λ (n : ℕ). unless (literal-tests flags crossed n (literals-so-far (view b))) next) (clauses-counted b (h .tiles))
+      ∙ ap (λ (n : ℕ). unless (literal-tests flags crossed (b .clauses) n) next) literals-counted
 
   -- the definition's tests are those of the counts
   apply-tests : (c : Command) (after : List ℕ)
@@ -106,8 +109,12 @@ module _ (b : Book) (literals named : ℕ) (h : Held b literals named) where
   apply-tests clause after =
       ap (λ (n : ℕ). unless (clause-tests (byte after 2) n (clause-count (view b))) (done clause after (view b))) (goals-counted b)
       ∙ ap (λ (n : ℕ). unless (clause-tests (byte after 2) (b .goals) n) (done clause after (view b))) (clauses-counted b (h .tiles))
-  apply-tests positive after = literal-counted (byte after 4) (done positive after (view b))
-  apply-tests negative after = literal-counted (byte after 2) (done negative after (view b))
+  apply-tests positive after =
+      ap (λ (t : Bool). unless (literal-tests (byte after 4) t (clause-count (view b)) (literals-so-far (view b)))
+      (done positive after (view b))) (want-straight (u16 after 2))
+      ∙ literal-counted (byte after 4) false (done positive after (view b))
+  apply-tests ranged after = literal-counted (byte after 6) (ltb (u16 after 4) (u16 after 2)) (done ranged after (view b))
+  apply-tests negative after = literal-counted (byte after 2) false (done negative after (view b))
   apply-tests end after =
       ap (λ (t : Bool). unless (ltb 0 (length after) refuses 7 ∷ eqb (length (view b)) 0 refuses 8 ∷ not t refuses 6 ∷ []) (view b))
       (h .naming (length (view b)))

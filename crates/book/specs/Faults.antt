@@ -10,12 +10,14 @@ use Rattle.definitions.specs.Book.{
   goal,
   clause,
   positive,
+  ranged,
   negative,
   end,
   unknown,
   command,
   width,
   byte,
+  u16,
   most-goals,
   most-clauses,
   most-literals,
@@ -26,6 +28,7 @@ abbrev pub marked : Command → ℕ
 marked goal = width goal
 marked clause = width clause
 marked positive = width positive
+marked ranged = width ranged
 marked negative = width negative
 marked end = width end
 marked unknown = 255
@@ -41,8 +44,9 @@ goal-tests flags goals = ltb 3 flags refuses 4 ∷ leb most-goals goals refuses 
 abbrev pub clause-tests : (flags goals clauses : ℕ) → List Test
 clause-tests flags goals clauses = eqb goals 0 refuses 3 ∷ ltb 3 flags refuses 4 ∷ leb most-clauses clauses refuses 5 ∷ []
 
-abbrev pub literal-tests : (flags clauses literals : ℕ) → List Test
-literal-tests flags clauses literals = eqb clauses 0 refuses 3 ∷ ltb 1 flags refuses 4 ∷ leb most-literals literals refuses 5 ∷ []
+abbrev pub literal-tests : (flags : ℕ) → (crossed : Bool) → (clauses literals : ℕ) → List Test
+literal-tests flags crossed clauses literals =
+    eqb clauses 0 refuses 3 ∷ ltb 1 flags refuses 4 ∷ crossed refuses 32 ∷ leb most-literals literals refuses 5 ∷ []
 
 abbrev pub end-tests : (left goals named : ℕ) → List Test
 end-tests left goals named = ltb 0 left refuses 7 ∷ eqb goals 0 refuses 8 ∷ not (leb named goals) refuses 6 ∷ []
@@ -62,8 +66,9 @@ counts goals clauses literals named = record { goals = goals; clauses = clauses;
 abbrev pub command-tests : Command → List ℕ → Counts → List Test
 command-tests goal after n = goal-tests (byte after 0) (n .goals)
 command-tests clause after n = clause-tests (byte after 2) (n .goals) (n .clauses)
-command-tests positive after n = literal-tests (byte after 4) (n .clauses) (n .literals)
-command-tests negative after n = literal-tests (byte after 2) (n .clauses) (n .literals)
+command-tests positive after n = literal-tests (byte after 4) false (n .clauses) (n .literals)
+command-tests ranged after n = literal-tests (byte after 6) (ltb (u16 after 4) (u16 after 2)) (n .clauses) (n .literals)
+command-tests negative after n = literal-tests (byte after 2) false (n .clauses) (n .literals)
 command-tests end after n = end-tests (length after) (n .goals) (n .named)
 command-tests unknown after n = true refuses 2 ∷ []
 

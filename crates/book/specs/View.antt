@@ -1,5 +1,5 @@
 -- What the arrays of a book mean: the book of the definitions that they hold, and the soundness that reading gives and every use keeps.
-use Prim.Native.Nat.{ℕ, zero, suc, _+_, _*_, _≤_, _<_}
+use Prim.Native.Nat.{ℕ, zero, suc, _+_, _*_, _/_, _%_, _≤_, _<_}
 use mathlib.Core.Path.{_≡_}
 use mathlib.Core.Bool.{Bool, true, false}
 use mathlib.Core.List.{List, []}
@@ -12,17 +12,29 @@ use Rattle.book.specs.declared.Book.{Book}
 use Rattle.book.specs.declared.Reading.{Reading}
 use Rattle.book.specs.declared.Literal.{Literal}
 
+-- what a literal wants, by the numbers that are kept of it: a range, or one variant, with 0 for any
+abbrev pub wanted : (ranged : Bool) → (want high : ℕ) → said.Want
+wanted true want high = said.between want high
+wanted false want high = said.want-of want
+
 -- a literal by its sign
-abbrev pub signed : (negative : Bool) → (goal want : ℕ) → (outsized : Bool) → said.Literal
+abbrev pub signed : (negative : Bool) → (goal : ℕ) → (want : said.Want) → (outsized : Bool) → said.Literal
 signed true goal want outsized = said.Negative goal outsized
 signed false goal want outsized = said.Positive goal want outsized
 
--- a literal by the numbers that a book keeps of it
-abbrev pub kept : (kind goal want : ℕ) → said.Literal
-kept kind goal want = signed (said.bit1 kind) goal want (said.bit0 kind)
+abbrev pub bit2 : ℕ → Bool
+bit2 kind = eqb (kind / 4 % 2) 1
+
+-- a literal by its numbers
+abbrev pub numbered : (kind goal want high : ℕ) → said.Literal
+numbered kind goal want high = signed (said.bit1 kind) goal (wanted (bit2 kind) want high) (said.bit0 kind)
 
 abbrev pub meant : Literal → said.Literal
-meant l = kept (l .kind) (l .goal) (l .want)
+meant l = numbered (l .kind) (l .goal) (l .want) (l .high)
+
+-- a literal by the numbers that a book keeps of it
+abbrev pub kept : (kind goal want : ℕ) → said.Literal
+kept kind goal want = numbered kind goal (want % 65536) (want / 65536)
 
 -- the literal at a place of the arrays
 abbrev pub literal-viewed : Book → ℕ → said.Literal
@@ -79,8 +91,9 @@ pub record Ranged (b : Book) : Type 0 where
   pub goal-flags : (g : ℕ) → getD (b .«goal_flags») g 0 ≤ 3
   pub clause-flags : (c : ℕ) → getD (b .«clause_flags») c 0 ≤ 3
   pub variants : (c : ℕ) → getD (b .«clause_variant») c 0 < 65536
-  pub kinds : (i : ℕ) → getD (b .«literal_kind») i 0 ≤ 3
-  pub wants : (i : ℕ) → getD (b .«literal_want») i 0 < 65536
+  pub kinds : (i : ℕ) → getD (b .«literal_kind») i 0 ≤ 5
+  pub wants : (i : ℕ) → getD (b .«literal_want») i 0 < 4294967296
+  pub straight : (i : ℕ) → said.crossed (literal-viewed b i) ≡ false
 
 pub record Sound (b : Book) : Type 0 where
   pub full : Full b

@@ -2,8 +2,10 @@
 // any place: past an array's size there is nothing.
 use crate::Literal;
 ghost use mathlib.Core.Path.{_≡_};
+ghost use Prim.Native.Nat.{_/_, _%_};
 ghost use Rattle.definitions.specs.Book.{bit0, bit1};
 ghost use Rattle.book.specs.Access.{entry, literal-read};
+ghost use Rattle.book.specs.View.{bit2};
 
 fn goal_byte(a: &[u8; 64], goal: usize) -> u8
     ensures { λ r. ⌜ r ≡ entry 64 (now (a .entry)) goal ⌝ }
@@ -75,11 +77,24 @@ pub fn literal_count(len: &[u8; 256], clause: usize) -> usize
     clause_byte(len, clause) as usize
 }
 
+// The ends of what a literal wants, out of the number that keeps both.
+fn low_end(ends: u32) -> u16
+    ensures { λ r. ⌜ r ≡ ends % 65536 ⌝ }
+{
+    (ends % 65536) as u16
+}
+
+fn high_end(ends: u32) -> u16
+    ensures { λ r. ⌜ r ≡ ends / 65536 ⌝ }
+{
+    (ends / 65536) as u16
+}
+
 // Literal `at` of a clause.
 pub fn literal_at(
     kind: &[u8; 2048],
     goal: &[u16; 2048],
-    want: &[u16; 2048],
+    want: &[u32; 2048],
     clause: usize,
     at: usize,
 ) -> Literal
@@ -90,6 +105,7 @@ pub fn literal_at(
             goal: 0,
             kind: 0,
             want: 0,
+            high: 0,
         };
     }
     if at >= 8 {
@@ -97,13 +113,15 @@ pub fn literal_at(
             goal: 0,
             kind: 0,
             want: 0,
+            high: 0,
         };
     }
     let place = 8 * clause + at;
     Literal {
         goal: (goal[place] % 256) as u8,
         kind: kind[place],
-        want: want[place],
+        want: low_end(want[place]),
+        high: high_end(want[place]),
     }
 }
 
@@ -112,4 +130,11 @@ pub fn is_negative(l: Literal) -> bool
     ensures { λ r. ⌜ r ≡ bit1 (l .kind) ⌝ }
 {
     l.kind / 2 % 2 == 1
+}
+
+// The literal wants a range of variants.
+pub fn is_ranged(l: Literal) -> bool
+    ensures { λ r. ⌜ r ≡ bit2 (l .kind) ⌝ }
+{
+    l.kind / 4 % 2 == 1
 }

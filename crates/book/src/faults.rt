@@ -1,6 +1,7 @@
 // The refusals of a book's bytes (document 01, "Refused by the input"), in its order: for each command 1 (its byte), 2, 1 (its
-// operands), 3, 4, 5, and for the end command 7, 8, 6.
+// operands), 3, 4, 32, 5, and for the end command 7, 8, 6.
 use crate::decode::byte;
+use crate::decode::is_crossed;
 use crate::widths::CLAUSE;
 use crate::widths::END;
 use crate::widths::GOAL;
@@ -37,14 +38,17 @@ fn clause_fault(flags: u8, goals: usize, clauses: usize) -> u8
     0
 }
 
-fn literal_fault(flags: u8, clauses: usize, literals: usize) -> u8
-    ensures { λ r. ⌜ r ≡ fault (literal-tests flags clauses literals) ⌝ }
+fn literal_fault(flags: u8, crossed: bool, clauses: usize, literals: usize) -> u8
+    ensures { λ r. ⌜ r ≡ fault (literal-tests flags crossed clauses literals) ⌝ }
 {
     if clauses == 0 {
         return 3;
     }
     if flags > 1 {
         return 4;
+    }
+    if crossed {
+        return 32;
     }
     if literals >= 8 {
         return 5;
@@ -102,5 +106,6 @@ pub(crate) fn next_fault(
     if b == END {
         return end_fault(left, goals, named);
     }
-    literal_fault(flags, clauses, literals)
+    let crossed = is_crossed(bytes, at, b);
+    literal_fault(flags, crossed, clauses, literals)
 }

@@ -3,9 +3,11 @@
 use crate::Literal;
 use crate::Subst;
 use crate::access::is_negative;
+use crate::access::is_ranged;
 ghost use mathlib.Core.Path.{_≡_};
+ghost use Rattle.definitions.specs.Book.{high as highOf};
 ghost use Rattle.definitions.specs.Fitting.{gets-table, answer-fits, is-trivial, is-outsized};
-ghost use Rattle.book.specs.View.{meant};
+ghost use Rattle.book.specs.View.{meant, wanted, bit2};
 ghost use Rattle.book.specs.Fitting.{subst-of};
 
 // Does this literal get a table? (logic.rs `abstract_positive_literal`, `abstract_negative_literal`)
@@ -15,6 +17,19 @@ pub fn gets_table(l: Literal) -> bool
     l.kind % 2 != 1
 }
 
+// The largest variant that a positive literal wants. The least is its `want`, whichever kind it has.
+fn high(l: Literal) -> u16
+    ensures { λ r. ⌜ r ≡ highOf (wanted (bit2 (l .kind)) (l .want) (l .high)) ⌝ }
+{
+    if is_ranged(l) {
+        return l.high;
+    }
+    if l.want == 0 {
+        return 65535;
+    }
+    l.want
+}
+
 // Does an answer of this variant fit the literal? (resolvent.rs `apply_answer_subst`)
 pub fn answer_fits(l: Literal, variant: u16) -> bool
     ensures { λ r. ⌜ r ≡ answer-fits (meant l) variant ⌝ }
@@ -22,13 +37,13 @@ pub fn answer_fits(l: Literal, variant: u16) -> bool
     if is_negative(l) {
         return true;
     }
-    if l.want == 0 {
-        return true;
-    }
     if variant == 0 {
         return true;
     }
-    variant == l.want
+    if variant < l.want {
+        return false;
+    }
+    variant <= high(l)
 }
 
 // Is an answer of this variant trivial, so that no other is worth having? (`is_trivial_substitution`)

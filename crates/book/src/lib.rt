@@ -11,7 +11,7 @@ pub use crate::reader::read;
 
 // Goals, clauses and literals by number, so that each array can be lent alone. The clauses of goal g are the goal_len[g] clauses
 // from goal_first[g] on, and literal j of clause c stands at 8 * c + j. Flags are as in the bytes; of a literal's kind bit 0 says
-// outsized and bit 1 "not".
+// outsized, bit 1 "not" and bit 2 that it wants a range. What it wants is a variant (0: any), or low + 65536 * high.
 pub struct Book {
     pub goals: usize,
     pub clauses: usize,
@@ -23,14 +23,16 @@ pub struct Book {
     pub clause_len: [u8; 256],
     pub literal_kind: [u8; 2048],
     pub literal_goal: [u16; 2048],
-    pub literal_want: [u16; 2048],
+    pub literal_want: [u32; 2048],
 }
 
-// A literal by value, in four bytes, so that a strand with its literals stays small. A book's goals are below 64.
+// A literal by value, in six bytes, so that a strand with its literals stays small. A book's goals are below 64. `want` is the variant
+// that it wants (0: any), or the low end of a range, and `high` the range's high end.
 pub struct Literal {
     pub goal: u8,
     pub kind: u8,
     pub want: u16,
+    pub high: u16,
 }
 
 // What reading gives: number 0 and the book, or the number of a refusal and a blank book.

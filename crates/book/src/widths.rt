@@ -1,4 +1,4 @@
-// How many bytes of operands each command has, by its byte (document 01: 47 goal, 43 clause, 50 literal, 4E "not" literal, 45 end).
+// How many bytes of operands each command has, by its byte (document 01: 47 goal, 43 clause, 50 literal, 52 literal of a range, 4E "not" literal, 45 end).
 ghost use mathlib.Core.Path.{_≡_};
 ghost use Rattle.definitions.specs.Book.{command};
 ghost use Rattle.book.specs.Faults.{marked};
@@ -8,6 +8,8 @@ pub(crate) const GOAL: u8 = 0x47;
 pub(crate) const CLAUSE: u8 = 0x43;
 
 pub(crate) const POSITIVE: u8 = 0x50;
+
+pub(crate) const RANGED: u8 = 0x52;
 
 pub(crate) const NEGATIVE: u8 = 0x4E;
 
@@ -99,7 +101,7 @@ const WIDTHS: [u8; 256] = [
     255,
     5,
     255,
-    255,
+    7,
     255,
     255,
     255,

@@ -1,15 +1,20 @@
 -- What one goal, clause or literal more does to a book so far: its goals, its clauses, and the literals of its last clause.
-use Prim.Native.Nat.{ℕ, suc, _+_, _<_}
+use Prim.Native.Nat.{ℕ, zero, suc, _+_, _<_}
 use native.Mathlib.Omega.{arith}
 use mathlib.Core.Bool.{Bool, true, false}
 use mathlib.Core.Path.{_≡_, refl, sym, ap, _∙_}
 use mathlib.Core.List.{List, [], _∷_, _++_}
 use lib.ListN.{length, length-append}
-use lib.Dec.{eqb}
-use borrow.Author.Tests.{eq-eqb, ne-eqb, eqb-true}
+use lib.Dec.{eqb, ltb}
+use borrow.Author.Tests.{eq-eqb, ne-eqb, eqb-true, le-ltb}
 use Rattle.laws.proofs.Bools.{not-zero}
-use Rattle.definitions.specs.Book.{Literal, Clause, Goal, Book, clause-count, with-clauses, with-literals}
+use Rattle.definitions.specs.Book.{low, high, want-of, Literal, Clause, Goal, Book, clause-count, with-clauses, with-literals}
 use Rattle.definitions.specs.Book.{add-clause, add-to-last, add-literal, last-literals, literals-so-far}
+
+-- what 50 wants is no range whose ends are crossed
+pub want-straight : (v : ℕ) → ltb (high (want-of v)) (low (want-of v)) ≡ false
+want-straight zero = refl
+want-straight (suc v) = le-ltb (suc v) (suc v) (omega arith)
 
 pub clause-count-append : (gs hs : Book) → clause-count (gs ++ hs) ≡ clause-count gs + clause-count hs
 clause-count-append [] hs = omega arith

@@ -39,12 +39,23 @@ want-at-requires c κs =
     let a = b .before .before in
     subst (λ (y : ℕ). a .args .at + marked (command y) < length (a .args .bytes .now)) (sym (b .byte .ensures)) (a .pre)
 
-add-t10 : tie.Need-add-t10
-add-t10 c = search needs
+high-at-requires : tie.Need-high-at-requires
+high-at-requires c κs =
+    let b = c .before .before .before .before .before .before in
+    let a = b .before .before in
+    subst (λ (y : ℕ). a .args .at + marked (command y) < length (a .args .bytes .now)) (sym (b .byte .ensures)) (a .pre)
+
+ends-requires : tie.Need-ends-requires
+ends-requires c κs = search needs
+
+add-t12 : tie.Need-add-t12
+add-t12 c = search needs
 
 returns : tie.Need-returns
 returns c =
-    let u = c .before in
+    let h = c .before in
+    let t = h .before in
+    let u = t .before in
     let k = u .before in
     let f = k .before in
     let w = f .before in
@@ -53,9 +64,9 @@ returns c =
     let a = b .before .before .args in
     operands-are (a .bytes .now) (a .at) (b .byte .result) (v .width .result) (w .wide .result) (f .byte2 .result) (k .kind-of .result)
     (u .u16-at .result)
-    (c .want-at .result) (b .byte .ensures) (v .width .ensures) (w .wide .ensures .0) (f .byte2 .ensures) (k .kind-of .ensures)
-    (search needs) (search needs)
-    (u .u16-at .ensures) (c .want-at .ensures)
+    (t .want-at .result) (h .high-at .result) (c .ends .result) (b .byte .ensures) (v .width .ensures) (w .wide .ensures .0) (f .byte2 .ensures) (k .kind-of .ensures)
+    (search needs) (search needs) (search needs)
+    (u .u16-at .ensures) (t .want-at .ensures) (h .high-at .ensures) (c .ends .ensures)
 
 pub operands-at-spec : {M : Type 1} → statement M
 operands-at-spec =
@@ -70,5 +81,7 @@ operands-at-spec =
     add-u16-at
     u16-at-requires
     want-at-requires
-    add-t10
+    high-at-requires
+    ends-requires
+    add-t12
     returns)

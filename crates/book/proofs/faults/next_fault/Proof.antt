@@ -106,12 +106,16 @@ returns-6 c =
     (b .before .if1 .left) (b .byte .result) (w .width .result) (b .byte .ensures) (w .width .ensures)
     (e3 .if3 .left) (f .byte2 .result) (f .byte2 .ensures) (c .before .if6 .taken)
 
+is-crossed-requires : tie.Need-is-crossed-requires
+is-crossed-requires c κs = search needs
+
 literal-fault-requires : tie.Need-literal-fault-requires
 literal-fault-requires c κs = search needs
 
 returns-7 : tie.Need-returns-7
 returns-7 c =
-    let f = c .before .before .before .before in
+    let x = c .before in
+    let f = x .before .before .before .before in
     let e3 = f .before in
     let e2 = e3 .before in
     let w = e2 .before in
@@ -120,8 +124,8 @@ returns-7 c =
     c .literal-fault .ensures
     ∙ fault-literal (a .bytes .now) (a .at) (counts (a .goals) (a .clauses) (a .literals) (a .named))
     (b .before .if1 .left) (b .byte .result) (w .width .result) (b .byte .ensures) (w .width .ensures)
-    (e3 .if3 .left) (f .byte2 .result) (f .byte2 .ensures)
-    (e2 .if2 .left) (c .before .before .before .if4 .left) (c .before .before .if5 .left) (c .before .if6 .left)
+    (e3 .if3 .left) (f .byte2 .result) (f .byte2 .ensures) (x .is-crossed .result) (x .is-crossed .ensures)
+    (e2 .if2 .left) (x .before .before .before .if4 .left) (x .before .before .if5 .left) (x .before .if6 .left)
 
 pub next-fault-spec : {M : Type 1} → statement M
 next-fault-spec =
@@ -143,5 +147,6 @@ next-fault-spec =
     returns-5
     end-fault-requires
     returns-6
+    is-crossed-requires
     literal-fault-requires
     returns-7)
