@@ -86,7 +86,7 @@ pub fn serve_all<'a>(
     clause_len: &'a [u8; 256],
     literal_kind: &'a [u8; 2048],
     literal_goal: &'a [u16; 2048],
-    literal_want: &'a [u16; 2048],
+    literal_want: &'a [u32; 2048],
     calls: &'a [u64; NUMBERS],
     replies: &mut [u64; NUMBERS],
 ) -> Served

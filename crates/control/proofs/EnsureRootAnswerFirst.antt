@@ -21,7 +21,7 @@ use Rattle.book.specs.View.{kept, meant, literal-viewed, clause-viewed}
 use Rattle.book.specs.declared.Book.{Book}
 use Rattle.book.specs.declared.Literal.{Literal}
 use Rattle.book.proofs.Looks.{literal-in}
-use Rattle.book.proofs.MoreLiterals.{goal-of-signed}
+use Rattle.book.proofs.MoreLiterals.{goal-of-kept}
 use Rattle.strands.specs.declared.Strand.{Strand}
 use Rattle.strands.specs.Making.{clause-of, nothing}
 use Rattle.strands.specs.View.{Sound, seen}
@@ -49,8 +49,7 @@ module _ (b : Book) (sound : books.Sound b) (goals : ℕ) (few : goals ≤ 64) w
       goal-is : getD (b .«literal_goal») place 0 % 256 ≡ getD (b .«literal_goal») place 0
       goal-is =
           let in-clause = all-span (literal-viewed b) (8 * c) count j named l in
-          let is = goal-of-signed (said.bit1 (getD (b .«literal_kind») place 0)) (getD (b .«literal_goal») place 0)
-          (getD (b .«literal_want») place 0) (said.bit0 (getD (b .«literal_kind») place 0)) in
+          let is = goal-of-kept (getD (b .«literal_kind») place 0) (getD (b .«literal_goal») place 0) (getD (b .«literal_want») place 0) in
           omega arith
 
       literal-means : meant (read c j) ≡ literal-viewed b place

@@ -125,7 +125,7 @@ module _ (time : TimeStamp) (clock-at : ℕ → TimeStamp) (s : Strand) (a : Ans
         ∙ fitting c (delay (answer a .delayed-subgoals) (less .ex-clause))
     into-by-view false copies copy = refl
 
-    module _ (goal want : ℕ) (outsized : Bool) where
+    module _ (goal : ℕ) (want : books.Want) (outsized : Bool) where
       abbrev positive : books.Literal
       positive = books.Positive goal want outsized
 

@@ -112,7 +112,7 @@ pub fn next_strand(
 fn clause_literals(
     literal_kind: &[u8; 2048],
     literal_goal: &[u16; 2048],
-    literal_want: &[u16; 2048],
+    literal_want: &[u32; 2048],
     c: usize,
 ) -> [Literal; 8]
     ensures { λ r. ⌜ r ≡ clause-literals (now («literal_kind» .entry)) (now («literal_goal» .entry)) (now («literal_want» .entry)) c 8 ⌝ }
@@ -121,6 +121,7 @@ fn clause_literals(
         goal: 0,
         kind: 0,
         want: 0,
+        high: 0,
     };
     let mut literals = [l; 8];
     let mut i: usize = 0;
@@ -139,7 +140,7 @@ fn first_strand(
     clause_len: &[u8; 256],
     literal_kind: &[u8; 2048],
     literal_goal: &[u16; 2048],
-    literal_want: &[u16; 2048],
+    literal_want: &[u32; 2048],
 ) -> Strand
     ensures { λ r. ⌜ r ≡ first-strand (now («clause_variant» .entry)) (now («clause_flags» .entry)) (now («clause_len» .entry))
         (now («literal_kind» .entry)) (now («literal_goal» .entry)) (now («literal_want» .entry)) c ⌝ }
@@ -162,7 +163,7 @@ pub fn strand_in_hand(
     clause_len: &[u8; 256],
     literal_kind: &[u8; 2048],
     literal_goal: &[u16; 2048],
-    literal_want: &[u16; 2048],
+    literal_want: &[u32; 2048],
 ) -> Strand
     ensures { λ r. ⌜ r ≡ strand-in-hand (now («clause_variant» .entry)) (now («clause_flags» .entry)) (now («clause_len» .entry))
         (now («literal_kind» .entry)) (now («literal_goal» .entry)) (now («literal_want» .entry)) s w c ⌝ }

@@ -59,6 +59,7 @@ pub fn last_literal(s: Strand) -> Literal
             goal: 0,
             kind: 0,
             want: 0,
+            high: 0,
         },
         Found::There(l) => l,
     }

@@ -263,7 +263,7 @@ fn in_hand<'a>(
     clause_len: &'a [u8; 256],
     literal_kind: &'a [u8; 2048],
     literal_goal: &'a [u16; 2048],
-    literal_want: &'a [u16; 2048],
+    literal_want: &'a [u32; 2048],
 ) -> Strand {
     strand_in_hand(
         s,

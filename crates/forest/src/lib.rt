@@ -23,7 +23,7 @@ pub struct Forest {
     clause_len: [u8; 256],
     literal_kind: [u8; 2048],
     literal_goal: [u16; 2048],
-    literal_want: [u16; 2048],
+    literal_want: [u32; 2048],
     count: usize,
     goal: [u8; 64],
     coinductive: [u8; 64],

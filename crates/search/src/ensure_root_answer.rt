@@ -126,7 +126,7 @@ pub fn pick(
     clause_len: &[u8; 256],
     literal_kind: &[u8; 2048],
     literal_goal: &[u16; 2048],
-    literal_want: &[u16; 2048],
+    literal_want: &[u32; 2048],
 ) -> Picked
     ensures { λ r. ⌜ r ≡ picked (now (len .entry)) (now (goal .entry)) (now (coinductive .entry)) (now (floundered .entry))
         (now («entry_table» .entry)) (now («answer_next» .entry)) (now («answer_tail» .entry)) (now («answer_len» .entry))
@@ -465,7 +465,7 @@ pub fn ensure_root_answer<'a>(
     clause_len: &'a [u8; 256],
     literal_kind: &'a [u8; 2048],
     literal_goal: &'a [u16; 2048],
-    literal_want: &'a [u16; 2048],
+    literal_want: &'a [u32; 2048],
 ) -> Ran
     ensures { λ r. ⌜ ((goals clauses : ℕ)
         → Comes (book-of goals clauses (now («goal_flags» .entry)) (now («goal_first» .entry)) (now («goal_len» .entry)) (now

@@ -27,7 +27,7 @@ pub struct Search {
     pub clause_len: [u8; 256],
     pub literal_kind: [u8; 2048],
     pub literal_goal: [u16; 2048],
-    pub literal_want: [u16; 2048],
+    pub literal_want: [u32; 2048],
     pub count: usize,
     pub goal: [u8; 64],
     pub coinductive: [u8; 64],

@@ -181,7 +181,7 @@ Does model before after = (strands : List Strand) → after strands ≡ model (b
 
 -- BLANK: all zero, with nothing selected
 abbrev pub blank-literal : Literal
-blank-literal = record { goal = 0; kind = 0; want = 0 }
+blank-literal = record { goal = 0; kind = 0; want = 0; high = 0 }
 
 abbrev pub blank-floundered : Floundered
 blank-floundered = record { literal = blank-literal; time = 0 }

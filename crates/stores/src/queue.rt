@@ -53,6 +53,7 @@ pub fn blank_strands() -> Strands
         goal: 0,
         kind: 0,
         want: 0,
+        high: 0,
     };
     let f = Floundered {
         literal: l,

@@ -118,7 +118,7 @@ merge-delayed : (st : SolveState) (s : held.Strand) (b : Bool) (d : Stops said.E
 merge-delayed st s b (stop n) = refl
 merge-delayed st s b (go y) = refl
 
-pub merge-into-takes : (st : SolveState) (s : held.Strand) (goal want : ℕ) (outsized : Bool) (a : said.Answer)
+pub merge-into-takes : (st : SolveState) (s : held.Strand) (goal : ℕ) (want : books.Want) (outsized : Bool) (a : said.Answer)
     → answer-fits (books.Positive goal want outsized) (a .variant) ≡ true
     → merge-into st s (books.Positive goal want outsized) a
     ≡ ((delay (a .delayed-subgoals) (s .ex-clause) >>= λ x. go (taking (a .ambiguous) x)) >>= λ x. go (merged (held.with-ex-clause s x) st))

@@ -12,7 +12,7 @@ use Rattle.strands.specs.declared.Strand.{Strand}
 -- What an array gives past its end.
 
 abbrev pub no-literal : Literal
-no-literal = record { goal = 0; kind = 0; want = 0 }
+no-literal = record { goal = 0; kind = 0; want = 0; high = 0 }
 
 abbrev pub no-floundered : Floundered
 no-floundered = record { literal = no-literal; time = 0 }

@@ -55,7 +55,7 @@ strand-of variant flags literals count = new-strand variant (books.bit1 flags) (
 -- A delayed goal as a literal that wants any variant, and what that means.
 
 abbrev pub wants-any : ℕ → Literal
-wants-any goal = record { goal = goal; kind = 0; want = 0 }
+wants-any goal = record { goal = goal; kind = 0; want = 0; high = 0 }
 
 abbrev pub positive : ℕ → books.Literal
 positive goal = books.Positive goal books.any false

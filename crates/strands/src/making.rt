@@ -30,6 +30,7 @@ fn new_strand(
         goal: 0,
         kind: 0,
         want: 0,
+        high: 0,
     };
     let f = Floundered {
         literal: l,
@@ -58,6 +59,7 @@ pub fn blank() -> Strand
         goal: 0,
         kind: 0,
         want: 0,
+        high: 0,
     };
     new_strand(0, false, false, [l; 8], 0)
 }
@@ -81,6 +83,7 @@ fn positives(goals: [u8; 8], n: usize) -> [Literal; 8]
         goal: 0,
         kind: 0,
         want: 0,
+        high: 0,
     };
     let mut made = [l; 8];
     let mut i = 0;
@@ -89,6 +92,7 @@ fn positives(goals: [u8; 8], n: usize) -> [Literal; 8]
             goal: goals[i],
             kind: 0,
             want: 0,
+            high: 0,
         };
         made[i] = p;
         i += 1;
