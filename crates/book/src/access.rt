@@ -78,13 +78,13 @@ pub fn literal_count(len: &[u8; 256], clause: usize) -> usize
 }
 
 // The ends of what a literal wants, out of the number that keeps both.
-fn low_end(ends: u32) -> u16
+pub fn low_end(ends: u32) -> u16
     ensures { λ r. ⌜ r ≡ ends % 65536 ⌝ }
 {
     (ends % 65536) as u16
 }
 
-fn high_end(ends: u32) -> u16
+pub fn high_end(ends: u32) -> u16
     ensures { λ r. ⌜ r ≡ ends / 65536 ⌝ }
 {
     (ends / 65536) as u16

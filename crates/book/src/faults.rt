@@ -50,10 +50,7 @@ fn literal_fault(flags: u8, crossed: bool, clauses: usize, literals: usize) -> u
     if crossed {
         return 32;
     }
-    if literals >= 8 {
-        return 5;
-    }
-    0
+    if literals >= 8 { 5 } else { 0 }
 }
 
 fn end_fault(left: usize, goals: usize, named: usize) -> u8

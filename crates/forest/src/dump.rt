@@ -5,12 +5,13 @@
 //     table   = tI gGOAL fFLOUNDERED mMODE AK{ answer} QK{ strand}
 //     answer  = (vV D[goals] aAMBIGUOUS)
 //     strand  = (vV oOUTSIZED aAMBIGUOUS S[literals] D[goals] tANSWERTIME F[literal@time,...] SEL pLASTPURSUED)
-//     literal = +GOAL/WANT or -GOAL, with a final ! if outsized
+//     literal = +GOAL/WANT, +GOAL/LOW-HIGH or -GOAL, with a final ! if outsized
 //     SEL     = s- or sSUBGOALINDEX:TABLE:ANSWERINDEX
 //
 // The bytes go to a buffer that the caller lends; `at` is how many are there, each function takes it and returns the new one.
 use crate::Forest;
 use book::Literal;
+use book::access::is_ranged;
 use control::ensure_root_answer::strand_in_hand;
 use strands::Answer;
 use strands::Floundered;
@@ -19,7 +20,7 @@ use strands::Strand;
 use strands::literals::is_negative;
 ghost use Prim.Native.Nat.{_<_};
 
-// No dump is longer: 256 strands of at most 256 bytes, 256 answers of at most 64 and 64 tables of at most 64, with the line's head.
+// No dump is longer: 256 strands of at most 320 bytes, 256 answers of at most 64 and 64 tables of at most 64, with the line's head.
 pub const LONGEST_DUMP: usize = 131072;
 
 // What doesn't fit is left out.
@@ -86,7 +87,11 @@ fn signed(out: &mut [u8], at: usize, l: Literal) -> usize {
         return counted(out, at, b"-", l.goal as u64);
     }
     let a = counted(out, at, b"+", l.goal as u64);
-    counted(out, a, b"/", l.want as u64)
+    let b = counted(out, a, b"/", l.want as u64);
+    if is_ranged(l) {
+        return counted(out, b, b"-", l.high as u64);
+    }
+    b
 }
 
 fn literal(out: &mut [u8], at: usize, l: Literal) -> usize {

@@ -116,7 +116,7 @@ fn all(out: &mut [u8], book: &[u8]) -> usize {
 }
 
 fn main() {
-    let mut bytes = [0u8; 16384];
+    let mut bytes = [0u8; 20480];
     let got = input(&mut bytes);
     if !got.whole {
         io::write_all(2, b"in_place_run: the input can't be read\n");

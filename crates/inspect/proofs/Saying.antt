@@ -1,17 +1,20 @@
 -- What the proofs of the words cite: texts put down one after the other with a pen are put down as one, a lemma for each way out of
 -- each function. Assumes nothing.
-use Prim.Native.Nat.{ℕ, zero, suc}
+use Prim.Native.Nat.{ℕ, zero, suc, _/_, _%_}
 use mathlib.Core.Bool.{Bool, true, false}
 use mathlib.Core.Path.{_≡_, refl, sym, ap, _∙_}
 use mathlib.Core.List.{List, _++_, append-nil}
+use lib.ListN.{getD, drop}
+use lib.Dec.{eqb}
 use borrow.Author.Tests.{eq-eqb, ne-eqb}
 use Rattle.definitions.specs.Ascii.{ascii}
 use Rattle.definitions.specs.Listing.{decimal}
-use Rattle.definitions.specs.Book.{bit0, bit1}
-use Rattle.book.specs.View.{signed}
+use Rattle.definitions.specs.Book.{Want, want-of, bit0, bit1}
+use Rattle.book.specs.View.{wanted, bit2, signed, kept}
 use Rattle.pen.specs.Pen.{Pen, put-all}
 use Rattle.pen.proofs.Putting.{put-two, put-nothing}
-use Rattle.inspect.specs.Words.{mark, slashed, name-words, literal-words, before, head-words, goal-line, sentence, refusal-words}
+use Rattle.inspect.specs.Words.{mark, slashed, ranged, want-words, name-words, literal-words, before, head-words, goal-line}
+use Rattle.inspect.specs.Words.{sentences, sentence-in, sentence, refusal-words}
 
 pub mark-on : (on : Bool) (w : List ℕ) (p q : Pen) → on ≡ true → q ≡ put-all w p → q ≡ put-all (mark on w) p
 mark-on on w p q e f = rw e f
@@ -29,27 +32,49 @@ unfolding slashed
 slashed-part n v p q r s e f g h =
     rw (ne-eqb v 0 e) (put-two (decimal n) (ascii "/" ++ decimal v) p q s f (put-two (ascii "/") (decimal v) q r s g h))
 
-pub name-not : (negative : Bool) (goal want : ℕ) (p q r : Pen) → negative ≡ true → q ≡ put-all (ascii "not ") p
+pub range-said : (n least most : ℕ) (p q r s t u : Pen) → q ≡ put-all (decimal n) p → r ≡ put-all (ascii "/") q
+    → s ≡ put-all (decimal least) r → t ≡ put-all (ascii "-") s → u ≡ put-all (decimal most) t → u ≡ put-all (ranged n least most) p
+unfolding ranged
+range-said n least most p q r s t u e f g h i =
+    put-two (decimal n) _ p q u e
+    (put-two (ascii "/") _ q r u f (put-two (decimal least) _ r s u g (put-two (ascii "-") (decimal most) s t u h i)))
+
+pub want-range : (range : Bool) (goal low high : ℕ) (p q : Pen) → range ≡ true → q ≡ put-all (ranged goal low high) p
+    → q ≡ put-all (want-words goal (wanted range low high)) p
+want-range range goal low high p q e f = rw e f
+
+one-words : (goal low : ℕ) → slashed goal low ≡ want-words goal (want-of low)
+one-words goal zero = refl
+one-words goal (suc v) = refl
+
+pub want-one : (range : Bool) (goal low high : ℕ) (p q : Pen) → range ≡ false → q ≡ put-all (slashed goal low) p
+    → q ≡ put-all (want-words goal (wanted range low high)) p
+want-one range goal low high p q e f = rw e (f ∙ ap (λ (w : List ℕ). put-all w p) (one-words goal low))
+
+pub name-not : (kind goal : ℕ) (want : Want) (n : Bool) (p q r : Pen) → n ≡ bit1 kind → n ≡ true → q ≡ put-all (ascii "not ") p
     → r ≡ put-all (decimal goal) q
-    → r ≡ put-all (name-words negative goal want) p
-name-not negative goal want p q r e f g = rw e (put-two (ascii "not ") (decimal goal) p q r f g)
+    → r ≡ put-all (name-words (bit1 kind) goal want) p
+name-not kind goal want n p q r i e f g = rw (sym i ∙ e) (put-two (ascii "not ") (decimal goal) p q r f g)
 
-pub name-plain : (negative : Bool) (goal n want : ℕ) (p q : Pen) → negative ≡ false → n ≡ goal → q ≡ put-all (slashed n want) p
-    → q ≡ put-all (name-words negative goal want) p
-name-plain negative goal n want p q e i f = rw e (f ∙ ap (λ (m : ℕ). put-all (slashed m want) p) i)
+pub name-plain : (kind goal ends : ℕ) (n range : Bool) (m low high : ℕ) (p q : Pen) → n ≡ bit1 kind → n ≡ false → range ≡ bit2 kind
+    → m ≡ goal → low ≡ ends % 65536 → high ≡ ends / 65536 → q ≡ put-all (want-words m (wanted range low high)) p
+    → q ≡ put-all (name-words (bit1 kind) goal (wanted (bit2 kind) (ends % 65536) (ends / 65536))) p
+name-plain kind goal ends n range m low high p q i e r g l h f =
+    rw (sym i ∙ e, ← r, ← g, ← l, ← h) f
 
-signed-words : (negative outsized : Bool) (goal want : ℕ)
+signed-words : (negative outsized : Bool) (goal : ℕ) (want : Want)
     → name-words negative goal want ++ mark outsized (ascii " [outsized]") ≡ literal-words (signed negative goal want outsized)
 unfolding literal-words
 signed-words true outsized goal want = refl
 signed-words false outsized goal want = refl
 
-pub literal-said : (kind goal want : ℕ) (n o : Bool) (p q r : Pen) → n ≡ bit1 kind → o ≡ bit0 kind → q ≡ put-all (name-words n goal want) p
-    → r ≡ put-all (mark o (ascii " [outsized]")) q → r ≡ put-all (literal-words (signed (bit1 kind) goal want (bit0 kind))) p
-literal-said kind goal want n o p q r e f g h =
-    put-two (name-words n goal want) (mark o (ascii " [outsized]")) p q r g h
-    ∙ ap (λ (w : List ℕ). put-all w p) (signed-words n o goal want)
-    ∙ ap (λ (b : Bool). put-all (literal-words (signed b goal want o)) p) e
+pub literal-said : (kind goal ends : ℕ) (o : Bool) (p q r : Pen) → o ≡ bit0 kind
+    → q ≡ put-all (name-words (bit1 kind) goal (wanted (bit2 kind) (ends % 65536) (ends / 65536))) p
+    → r ≡ put-all (mark o (ascii " [outsized]")) q → r ≡ put-all (literal-words (kept kind goal ends)) p
+literal-said kind goal ends o p q r f g h =
+    let want = wanted (bit2 kind) (ends % 65536) (ends / 65536) in
+    put-two (name-words (bit1 kind) goal want) (mark o (ascii " [outsized]")) p q r g h
+    ∙ ap (λ (w : List ℕ). put-all w p) (signed-words (bit1 kind) o goal want)
     ∙ ap (λ (b : Bool). put-all (literal-words (signed (bit1 kind) goal want b)) p) f
 
 pub before-first : (j : ℕ) (p q : Pen) → j ≡ 0 → q ≡ put-all (ascii " :- ") p → q ≡ put-all (before j) p
@@ -90,19 +115,21 @@ pub sentence-is : (n k : ℕ) (p q : Pen) → n ≡ k → q ≡ put-all (sentenc
 sentence-is n k p q e f = rw e f
 
 -- past the numbers that the program tells apart the sentence is that of 8
-other-sentence : (n : ℕ) → (n ≡ 1 → ⊥) → (n ≡ 2 → ⊥) → (n ≡ 3 → ⊥) → (n ≡ 4 → ⊥) → (n ≡ 5 → ⊥) → (n ≡ 6 → ⊥) → (n ≡ 7 → ⊥)
+other-sentence : (n : ℕ) → (n ≡ 1 → ⊥) → (n ≡ 2 → ⊥) → (n ≡ 3 → ⊥) → (n ≡ 4 → ⊥) → (n ≡ 5 → ⊥) → (n ≡ 6 → ⊥) → (n ≡ 7 → ⊥) → (n ≡ 32 → ⊥)
     → sentence n ≡ ascii "no goal\n"
 unfolding sentence
-other-sentence zero a b c d e f g = refl
-other-sentence (suc zero) a b c d e f g = absurd (a refl)
-other-sentence (suc (suc zero)) a b c d e f g = absurd (b refl)
-other-sentence (suc (suc (suc zero))) a b c d e f g = absurd (c refl)
-other-sentence (suc (suc (suc (suc zero)))) a b c d e f g = absurd (d refl)
-other-sentence (suc (suc (suc (suc (suc zero))))) a b c d e f g = absurd (e refl)
-other-sentence (suc (suc (suc (suc (suc (suc zero)))))) a b c d e f g = absurd (f refl)
-other-sentence (suc (suc (suc (suc (suc (suc (suc zero))))))) a b c d e f g = absurd (g refl)
-other-sentence (suc (suc (suc (suc (suc (suc (suc (suc n)))))))) a b c d e f g = refl
+other-sentence n a b c d e f g h =
+    past 0 1 a ∙ past 1 2 b ∙ past 2 3 c ∙ past 3 4 d ∙ past 4 5 e ∙ past 5 6 f ∙ past 6 7 g ∙ past 7 32 h
+  where
+    -- the sentence at a place of the table is passed over
+    past : (i k : ℕ) → (n ≡ k → ⊥)
+        → elim (eqb n k) [ true ↦ getD sentences i (0, ascii "") .1 | false ↦ sentence-in (drop (suc i) sentences) n ]
+        ≡ sentence-in (drop (suc i) sentences) n
+    past i k h = ap (λ (t : Bool). elim t [
+      | true ↦ getD sentences i (0, ascii "") .1
+      | false ↦ sentence-in (drop (suc i) sentences) n
+    ]) (ne-eqb n k h)
 
 pub sentence-other : (n : ℕ) (p q : Pen) → (n ≡ 1 → ⊥) → (n ≡ 2 → ⊥) → (n ≡ 3 → ⊥) → (n ≡ 4 → ⊥) → (n ≡ 5 → ⊥) → (n ≡ 6 → ⊥) → (n ≡ 7 → ⊥)
-    → q ≡ put-all (ascii "no goal\n") p → q ≡ put-all (sentence n) p
-sentence-other n p q a b c d e f g h = h ∙ ap (λ (w : List ℕ). put-all w p) (sym (other-sentence n a b c d e f g))
+    → (n ≡ 32 → ⊥) → q ≡ put-all (ascii "no goal\n") p → q ≡ put-all (sentence n) p
+sentence-other n p q a b c d e f g h i = i ∙ ap (λ (w : List ℕ). put-all w p) (sym (other-sentence n a b c d e f g h))

@@ -2,12 +2,11 @@
 use Prim.Native.Nat.{ℕ, zero, suc}
 use mathlib.Core.Bool.{Bool, true, false}
 use mathlib.Core.List.{List, [], _∷_, _++_}
-use lib.ListN.{getD}
 use lib.Dec.{eqb}
 use Rattle.definitions.specs.Ascii.{ascii}
 use Rattle.definitions.specs.Listing.{decimal}
 use Rattle.definitions.specs.Refusal.{Refusable, refused, accepted}
-use Rattle.definitions.specs.Book.{Literal, Positive, Negative, Clause, Goal, Book}
+use Rattle.definitions.specs.Book.{Want, any, exactly, between, Literal, Positive, Negative, Clause, Goal, Book}
 
 -- words that stand there only where a flag is set
 abbrev pub mark : Bool → List ℕ → List ℕ
@@ -22,14 +21,24 @@ behind-slash false v = ascii "/" ++ decimal v
 unfoldable pub slashed : (n v : ℕ) → List ℕ
 slashed n v = decimal n ++ behind-slash (eqb v 0) v
 
--- a literal: its goal, and the variant that it wants behind a slash; its mark
-abbrev pub name-words : (negative : Bool) → (goal want : ℕ) → List ℕ
+-- a number, and the ends of a range behind a slash
+unfoldable pub ranged : (n least most : ℕ) → List ℕ
+ranged n least most = decimal n ++ (ascii "/" ++ (decimal least ++ (ascii "-" ++ decimal most)))
+
+-- a goal, and what a literal wants of it behind a slash
+abbrev pub want-words : (goal : ℕ) → Want → List ℕ
+want-words goal any = slashed goal 0
+want-words goal (exactly variant) = slashed goal variant
+want-words goal (between least most) = ranged goal least most
+
+-- a literal: its goal with what it wants; its mark
+abbrev pub name-words : (negative : Bool) → (goal : ℕ) → Want → List ℕ
 name-words true goal want = ascii "not " ++ decimal goal
-name-words false goal want = slashed goal want
+name-words false goal want = want-words goal want
 
 unfoldable pub literal-words : Literal → List ℕ
 literal-words (Positive goal want outsized) = name-words false goal want ++ mark outsized (ascii " [outsized]")
-literal-words (Negative goal outsized) = name-words true goal 0 ++ mark outsized (ascii " [outsized]")
+literal-words (Negative goal outsized) = name-words true goal any ++ mark outsized (ascii " [outsized]")
 
 -- what stands before the literal j of a clause
 unfoldable pub before : ℕ → List ℕ
@@ -65,21 +74,25 @@ unfoldable pub goals-words : ℕ → List Goal → List ℕ
 goals-words g [] = []
 goals-words g (h ∷ hs) = goal-words g h ++ goals-words (suc g) hs
 
--- the sentences of document 01's refusals, from 1 on; no other number but 8 comes
-abbrev pub sentences : List (List ℕ)
+-- the sentences of the refusals, by their numbers; no other number but 8 comes
+abbrev pub sentences : List (ℕ × List ℕ)
 sentences =
-    ascii "no goal\n"
-    ∷ ascii "a command, an operand or the end is missing\n"
-    ∷ ascii "unknown command\n"
-    ∷ ascii "a clause before a goal, or a literal before a clause\n"
-    ∷ ascii "unknown flag bit\n"
-    ∷ ascii "a 65th goal, a 257th clause or a 9th literal of a clause\n"
-    ∷ ascii "a literal names no goal\n"
-    ∷ ascii "bytes after the end\n"
+    (1, ascii "a command, an operand or the end is missing\n")
+    ∷ (2, ascii "unknown command\n")
+    ∷ (3, ascii "a clause before a goal, or a literal before a clause\n")
+    ∷ (4, ascii "unknown flag bit\n")
+    ∷ (5, ascii "a 65th goal, a 257th clause or a 9th literal of a clause\n")
+    ∷ (6, ascii "a literal names no goal\n")
+    ∷ (7, ascii "bytes after the end\n")
+    ∷ (32, ascii "a range with its low end above its high end\n")
     ∷ []
 
+abbrev pub sentence-in : List (ℕ × List ℕ) → ℕ → List ℕ
+sentence-in [] n = ascii "no goal\n"
+sentence-in (s ∷ ss) n = elim (eqb n (s .0)) [ true ↦ s .1 | false ↦ sentence-in ss n ]
+
 unfoldable pub sentence : ℕ → List ℕ
-sentence n = getD sentences n (ascii "no goal\n")
+sentence n = sentence-in sentences n
 
 unfoldable pub refusal-words : ℕ → List ℕ
 refusal-words n = ascii "refused " ++ (decimal n ++ (ascii "\n" ++ sentence n))

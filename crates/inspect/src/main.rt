@@ -4,12 +4,12 @@ mod words;
 
 use intake::input;
 
-// How an input is read is settled by its first 16,384 bytes (`read-take`, in the proofs of `definitions`): at most 13,440 bytes of commands
-// are accepted before one is refused or ends the book, and that one needs six at most. So what follows is not read.
-// The longest words are 54,784 bytes: 64 lines of at most 36 for the goals, 256 of at most 205 for the clauses. So they are all in the
+// How an input is read is settled by its first 20,480 bytes (`read-take`, in the proofs of `definitions`): at most 17,536 bytes of commands
+// are accepted before one is refused or ends the book, and that one needs eight at most. So what follows is not read.
+// The longest words are 67,072 bytes: 64 lines of at most 36 for the goals, 256 of at most 253 for the clauses. So they are all in the
 // buffer when it is written, and none are written before: whether they could be written is known.
 fn answer(bytes: &[u8]) {
-    let mut out = io::large_buffer();
+    let mut out = [0u8; 69632];
     let used = words::say(&mut out, bytes);
     if !pen::flush(&out, used) {
         io::write_all(2, b"inspect: what the paper says can't be written\n");
@@ -17,7 +17,7 @@ fn answer(bytes: &[u8]) {
 }
 
 fn main() {
-    let mut bytes = [0u8; 16384];
+    let mut bytes = [0u8; 20480];
     let got = input(&mut bytes);
     // Where the input can't be read, that is said, and nothing is taken for a book.
     if !got.whole {

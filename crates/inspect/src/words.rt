@@ -1,20 +1,23 @@
 // A book in words, in the notation of document 01. A goal has a line `goal 0`, and below it a line for each of its clauses in order:
 //
 //     goal 0 [coinductive] [floundered]
-//     0/2 [cannot prove] [outsized] :- 1, 1/3 [outsized], not 2
+//     0/2 [cannot prove] [outsized] :- 1, 1/3 [outsized], 1/3-7, not 2
 //     goal 1
 //     1/1
 //
 // A clause is the goal's number, its variant behind a slash (none is variant 0, the goal as a whole), its marks, and its literals behind
-// `:-`; a fact has none. A literal is a goal's number, behind a slash the variant that it wants (none: any), and its mark.
+// `:-`; a fact has none. A literal is a goal's number, behind a slash the variant that it wants (none: any) or the ends of a range, and
+// its mark.
 use book::Book;
 use book::Reading;
+use book::access::high_end;
+use book::access::low_end;
 ghost use mathlib.Core.Path.{_≡_};
-ghost use Prim.Native.Nat.{_<_};
+ghost use Prim.Native.Nat.{_<_, _/_, _%_};
 ghost use Rattle.definitions.specs.Book.{bit0 as bit0Of, bit1 as bit1Of, read as readBook};
 ghost use Rattle.pen.specs.Pen.{pen, put-all};
-ghost use Rattle.book.specs.View.{Sound, signed, clause-viewed, goal-viewed, view, seen};
-ghost use Rattle.inspect.specs.Words.{mark as markOf, slashed as slashedOf, name-words, literal-words, before, head-words};
+ghost use Rattle.book.specs.View.{Sound, wanted, bit2 as bit2Of, kept, clause-viewed, goal-viewed, view, seen};
+ghost use Rattle.inspect.specs.Words.{mark as markOf, slashed as slashedOf, ranged as rangedOf, want-words, name-words, literal-words, before, head-words};
 ghost use Rattle.inspect.specs.Words.{clause-words, clauses-words, goal-line as goalLine, goal-words, goals-words};
 ghost use Rattle.inspect.specs.Words.{sentence as sentenceOf, refusal-words, reading-words};
 
@@ -42,6 +45,12 @@ fn bit1(flags: u8) -> bool
     flags / 2 % 2 == 1
 }
 
+fn bit2(kind: u8) -> bool
+    ensures { λ r. ⌜ r ≡ bit2Of kind ⌝ }
+{
+    kind / 4 % 2 == 1
+}
+
 fn mark(out: &mut [u8], at: usize, on: bool, words: &[u8]) -> usize
     ensures { λ r. ⌜ pen (now (out .exit)) r ≡ put-all (markOf on (now (words .entry))) (pen (now (out .entry)) at) ⌝ }
 {
@@ -63,22 +72,44 @@ fn slashed(out: &mut [u8], at: usize, n: usize, v: u16) -> usize
     pen::number(out, slash, v as u64)
 }
 
-fn name(out: &mut [u8], at: usize, negative: bool, goal: u16, want: u16) -> usize
-    ensures { λ r. ⌜ pen (now (out .exit)) r ≡ put-all (name-words negative goal want) (pen (now (out .entry)) at) ⌝ }
+// A number, and the ends of a range behind a slash.
+fn ranged(out: &mut [u8], at: usize, n: usize, low: u16, high: u16) -> usize
+    ensures { λ r. ⌜ pen (now (out .exit)) r ≡ put-all (rangedOf n low high) (pen (now (out .entry)) at) ⌝ }
 {
-    if negative {
+    let one = pen::number(out, at, n as u64);
+    let slash = pen::text(out, one, b"/");
+    let from = pen::number(out, slash, low as u64);
+    let dash = pen::text(out, from, b"-");
+    pen::number(out, dash, high as u64)
+}
+
+// A goal, and what a literal wants of it.
+fn want(out: &mut [u8], at: usize, range: bool, goal: usize, low: u16, high: u16) -> usize
+    ensures { λ r. ⌜ pen (now (out .exit)) r ≡ put-all (want-words goal (wanted range low high)) (pen (now (out .entry)) at) ⌝ }
+{
+    if range {
+        return ranged(out, at, goal, low, high);
+    }
+    slashed(out, at, goal, low)
+}
+
+fn name(out: &mut [u8], at: usize, kind: u8, goal: u16, ends: u32) -> usize
+    ensures { λ r. ⌜ pen (now (out .exit)) r ≡ put-all (name-words (bit1Of kind) goal (wanted (bit2Of kind) (ends % 65536) (ends / 65536)))
+        (pen (now (out .entry)) at) ⌝ }
+{
+    if bit1(kind) {
         let word = pen::text(out, at, b"not ");
         return pen::number(out, word, goal as u64);
     }
-    slashed(out, at, wide(goal), want)
+    let range = bit2(kind);
+    want(out, at, range, wide(goal), low_end(ends), high_end(ends))
 }
 
-// The literal's kind has the mark in bit 0 and "not" in bit 1.
-fn literal(out: &mut [u8], at: usize, kind: u8, goal: u16, want: u16) -> usize
-    ensures { λ r. ⌜ pen (now (out .exit)) r ≡ put-all (literal-words (signed (bit1Of kind) goal want (bit0Of kind)))
-        (pen (now (out .entry)) at) ⌝ }
+// The literal's kind has the mark in bit 0, "not" in bit 1 and that it wants a range in bit 2.
+fn literal(out: &mut [u8], at: usize, kind: u8, goal: u16, ends: u32) -> usize
+    ensures { λ r. ⌜ pen (now (out .exit)) r ≡ put-all (literal-words (kept kind goal ends)) (pen (now (out .entry)) at) ⌝ }
 {
-    let named = name(out, at, bit1(kind), goal, want);
+    let named = name(out, at, kind, goal, ends);
     mark(out, named, bit0(kind), b" [outsized]")
 }
 
@@ -175,7 +206,7 @@ fn goals(out: &mut [u8], at: usize, book: Book) -> usize
     used
 }
 
-// The sentences of document 01's refusals.
+// The sentences of the refusals.
 fn sentence(out: &mut [u8], at: usize, number: u8) -> usize
     ensures { λ r. ⌜ pen (now (out .exit)) r ≡ put-all (sentenceOf number) (pen (now (out .entry)) at) ⌝ }
 {
@@ -195,6 +226,7 @@ fn sentence(out: &mut [u8], at: usize, number: u8) -> usize
         ),
         6 => pen::text(out, at, b"a literal names no goal\n"),
         7 => pen::text(out, at, b"bytes after the end\n"),
+        32 => pen::text(out, at, b"a range with its low end above its high end\n"),
         _ => pen::text(out, at, b"no goal\n"),
     }
 }

@@ -1,4 +1,4 @@
--- How a byte string is listed is settled by its first 16,384 bytes, as how it is read is.
+-- How a byte string is listed is settled by its first 20,480 bytes, as how it is read is.
 use Prim.Native.Nat.{ℕ}
 use mathlib.Core.List.{List}
 use mathlib.Core.Path.{_≡_}

@@ -5,7 +5,7 @@ mod lines;
 
 use intake::input;
 
-// How an input is listed is settled by its first 16,384 bytes (`listing-take`), so what follows is not read.
+// How an input is listed is settled by its first 20,480 bytes (`listing-take`), so what follows is not read.
 // A listing has at most 320 lines of at most 20 bytes: a line for each goal, and a yes or maybe for each clause. So it is all in the
 // buffer when that is written, and whether it could be written is known.
 // At a terminal standard error tells which goal is at hand, until the lines are written.
@@ -22,7 +22,7 @@ fn answer(bytes: &[u8]) {
 }
 
 fn main() {
-    let mut bytes = [0u8; 16384];
+    let mut bytes = [0u8; 20480];
     let got = input(&mut bytes);
     // Where the input can't be read, that is said, and nothing is taken for a book.
     if !got.whole {

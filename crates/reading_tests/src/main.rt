@@ -28,8 +28,8 @@ fn all(out: &mut [u8], bytes: &mut [u8]) {
 }
 
 fn run(out: &mut [u8]) {
-    // a book has at most 13,441 bytes, and what follows the first 16,384 of an input doesn't change how it is read
-    let mut bytes = [0u8; 16384];
+    // a book has at most 17,537 bytes, and what follows the first 20,480 of an input doesn't change how it is read
+    let mut bytes = [0u8; 20480];
     all(out, &mut bytes);
 }
 

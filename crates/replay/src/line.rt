@@ -1,5 +1,5 @@
 // A line of a script, character by character, so that a line may be of any length. Words are parted by spaces. Nothing of a line is kept
-// but what is known of it so far, and the bytes of its book in a buffer that is lent; what follows the first 16,384 of these doesn't
+// but what is known of it so far, and the bytes of its book in a buffer that is lent; what follows the first 20,480 of these doesn't
 // change how a book is read (`read-take`, in the proofs of `definitions`).
 use crate::utf8;
 

@@ -64,7 +64,7 @@ fn all(out: &mut [u8], input: &mut [u8], bytes: &mut [u8], room: &mut [u8]) -> u
 fn main() {
     let mut out = io::buffer();
     let mut input = io::buffer();
-    let mut bytes = [0u8; 16384];
+    let mut bytes = [0u8; 20480];
     let mut room = [0u8; LONGEST_DUMP];
     let at = all(&mut out, &mut input, &mut bytes, &mut room);
     if !pen::flush(&out, at) {

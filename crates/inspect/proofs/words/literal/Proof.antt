@@ -4,9 +4,6 @@ use borrow.Author.Needs.{needs}
 use Rattle.inspect.proofs.words.literal.Statement.{statement}
 use Rattle.inspect.proofs.words.literal.Tie as tie
 
-bit1-requires : tie.Need-bit1-requires
-bit1-requires c κs = search needs
-
 name-requires : tie.Need-name-requires
 name-requires c κs = search needs
 
@@ -28,11 +25,4 @@ returns c = search literal-said
 pub literal-spec : {M : Type 1} → statement M
 literal-spec =
     tie.close
-    (tie.spec
-    bit1-requires
-    name-requires
-    bit0-requires
-    slice-aggregate-mark
-    mark-requires
-    same-length
-    returns)
+    (tie.spec name-requires bit0-requires slice-aggregate-mark mark-requires same-length returns)

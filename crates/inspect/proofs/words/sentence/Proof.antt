@@ -53,6 +53,12 @@ slice-aggregate-text-8 c = search needs
 text-requires-8 : tie.Need-text-requires-8
 text-requires-8 c κs = search needs
 
+slice-aggregate-text-9 : tie.Need-slice-aggregate-text-9
+slice-aggregate-text-9 c = search needs
+
+text-requires-9 : tie.Need-text-requires-9
+text-requires-9 c κs = search needs
+
 same-length : tie.Need-same-length
 same-length c = search needs
 
@@ -107,7 +113,14 @@ same-length-8 c = search needs
 
 returns-8 : tie.Need-returns-8
 unfolding sentence
-returns-8 c = search sentence-other
+returns-8 c = search sentence-is
+
+same-length-9 : tie.Need-same-length-9
+same-length-9 c = search needs
+
+returns-9 : tie.Need-returns-9
+unfolding sentence
+returns-9 c = search sentence-other
 
 pub sentence-spec : {M : Type 1} → statement M
 sentence-spec =
@@ -129,6 +142,8 @@ sentence-spec =
     text-requires-7
     slice-aggregate-text-8
     text-requires-8
+    slice-aggregate-text-9
+    text-requires-9
     same-length
     returns
     same-length-2
@@ -144,4 +159,6 @@ sentence-spec =
     same-length-7
     returns-7
     same-length-8
-    returns-8)
+    returns-8
+    same-length-9
+    returns-9)
