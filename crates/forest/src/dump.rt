@@ -14,7 +14,6 @@ use book::Literal;
 use book::access::is_ranged;
 use control::ensure_root_answer::strand_in_hand;
 use strands::Answer;
-use strands::Floundered;
 use strands::Selected;
 use strands::Strand;
 use strands::literals::is_negative;
@@ -159,14 +158,13 @@ fn literals(out: &mut [u8], at: usize, s: Strand) -> usize {
 }
 
 // The element i of a list of n floundered literals.
-fn set_aside(out: &mut [u8], at: usize, i: usize, n: usize, f: Floundered) -> usize {
+fn set_aside(out: &mut [u8], at: usize, i: usize, n: usize, l: Literal, time: u8) -> usize {
     if i >= n {
         return at;
     }
-    let l = f.literal;
     let a = comma(out, at, i);
     let b = literal(out, a, l);
-    counted(out, b, b"@", f.time as u64)
+    counted(out, b, b"@", time as u64)
 }
 
 fn floundered(out: &mut [u8], at: usize, s: Strand) -> usize {
@@ -174,7 +172,7 @@ fn floundered(out: &mut [u8], at: usize, s: Strand) -> usize {
     let mut a = text(out, at, b" F[");
     let mut i: usize = 0;
     while i < 8 {
-        a = set_aside(out, a, i, n, s.floundered[i]);
+        a = set_aside(out, a, i, n, s.floundered[i], s.floundered_time[i]);
         i += 1;
     }
     put(out, a, b']')

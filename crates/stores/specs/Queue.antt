@@ -10,7 +10,6 @@ use Rattle.definitions.specs.Book as books
 use Rattle.definitions.specs.Strand as held
 use Rattle.book.specs.declared.Literal.{Literal}
 use Rattle.rings.specs.Rings.{most-places}
-use Rattle.strands.specs.declared.Floundered.{Floundered}
 use Rattle.strands.specs.declared.Selected.the-variants.{Nothing}
 use Rattle.strands.specs.declared.Strand.{Strand}
 use Rattle.strands.specs.View.{clause, selected, is-negative}
@@ -183,9 +182,6 @@ Does model before after = (strands : List Strand) → after strands ≡ model (b
 abbrev pub blank-literal : Literal
 blank-literal = record { goal = 0; kind = 0; want = 0; high = 0 }
 
-abbrev pub blank-floundered : Floundered
-blank-floundered = record { literal = blank-literal; time = 0 }
-
 abbrev pub blank-strand : Strand
 blank-strand = record {
   variant = 0;
@@ -196,7 +192,8 @@ blank-strand = record {
   «floundered_count» = 0;
   «delayed_count» = 0;
   literals = replicate most-literals blank-literal;
-  floundered = replicate most-literals blank-floundered;
+  floundered = replicate most-literals blank-literal;
+  «floundered_time» = replicate most-literals 0;
   delayed = replicate most-literals 0;
   selected = Nothing;
 }

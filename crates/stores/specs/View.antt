@@ -35,6 +35,7 @@ unread-strand = record {
   «delayed_count» = 0;
   literals = [];
   floundered = [];
+  «floundered_time» = [];
   delayed = [];
   selected = Nothing;
 }

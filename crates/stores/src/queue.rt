@@ -15,7 +15,6 @@ use book::Literal;
 use rings::PLACES;
 use rings::ring_enqueue;
 use rings::ring_unlink;
-use strands::Floundered;
 use strands::Selected;
 use strands::Strand;
 use strands::literals::is_negative;
@@ -55,10 +54,6 @@ pub fn blank_strands() -> Strands
         want: 0,
         high: 0,
     };
-    let f = Floundered {
-        literal: l,
-        time: 0,
-    };
     let b = Strand {
         variant: 0,
         outsized: false,
@@ -68,7 +63,8 @@ pub fn blank_strands() -> Strands
         floundered_count: 0,
         delayed_count: 0,
         literals: [l; MOST_LITERALS],
-        floundered: [f; MOST_LITERALS],
+        floundered: [l; MOST_LITERALS],
+        floundered_time: [0; MOST_LITERALS],
         delayed: [0; MOST_LITERALS],
         selected: Selected::Nothing,
     };

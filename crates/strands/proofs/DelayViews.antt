@@ -72,6 +72,7 @@ module _ (goals : List ℕ) (s : Strand) where
   delay-by-sound false e o = record {
     literals-long = o .literals-long;
     floundered-long = o .floundered-long;
+    times-long = o .times-long;
     delayed-long = length-sets (s .delayed) (held s) goals ∙ o .delayed-long;
     few-literals = o .few-literals;
     few-delayed = ltb-false 8 (held s + length goals) e;

@@ -35,6 +35,7 @@ pub last-removed-sound : (s : Strand) → Sound s → Sound (last-removed s)
 last-removed-sound s o = record {
   literals-long = o .literals-long;
   floundered-long = o .floundered-long;
+  times-long = o .times-long;
   delayed-long = o .delayed-long;
   few-literals = omega (arith, o .few-literals);
   few-delayed = o .few-delayed;
@@ -70,6 +71,7 @@ answered-by-sound s false false true e o = o
 answered-by-sound s false false false e o = record {
   literals-long = o .literals-long;
   floundered-long = o .floundered-long;
+  times-long = o .times-long;
   delayed-long = o .delayed-long;
   few-literals = omega (arith, o .few-literals, eqb-false (s .«literal_count») 0 e);
   few-delayed = o .few-delayed;

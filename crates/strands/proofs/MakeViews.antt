@@ -18,7 +18,7 @@ use Rattle.laws.proofs.Takes.{take-min, length-take-min, take-sets}
 use Rattle.book.specs.View.{meant}
 use Rattle.book.specs.declared.Literal.{Literal}
 use Rattle.strands.specs.declared.Answer.{Answer}
-use Rattle.strands.specs.Fields.{no-literal, no-floundered}
+use Rattle.strands.specs.Fields.{no-literal}
 use Rattle.strands.specs.Making.{new-strand, blank-strand, nothing, clause-of, strand-of}
 use Rattle.strands.specs.Making.{wants-any, positive, positives, refine-by, refine, refinement}
 use Rattle.strands.specs.View.{Sound, seen, answer}
@@ -27,7 +27,8 @@ new-sound : (variant : ℕ) (outsized ambiguous : Bool) (literals : List Literal
     → Sound (new-strand variant outsized ambiguous literals count)
 new-sound variant outsized ambiguous literals count long few = record {
   literals-long = long;
-  floundered-long = length-replicate 8 no-floundered;
+  floundered-long = length-replicate 8 no-literal;
+  times-long = length-replicate {A = ℕ} 8 0;
   delayed-long = length-replicate {A = ℕ} 8 0;
   few-literals = omega arith;
   few-delayed = omega arith;

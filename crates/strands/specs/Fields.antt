@@ -4,18 +4,13 @@ use Prim.Native.Nat.{ℕ, suc, min}
 use mathlib.Core.Bool.{Bool}
 use mathlib.Core.List.{List}
 use Rattle.book.specs.declared.Literal.{Literal}
-use Rattle.strands.specs.declared.Floundered.{Floundered}
 use Rattle.strands.specs.declared.Selected.the-variants.{Nothing, Subgoal}
 use Rattle.strands.specs.declared.Selected.{Selected}
 use Rattle.strands.specs.declared.Strand.{Strand}
 
--- What an array gives past its end.
-
+-- what an array gives past its end
 abbrev pub no-literal : Literal
 no-literal = record { goal = 0; kind = 0; want = 0; high = 0 }
-
-abbrev pub no-floundered : Floundered
-no-floundered = record { literal = no-literal; time = 0 }
 
 -- Fields written. A list goes with how many of it count.
 
@@ -30,6 +25,7 @@ with-selected s k = record {
   «delayed_count» = s .«delayed_count»;
   literals = s .literals;
   floundered = s .floundered;
+  «floundered_time» = s .«floundered_time»;
   delayed = s .delayed;
   selected = k;
 }
@@ -45,6 +41,7 @@ with-ambiguous s b = record {
   «delayed_count» = s .«delayed_count»;
   literals = s .literals;
   floundered = s .floundered;
+  «floundered_time» = s .«floundered_time»;
   delayed = s .delayed;
   selected = s .selected;
 }
@@ -60,6 +57,7 @@ with-answer-time s time = record {
   «delayed_count» = s .«delayed_count»;
   literals = s .literals;
   floundered = s .floundered;
+  «floundered_time» = s .«floundered_time»;
   delayed = s .delayed;
   selected = s .selected;
 }
@@ -75,12 +73,13 @@ with-literals s ls count = record {
   «delayed_count» = s .«delayed_count»;
   literals = ls;
   floundered = s .floundered;
+  «floundered_time» = s .«floundered_time»;
   delayed = s .delayed;
   selected = s .selected;
 }
 
-abbrev pub with-floundered : Strand → List Floundered → (count : ℕ) → Strand
-with-floundered s fs count = record {
+abbrev pub with-floundered : Strand → List Literal → (times : List ℕ) → (count : ℕ) → Strand
+with-floundered s ls times count = record {
   variant = s .variant;
   outsized = s .outsized;
   ambiguous = s .ambiguous;
@@ -89,7 +88,8 @@ with-floundered s fs count = record {
   «floundered_count» = count;
   «delayed_count» = s .«delayed_count»;
   literals = s .literals;
-  floundered = fs;
+  floundered = ls;
+  «floundered_time» = times;
   delayed = s .delayed;
   selected = s .selected;
 }
@@ -105,6 +105,7 @@ with-delayed s ds count = record {
   «delayed_count» = count;
   literals = s .literals;
   floundered = s .floundered;
+  «floundered_time» = s .«floundered_time»;
   delayed = ds;
   selected = s .selected;
 }

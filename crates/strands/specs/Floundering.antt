@@ -3,18 +3,19 @@ use Prim.Native.Nat.{ℕ, zero, suc, _+_, _-_, min}
 use mathlib.Core.Bool.{Bool, true, false}
 use lib.Dec.{eqb, leb, ltb}
 use lib.ListN.{getD, set}
-use Rattle.strands.specs.declared.Floundered.{Floundered}
+use Rattle.book.specs.declared.Literal.{Literal}
 use Rattle.strands.specs.declared.Strand.{Strand}
-use Rattle.strands.specs.Fields.{no-literal, no-floundered, with-literals, with-floundered}
+use Rattle.strands.specs.Fields.{no-literal, with-literals, with-floundered}
 
 -- the last literal with the strand's answer time, put after those that are floundered
-abbrev pub last-aside : Strand → Floundered
-last-aside s = record { literal = getD (s .literals) (s .«literal_count» - 1) no-literal; time = s .«answer_time» }
+abbrev pub last-literal : Strand → Literal
+last-literal s = getD (s .literals) (s .«literal_count» - 1) no-literal
 
 abbrev pub set-aside : Strand → Strand
 set-aside s =
     with-floundered (with-literals s (s .literals) (s .«literal_count» - 1))
-    (set (s .floundered) (s .«floundered_count») (last-aside s)) (s .«floundered_count» + 1)
+    (set (s .floundered) (s .«floundered_count») (last-literal s))
+    (set (s .«floundered_time») (s .«floundered_count») (s .«answer_time»)) (s .«floundered_count» + 1)
 
 -- `flounder_subgoal`. A strand with no literal, with more than eight or with no room for a floundered one is as it was.
 abbrev pub flounder-by : (none-left too-many full : Bool) → Strand → Strand
@@ -26,16 +27,20 @@ flounder-by false false false s = set-aside s
 abbrev pub flounder : Strand → Strand
 flounder s = flounder-by (eqb (s .«literal_count») 0) (ltb 8 (s .«literal_count»)) (leb 8 (s .«floundered_count»)) s
 
--- what is set aside at an index
-abbrev pub aside-at : ℕ → Strand → Floundered
-aside-at i s = getD (s .floundered) i no-floundered
+-- what is set aside at an index, and its time
+abbrev pub aside-at : ℕ → Strand → Literal
+aside-at i s = getD (s .floundered) i no-literal
+
+abbrev pub time-at : ℕ → Strand → ℕ
+time-at i s = getD (s .«floundered_time») i 0
 
 -- the floundered literal at i returns, and the last floundered one takes its place
 abbrev pub taken-back : ℕ → Strand → Strand
 taken-back i s =
     with-floundered
-    (with-literals s (set (s .literals) (s .«literal_count») (aside-at i s .literal)) (s .«literal_count» + 1))
-    (set (s .floundered) i (aside-at (s .«floundered_count» - 1) s)) (s .«floundered_count» - 1)
+    (with-literals s (set (s .literals) (s .«literal_count») (aside-at i s)) (s .«literal_count» + 1))
+    (set (s .floundered) i (aside-at (s .«floundered_count» - 1) s))
+    (set (s .«floundered_time») i (time-at (s .«floundered_count» - 1) s)) (s .«floundered_count» - 1)
 
 -- One turn of the loop. The strand is as it was where more than eight are floundered, none stands at i, its time is not past, or eight
 -- literals stand already.
@@ -49,7 +54,7 @@ reconsider-by false false false false i s = taken-back i s
 abbrev pub reconsider-at : ℕ → Strand → Strand
 reconsider-at i s =
     reconsider-by (ltb 8 (s .«floundered_count»)) (leb (s .«floundered_count») i)
-    (leb (s .«answer_time») (aside-at i s .time)) (leb 8 (s .«literal_count»)) i s
+    (leb (s .«answer_time») (time-at i s)) (leb 8 (s .«literal_count»)) i s
 
 -- the loop, at index i - 1 and down to 0
 abbrev pub reconsider-down : ℕ → Strand → Strand

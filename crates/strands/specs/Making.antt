@@ -14,7 +14,7 @@ use Rattle.strands.specs.declared.Answer.{Answer}
 use Rattle.strands.specs.declared.Selected.the-variants.{Nothing}
 use Rattle.strands.specs.declared.Strand.{Strand}
 use Rattle.strands.specs.declared.making.Refinement.{Refinement}
-use Rattle.strands.specs.Fields.{no-literal, no-floundered}
+use Rattle.strands.specs.Fields.{no-literal}
 use Rattle.strands.specs.View.{seen}
 
 -- a strand that nobody has pursued, with `count` of the literals still to be solved
@@ -28,7 +28,8 @@ new-strand variant outsized ambiguous literals count = record {
   «floundered_count» = 0;
   «delayed_count» = 0;
   literals = literals;
-  floundered = replicate 8 no-floundered;
+  floundered = replicate 8 no-literal;
+  «floundered_time» = replicate 8 0;
   delayed = replicate 8 0;
   selected = Nothing;
 }

@@ -1,7 +1,7 @@
 -- What the structs mean: the strand and the answer of the definitions that they hold, and when they are sound.
-use Prim.Native.Nat.{_+_, _≤_}
+use Prim.Native.Nat.{ℕ, _+_, _≤_}
 use mathlib.Core.Bool.{Bool, true, false}
-use mathlib.Core.List.{map}
+use mathlib.Core.List.{List, [], _∷_, map}
 use mathlib.Core.Option.{Option, none, some}
 use mathlib.Core.Path.{_≡_}
 use lib.ListN.{length, take}
@@ -11,7 +11,6 @@ use Rattle.definitions.specs.Strand as held
 use Rattle.book.specs.View.{meant}
 use Rattle.book.specs.declared.Literal.{Literal}
 use Rattle.strands.specs.declared.Answer.{Answer}
-use Rattle.strands.specs.declared.Floundered.{Floundered}
 use Rattle.strands.specs.declared.Selected.the-variants.{Nothing, Subgoal}
 use Rattle.strands.specs.declared.Selected.{Selected}
 use Rattle.strands.specs.declared.Strand.{Strand}
@@ -22,8 +21,14 @@ abbrev pub selected : Selected → Option held.SelectedSubgoal
 selected Nothing = none
 selected (Subgoal index table answer) = some (record { subgoal-index = index; subgoal-table = table; answer-index = answer })
 
-abbrev pub floundered : Floundered → said.FlounderedSubgoal
-floundered f = record { floundered-literal = meant (f .literal); floundered-time = f .time }
+-- the literals of one array, each with the time that another has at its place
+abbrev pub timed : List Literal → List ℕ → List (Literal × ℕ)
+timed [] times = []
+timed (l ∷ ls) [] = []
+timed (l ∷ ls) (time ∷ times) = (l, time) ∷ timed ls times
+
+abbrev pub floundered : Literal × ℕ → said.FlounderedSubgoal
+floundered f = record { floundered-literal = meant (f .0); floundered-time = f .1 }
 
 abbrev pub clause : Strand → said.ExClause
 clause s = record {
@@ -32,7 +37,7 @@ clause s = record {
   subgoals = map meant (take (s .«literal_count») (s .literals));
   delayed-subgoals = take (s .«delayed_count») (s .delayed);
   answer-time = s .«answer_time»;
-  floundered-subgoals = map floundered (take (s .«floundered_count») (s .floundered));
+  floundered-subgoals = map floundered (take (s .«floundered_count») (timed (s .floundered) (s .«floundered_time»)));
 }
 
 -- a strand that was pursued at this time: the time stands beside the strands, by place
@@ -44,6 +49,7 @@ seen time s = record { ex-clause = clause s; selected-subgoal = selected (s .sel
 pub record Sound (s : Strand) : Type 0 where
   pub literals-long : length (s .literals) ≡ 8
   pub floundered-long : length (s .floundered) ≡ 8
+  pub times-long : length (s .«floundered_time») ≡ 8
   pub delayed-long : length (s .delayed) ≡ 8
   pub few-literals : s .«literal_count» + s .«floundered_count» + s .«answer_time» ≤ 8
   pub few-delayed : s .«delayed_count» ≤ 8

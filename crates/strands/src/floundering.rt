@@ -1,5 +1,4 @@
 // logic.rs: floundered literals. A strand sets one aside with its answer time, and takes it back once answer time has risen.
-use crate::Floundered;
 use crate::Strand;
 use crate::within;
 ghost use mathlib.Core.Path.{_≡_};
@@ -22,12 +21,10 @@ pub fn flounder_subgoal(s: Strand) -> Strand
     }
     let last = n - 1;
     let l = s.literals[last];
-    let f = Floundered {
-        literal: l,
-        time: s.answer_time,
-    };
+    let time = s.answer_time;
     let mut t = s;
-    t.floundered[m] = f;
+    t.floundered[m] = l;
+    t.floundered_time[m] = time;
     t.floundered_count = (m + 1) as u8;
     t.literal_count = last as u8;
     t
@@ -46,8 +43,8 @@ fn reconsider_at(s: Strand, i: usize) -> Strand
     if i >= m {
         return s;
     }
-    let f = s.floundered[i];
-    if f.time >= s.answer_time {
+    let time = s.floundered_time[i];
+    if time >= s.answer_time {
         return s;
     }
     if n >= 8 {
@@ -55,9 +52,11 @@ fn reconsider_at(s: Strand, i: usize) -> Strand
     }
     let last = m - 1;
     let moved = s.floundered[last];
-    let l = f.literal;
+    let moved_time = s.floundered_time[last];
+    let l = s.floundered[i];
     let mut t = s;
     t.floundered[i] = moved;
+    t.floundered_time[i] = moved_time;
     t.floundered_count = last as u8;
     t.literals[n] = l;
     t.literal_count = (n + 1) as u8;

@@ -14,21 +14,16 @@ use book::Literal;
 ghost use mathlib.Core.Path.{_≡_};
 ghost use Prim.Native.Nat.{min};
 
-// `FlounderedSubgoal`: 6 bytes, 4 of the literal, 1 of the time and 1 that aligns it.
-pub struct Floundered {
-    pub literal: Literal,
-    pub time: u8,
-}
-
 // `SelectedSubgoal`, or nothing selected: 6 bytes.
 pub enum Selected {
     Nothing,
     Subgoal { index: u8, table: u8, answer: u16 },
 }
 
-// `Strand` with its `ExClause`, in 102 bytes: 8 of variant, flags, answer time and counts, 32 of literals, 48 of floundered ones, 8 of
-// delayed goals and 6 of what is selected. The last pursued time stands beside the strands, by place, where it can be read without the
-// strand. Reading and writing back an element of an array costs twice as much above 128 bytes.
+// `Strand` with its `ExClause`, in 94 bytes: 8 of variant, flags, answer time and counts, 32 of literals, 32 of floundered ones and 8 of
+// their times, 8 of delayed goals and 6 of what is selected. A `FlounderedSubgoal` is a literal and, at the same index, its time: a struct
+// of the two would have a byte more that aligns it. The last pursued time stands beside the strands, by place, where it can be read
+// without the strand. Reading and writing back an element of an array costs twice as much above 128 bytes.
 pub struct Strand {
     pub variant: u16,
     pub outsized: bool,
@@ -38,7 +33,8 @@ pub struct Strand {
     pub floundered_count: u8,
     pub delayed_count: u8,
     pub literals: [Literal; 8],
-    pub floundered: [Floundered; 8],
+    pub floundered: [Literal; 8],
+    pub floundered_time: [u8; 8],
     pub delayed: [u8; 8],
     pub selected: Selected,
 }

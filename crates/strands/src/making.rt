@@ -1,6 +1,5 @@
 // Strands made anew: a blank one, which fills the store; one for a clause of the book; and one that refines a root answer.
 use crate::Answer;
-use crate::Floundered;
 use crate::Selected;
 use crate::Strand;
 use crate::within;
@@ -32,10 +31,6 @@ fn new_strand(
         want: 0,
         high: 0,
     };
-    let f = Floundered {
-        literal: l,
-        time: 0,
-    };
     Strand {
         variant,
         outsized,
@@ -45,7 +40,8 @@ fn new_strand(
         floundered_count: 0,
         delayed_count: 0,
         literals,
-        floundered: [f; 8],
+        floundered: [l; 8],
+        floundered_time: [0; 8],
         delayed: [0; 8],
         selected: Selected::Nothing,
     }

@@ -10,7 +10,7 @@ next-selected-requires c κs = search needs
 
 returns : tie.Need-returns
 returns c =
-    let called = c .before .before .before in
+    let called = c .before .before .before .before in
     ap (with-selected (called .before .args .s)) (called .next-selected .ensures)
 
 pub next-answer-strand-spec : {M : Type 1} → statement M

@@ -31,11 +31,14 @@ mul-l c = search needs
 element-copy-out-l : tie.Need-element-copy-out-l
 element-copy-out-l c = search needs
 
-mul-f : tie.Need-mul-f
-mul-f c = search needs
+mul-l-2 : tie.Need-mul-l-2
+mul-l-2 c = search needs
 
-element-set-from-f : tie.Need-element-set-from-f
-element-set-from-f c = search needs
+element-set-from-l : tie.Need-element-set-from-l
+element-set-from-l c = search needs
+
+element-write-t : tie.Need-element-write-t
+element-write-t c = search needs
 
 add-t : tie.Need-add-t
 add-t c = search needs
@@ -65,8 +68,9 @@ flounder-subgoal-spec =
     sub-last
     mul-l
     element-copy-out-l
-    mul-f
-    element-set-from-f
+    mul-l-2
+    element-set-from-l
+    element-write-t
     add-t
     cast-t
     cast-t-2
