@@ -10,6 +10,7 @@ The notation is the one in which `inspect` prints a book, after document 01:
     0/2 [cannot prove] [outsized] :- 1, not 2     a clause of the goal above it: its variant behind a slash (none: 0), its
                                               marks, its literals; with no `:-` it is a fact
     1/3 [outsized]                            a literal that wants variant 3 of goal 1 (no slash: any), with its mark
+    1/3-7 [outsized]                          a literal that wants a variant from 3 to 7
     not 2 [outsized]                          a "not" literal
 
 Nothing here keeps to the limits of a book, so that the books which are refused can be written too.
@@ -53,6 +54,9 @@ def literal(text):
         if want:
             raise ValueError('a "not" wants no variant: ' + text)
         return b"\x4e" + u16(goal) + flags(text, LITERAL_MARKS)
+    ranged = re.match(r"(\d+)/(\d+)-(\d+)\s*(\[|$)", text)
+    if ranged:
+        return b"\x52" + b"".join(u16(int(n)) for n in ranged.group(1, 2, 3)) + flags(text, LITERAL_MARKS)
     goal, want = slashed(text)
     return b"\x50" + u16(goal) + u16(want) + flags(text, LITERAL_MARKS)
 
@@ -83,6 +87,11 @@ def numbered(goal, number):
     return "%d/%d" % (goal, number) if number else str(goal)
 
 
+def ranged(goal, low, high):
+    """(1, 3, 7) as `1/3-7`."""
+    return "%d/%d-%d" % (goal, low, high)
+
+
 def marked(number, marks):
     return "".join(" [%s]" % mark for i, mark in enumerate(marks) if number >> i & 1)
 
@@ -102,14 +111,24 @@ def wide(n):
     return "goal 0\n0 :- %s\n" % ", ".join(map(str, below)) + "\n".join("goal %d\n%d" % (g, g) for g in below)
 
 
-def largest():
+def largest(literal):
+    """Every goal, clause and literal that there may be; a literal by the goal that it names, and a variant."""
     lines = []
     for g in range(64):
         lines.append("goal %d%s" % (g, marked(g, GOAL_MARKS)))
         for c in range(4 * g, 4 * g + 4):
-            body = (numbered((c + j) % 64, 256 * j + c) + marked(j % 2, LITERAL_MARKS) for j in range(8))
+            body = (literal((c + j) % 64, 256 * j + c) + marked(j % 2, LITERAL_MARKS) for j in range(8))
             lines.append("%s%s :- %s" % (numbered(g, 257 * c), marked(c, CLAUSE_MARKS), ", ".join(body)))
     return "\n".join(lines)
+
+
+LARGEST = largest(lambda goal, low: ranged(goal, low, 65535 - low))
+
+
+def three_to_seven():
+    variants = (2, 3, 7, 8, 0)
+    rest = ["goal %d\n%d :- %s" % (g, g, ranged(g + 5, 3, 7)) for g in range(5)]
+    return "\n".join(rest + ["goal %d\n%s" % (g, numbered(g, v)) for g, v in enumerate(variants, 5)])
 
 
 # A release paper, goal by goal: what it says, and its clauses.
@@ -163,7 +182,7 @@ PAPERS = [
     ("p7", "a fact, a clause that cannot prove, and two goals that rest on each other",
      "goal 0\n0 :- 1\n0/2\ngoal 1\n1/1 [cannot prove]\n1/1 :- 0"),
     ("p8", "a goal that rests on a fact: four turns", "goal 0\n0 :- 1\ngoal 1\n1"),
-    ("p9-empty", "no bytes: refused 1", None),
+    ("p9-empty", "no bytes: refused 1", b""),
     ("p9-end", "the end alone: refused 8", ""),
     ("p9-one-goal", "one goal and no clause: the smallest book", "goal 0"),
     ("release", "a release paper of 22 goals; `release.names` says what each stands for", release()),
@@ -173,13 +192,17 @@ PAPERS = [
     ("clauses-257", "the same with 257 facts: refused 5", facts(257)),
     ("literals-8", "a clause with 8 literals, on 8 facts", wide(8)),
     ("literals-9", "the same with 9: refused 5", wide(9)),
-    ("largest", "the largest book there can be: 64 goals, 256 clauses of 8 positive literals each, with every mark", largest()),
+    ("range-3-7", "goals 0 to 4 want 3 to 7 of the goals 5 to 9, whose variants are 2, 3, 7, 8 and 0: 1, 2 and 4 hold", three_to_seven()),
+    ("range-crossed", "a range from 4 to 3: refused 32", "goal 0\n0 :- 1/4-3\ngoal 1\n1/3"),
+    ("largest", "the largest book there can be: 64 goals, 256 clauses of 8 ranges each, with every mark", LARGEST),
+    ("largest-and-a-byte", "the same and a byte after it: refused 7", book(LARGEST) + b"\0"),
+    ("largest-wants", "the largest book without a range: the same with a want in place of each", largest(numbered)),
 ]
 
 HEADER = """# Sample papers
 
 Each file `NAME.book` holds the bytes of a book. p1 to p9 are the cases of document 01, `release` is a paper as the
-workshop has it; the others are the sizes at the limits and one past them, and the largest book. `inspect` prints what a book says,
+workshop has it; the others are the sizes at the limits and one past them, ranges at their ends, and the largest book. `inspect` prints what a book says,
 `listing` what follows from it. `tools/papers.py` makes the files and this page from a notation that can be read;
 `tools/papers.py --check` says whether they are those.
 
@@ -192,7 +215,7 @@ def files():
     """Every file of the folder with its bytes."""
     out, rows = {}, ""
     for name, says, text in PAPERS:
-        data = b"" if text is None else book(text)
+        data = text if isinstance(text, bytes) else book(text)
         out[name + ".book"] = data
         shown = "`%s`" % data.hex(" ").upper() if 0 < len(data) <= 64 else ""
         rows += "| %s.book | %d | %s | %s |\n" % (name, len(data), says, shown)

@@ -5,7 +5,7 @@ tools/vectors.py           write the program's stdin (names and bytes), stdout (
 tools/vectors.py --check   say whether the files are those
 
 What is expected stands here by hand, after document 01: a number by which a book is refused, or how many goals and clauses it has.
-Document 01's order: for each command 1 (its byte), 2, 1 (its operands), 3, 4, 5; at 45: 7, 8, 6. No bytes have two faults of which
+The order: for each command 1 (its byte), 2, 1 (its operands), 3, 4, 32, 5; at 45: 7, 8, 6. No bytes have two faults of which
 one is 3 and the other 5, or one is 8 and the other 6: without a clause there are no eight literals, and without a goal no literal.
 """
 import os
@@ -21,7 +21,8 @@ PAPERS = [
     ("p6", (2, 4)), ("p6-one-fact", (2, 2)), ("p7", (2, 4)), ("p8", (2, 2)),
     ("p9-empty", 1), ("p9-end", 8), ("p9-one-goal", (1, 0)),
     ("goals-64", (64, 64)), ("goals-65", 5), ("clauses-256", (1, 256)), ("clauses-257", 5), ("literals-8", (9, 9)), ("literals-9", 5),
-    ("largest", (64, 256)),
+    ("range-3-7", (10, 10)), ("range-crossed", 32),
+    ("largest", (64, 256)), ("largest-and-a-byte", 7), ("largest-wants", (64, 256)),
 ]
 
 G = "47 00 "                    # a goal
@@ -29,6 +30,8 @@ C = "43 00 00 00 "              # a clause of variant 0
 P = "50 00 00 00 00 00 "        # the literal 0
 N = "4E 00 00 00 "              # the literal not 0
 P5 = "50 05 00 00 00 00 "       # the literal 5
+R = "52 00 00 03 00 07 00 00 "  # the literal 0/3-7
+X = "52 00 00 04 00 03 00 00 "  # the literal 0/4-3, which is crossed
 END = "45"
 
 VECTORS = [
@@ -39,6 +42,16 @@ VECTORS = [
     ("the largest variant", G + "43 FF FF 00 " + END, (1, 1)),
     ("the largest want, outsized", G + C + "50 00 00 FF FF 01 " + END, (1, 1)),
     ("an outsized not", G + C + "4E 00 00 01 " + END, (1, 1)),
+    ("the range 3 to 7", G + C + R + END, (1, 1)),
+    ("the range 3 to 7, outsized", G + C + "52 00 00 03 00 07 00 01 " + END, (1, 1)),
+    ("the range 3 to 3", G + C + "52 00 00 03 00 03 00 00 " + END, (1, 1)),
+    ("the range 0 to 0", G + C + "52 00 00 00 00 00 00 00 " + END, (1, 1)),
+    ("the range 65535 to 65535", G + C + "52 00 00 FF FF FF FF 00 " + END, (1, 1)),
+    ("the range 0 to 65535", G + C + "52 00 00 00 00 FF FF 00 " + END, (1, 1)),
+    ("the range 255 to 256", G + C + "52 00 00 FF 00 00 01 00 " + END, (1, 1)),
+    ("a range of a later goal", G + C + "52 01 00 03 00 07 00 00 " + G + END, (2, 1)),
+    ("a range of the last clause, after a goal", G + C + G + R + END, (2, 1)),
+    ("8 ranges", G + C + R * 8 + END, (1, 1)),
     ("a literal that names a later goal", G + C + "50 01 00 00 00 00 " + G + END, (2, 1)),
     ("a literal that names goal 63", G + C + "50 3F 00 00 00 00 " + G * 63 + END, (64, 1)),
     ("a literal of the last clause, after a goal", G + C + G + P + END, (2, 1)),
@@ -64,29 +77,55 @@ VECTORS = [
     ("a not with half a goal's number", G + C + "4E 00", 1),
     ("a not without flags", G + C + "4E 00 00", 1),
     ("no end after a literal", G + C + P, 1),
+    ("a range without operands", G + C + "52", 1),
+    ("a range with half a goal's number", G + C + "52 00", 1),
+    ("a range without ends", G + C + "52 00 00", 1),
+    ("a range with half a low end", G + C + "52 00 00 03", 1),
+    ("a range without a high end", G + C + "52 00 00 03 00", 1),
+    ("a range with half a high end", G + C + "52 00 00 03 00 07", 1),
+    ("a range without flags", G + C + "52 00 00 03 00 07 00", 1),
+    ("no end after a range", G + C + R, 1),
     ("no command 00", "00 " + END, 2),
     ("no command FF", G + "FF " + END, 2),
     ("no command 46", G + C + "46 " + END, 2),
     ("no command 67", "67 00 " + END, 2),
+    ("no command 51", G + C + "51 00 00 03 00 07 00 00 " + END, 2),
+    ("no command 53", G + C + "53 00 00 03 00 07 00 00 " + END, 2),
     ("a clause before a goal", C + END, 3),
     ("a literal before a goal", P + END, 3),
     ("a not before a goal", N + END, 3),
     ("a literal before a clause", G + P + END, 3),
     ("a not before a clause", G + G + N + END, 3),
+    ("a range before a goal", R + END, 3),
+    ("a range before a clause", G + R + END, 3),
     ("bit 2 of a goal", "47 04 " + END, 4),
     ("bit 7 of a goal", "47 80 " + END, 4),
     ("bit 2 of a clause", G + "43 00 00 04 " + END, 4),
     ("bit 1 of a literal", G + C + "50 00 00 00 00 02 " + END, 4),
     ("bit 1 of a not", G + C + "4E 00 00 02 " + END, 4),
+    ("bit 1 of a range", G + C + "52 00 00 03 00 07 00 02 " + END, 4),
+    ("bit 7 of a range", G + C + "52 00 00 03 00 07 00 81 " + END, 4),
+    ("the range 4 to 3", G + C + X + END, 32),
+    ("the range 4 to 3, outsized", G + C + "52 00 00 04 00 03 00 01 " + END, 32),
+    ("the range 1 to 0", G + C + "52 00 00 01 00 00 00 00 " + END, 32),
+    ("the range 65535 to 65534", G + C + "52 00 00 FF FF FE FF 00 " + END, 32),
+    ("the range 65535 to 0", G + C + "52 00 00 FF FF 00 00 00 " + END, 32),
+    ("the range 256 to 255", G + C + "52 00 00 00 01 FF 00 00 " + END, 32),
+    ("the range 4 to 3 as second literal", G + C + R + X + END, 32),
+    ("the range 4 to 3 as eighth literal", G + C + P * 7 + X + END, 32),
     ("65 goals", G * 65 + END, 5),
     ("257 clauses of two goals", G + C * 128 + G + C * 129 + END, 5),
     ("9 literals", G + C + P * 9 + END, 5),
     ("9 literals, the last a not", G + C + P * 8 + N + END, 5),
     ("9 literals of the last clause, after a goal", G + C + P * 8 + G + P + END, 5),
+    ("9 literals, the last a range", G + C + P * 8 + R + END, 5),
+    ("9 ranges", G + C + R * 9 + END, 5),
     ("a literal that names goal 1 of one goal", G + C + "50 01 00 00 00 00 " + END, 6),
     ("a not that names goal 1 of one goal", G + C + "4E 01 00 00 " + END, 6),
     ("a literal that names goal 256", G + C + "50 00 01 00 00 00 " + END, 6),
     ("a literal that names goal 64 of 64", G + C + "50 40 00 00 00 00 " + G * 63 + END, 6),
+    ("a range of goal 1 of one goal", G + C + "52 01 00 03 00 07 00 00 " + END, 6),
+    ("a range of goal 256", G + C + "52 00 01 03 00 07 00 00 " + END, 6),
     ("a byte after the end", G + END + " 00", 7),
     ("an end after the end", G + END + " 45", 7),
     ("a book after the end", G + END + G + END, 7),
@@ -112,6 +151,19 @@ VECTORS = [
     ("4 before 5, the 257th clause with bit 2", G + C * 256 + "43 00 00 04 " + END, 4),
     ("4 before 5, the 9th literal with bit 1", G + C + P * 8 + "50 00 00 00 00 02 " + END, 4),
     ("4 before 5, the 9th literal, a not, with bit 1", G + C + P * 8 + "4E 00 00 02 " + END, 4),
+    # a crossed range: after 1, 3 and 4, before 5
+    *(("1 before 32, %d bytes of the range 4 to 3" % n, G + C + X[:3 * n].strip(), 1) for n in range(6, 8)),
+    ("3 before 32, the range 4 to 3 before a goal", X + END, 3),
+    ("3 before 32, the range 4 to 3 before a clause", G + X + END, 3),
+    ("3 before 4 and 32, the range 4 to 3 before a clause with bit 1", G + "52 00 00 04 00 03 00 02 " + END, 3),
+    ("4 before 32, the range 4 to 3 with bit 1", G + C + "52 00 00 04 00 03 00 02 " + END, 4),
+    ("4 before 32, the range 4 to 3 as 9th literal with bit 7", G + C + P * 8 + "52 00 00 04 00 03 00 80 " + END, 4),
+    ("4 before 5, a 9th literal, a range, with bit 1", G + C + P * 8 + "52 00 00 03 00 07 00 02 " + END, 4),
+    ("32 before 5, the range 4 to 3 as 9th literal", G + C + P * 8 + X + END, 32),
+    ("32 before 5, the range 4 to 3 after 8 ranges", G + C + R * 8 + X + END, 32),
+    ("32, not 6, the range 4 to 3 of a goal that is not there", G + C + "52 05 00 04 00 03 00 00 " + END, 32),
+    ("32, not 7, the range 4 to 3, and a byte after the end", G + C + X + END + " 00", 32),
+    ("32, not 1, the range 4 to 3, and no end", G + C + X, 32),
     # at the end
     ("7 before 8, a byte after the end alone", END + " 00", 7),
     ("7 before 6, a byte after the end, and a literal that names no goal", G + C + P5 + END + " 00", 7),
@@ -120,6 +172,8 @@ VECTORS = [
     ("2, not 6, a literal that names no goal, and no command", G + C + P5 + "46 " + END, 2),
     ("4, not 6, a literal that names no goal, and bit 2 of a goal", G + C + P5 + "47 04 " + END, 4),
     ("5, not 6, nine literals that name no goal", G + C + P5 * 9 + END, 5),
+    ("32, not 6, a literal that names no goal, and the range 4 to 3", G + C + P5 + X + END, 32),
+    ("7 before 6, a byte after the end, and a range of a goal that is not there", G + C + "52 05 00 03 00 07 00 00 " + END + " 00", 7),
 ]
 
 

@@ -5,6 +5,7 @@ use crate::book::{Book, Clause, GoalFlags, Literal};
 use crate::bounded::{Bounded, Reply};
 use crate::gen::{self, Profile};
 use crate::script::{parse, to_hex, Form, Line, Runner};
+use chalk_ir::Want;
 use std::fmt::Write as _;
 use std::io::Write;
 use std::process::{Command, Stdio};
@@ -22,7 +23,7 @@ fn plain(bodies: &[(usize, Vec<u16>)], goals: usize) -> Vec<u8> {
                 outsized: false,
                 literals: body
                     .iter()
-                    .map(|named| Literal { positive: true, goal: *named, want: 0, outsized: false })
+                    .map(|named| Literal { positive: true, goal: *named, want: Want::Any, outsized: false })
                     .collect(),
             })
             .collect(),
@@ -63,7 +64,7 @@ fn loads() -> Vec<Load> {
     let mut random = String::new();
     let mut plain = String::new();
     for number in 0..10_000 {
-        gen::forest(&mut gen::rng_of(7, number), Profile::Tiny, &mut random);
+        gen::forest(&mut gen::rng_of(7, number), Profile::Timed, &mut random);
         gen::forest(&mut gen::rng_of(7, number), Profile::Plain, &mut plain);
     }
     vec![

@@ -1,12 +1,13 @@
 //! The book reader: bytes to goals and clauses, or the number of the refusal.
 
 use chalk_ir::interner::BookInterner;
-use chalk_ir::{Goal, ProgramClause, UnificationDatabase};
+use chalk_ir::{Goal, ProgramClause, UnificationDatabase, Want};
 use chalk_solve::RustIrDatabase;
 
 pub const GOAL: u8 = 0x47;
 pub const CLAUSE: u8 = 0x43;
 pub const POSITIVE: u8 = 0x50;
+pub const RANGE: u8 = 0x52;
 pub const NOT: u8 = 0x4E;
 pub const END: u8 = 0x45;
 
@@ -18,8 +19,35 @@ pub const MOST_LITERALS: usize = 8;
 pub struct Literal {
     pub positive: bool,
     pub goal: u16,
-    pub want: u16,
+    /// Of a "not": any.
+    pub want: Want,
     pub outsized: bool,
+}
+
+impl Literal {
+    /// Its command and operands. A range is written as one, though it may be as wide as a want.
+    pub fn write(&self, out: &mut Vec<u8>) {
+        let goal = self.goal.to_le_bytes();
+        match self.want {
+            _ if !self.positive => {
+                out.push(NOT);
+                out.extend(goal);
+            }
+            Want::Between(low, high) => {
+                out.push(RANGE);
+                out.extend(goal);
+                out.extend(low.to_le_bytes());
+                out.extend(high.to_le_bytes());
+            }
+            // any is 0
+            want => {
+                out.push(POSITIVE);
+                out.extend(goal);
+                out.extend(want.low().to_le_bytes());
+            }
+        }
+        out.push(u8::from(self.outsized));
+    }
 }
 
 #[derive(Clone, Debug, PartialEq, Eq)]
@@ -64,7 +92,7 @@ impl Reader<'_> {
 }
 
 impl Book {
-    /// Each command is tested in the order 1 (its byte), 2, 1 (operands), 3, 4, 5; the end in the order 7, 8, 6.
+    /// Each command is tested in the order 1 (its byte), 2, 1 (operands), 3, 4, 32, 5; the end in the order 7, 8, 6.
     pub fn read(bytes: &[u8]) -> Result<Book, u8> {
         let mut reader = Reader { bytes, at: 0 };
         let mut book = Book::default();
@@ -95,11 +123,20 @@ impl Book {
                 }
                 POSITIVE => {
                     let [g0, g1, w0, w1, flags] = reader.operands()?;
-                    book.literal(true, [g0, g1], [w0, w1], flags)?;
+                    let want = match u16::from_le_bytes([w0, w1]) {
+                        0 => Want::Any,
+                        variant => Want::Exactly(variant),
+                    };
+                    book.literal(true, [g0, g1], want, flags)?;
+                }
+                RANGE => {
+                    let [g0, g1, l0, l1, h0, h1, flags] = reader.operands()?;
+                    let want = Want::Between(u16::from_le_bytes([l0, l1]), u16::from_le_bytes([h0, h1]));
+                    book.literal(true, [g0, g1], want, flags)?;
                 }
                 NOT => {
                     let [g0, g1, flags] = reader.operands()?;
-                    book.literal(false, [g0, g1], [0, 0], flags)?;
+                    book.literal(false, [g0, g1], Want::Any, flags)?;
                 }
                 END => {
                     if reader.at != bytes.len() {
@@ -120,19 +157,28 @@ impl Book {
     }
 
     /// A literal belongs to the last clause so far, even if a goal came between.
-    fn literal(&mut self, positive: bool, goal: [u8; 2], want: [u8; 2], flags: u8) -> Result<(), u8> {
+    fn literal(&mut self, positive: bool, goal: [u8; 2], want: Want, flags: u8) -> Result<(), u8> {
         let clause = self.clauses.last_mut().ok_or(3)?;
         known(flags, 1)?;
+        if want.low() > want.high() {
+            return Err(32);
+        }
         if clause.literals.len() == MOST_LITERALS {
             return Err(5);
         }
         clause.literals.push(Literal {
             positive,
             goal: u16::from_le_bytes(goal),
-            want: u16::from_le_bytes(want),
+            want,
             outsized: flags & 1 != 0,
         });
         Ok(())
+    }
+
+    /// How many of its literals are ranges.
+    pub fn ranges(&self) -> u64 {
+        let literals = self.clauses.iter().flat_map(|clause| &clause.literals);
+        literals.filter(|literal| matches!(literal.want, Want::Between(..))).count() as u64
     }
 
     /// The bytes of this book: each goal, then its clauses.
@@ -146,12 +192,7 @@ impl Book {
                 out.extend(clause.variant.to_le_bytes());
                 out.push(u8::from(clause.cannot_prove) | u8::from(clause.outsized) << 1);
                 for literal in &clause.literals {
-                    out.push(if literal.positive { POSITIVE } else { NOT });
-                    out.extend(literal.goal.to_le_bytes());
-                    if literal.positive {
-                        out.extend(literal.want.to_le_bytes());
-                    }
-                    out.push(u8::from(literal.outsized));
+                    literal.write(&mut out);
                 }
             }
         }

@@ -1,9 +1,10 @@
 //! `oracle check`: the cases and sizes of document 01, then the standard run with its counts.
 
-use crate::book::{Book, CLAUSE, END, GOAL, POSITIVE};
+use crate::book::{Book, CLAUSE, END, GOAL, MOST_CLAUSES, MOST_GOALS, MOST_LITERALS, POSITIVE, RANGE};
 use crate::gen::{self, Profile};
 use crate::list::list;
 use crate::script::{fnv1a, hex, Form, Runner};
+use chalk_engine::solve::ranges;
 use std::collections::BTreeMap;
 
 /// The standard run goes on until it has as many calls.
@@ -52,6 +53,16 @@ const LISTINGS: &[(&str, &str, &str)] = &[
          50 00 00 00 00 00 45",
         "0 0 yes 2\n0 1 maybe 0\n0 2 none\n1 0 maybe 1\n1 1 stop 26\n",
     ),
+    (
+        "3 to 7 takes 3, 7 and 0, and neither 2 nor 8",
+        "47 00 43 00 00 00 52 05 00 03 00 07 00 00 47 00 43 00 00 00 52 06 00 03 00 07 00 00 \
+         47 00 43 00 00 00 52 07 00 03 00 07 00 00 47 00 43 00 00 00 52 08 00 03 00 07 00 00 \
+         47 00 43 00 00 00 52 09 00 03 00 07 00 00 47 00 43 02 00 00 47 00 43 03 00 00 \
+         47 00 43 07 00 00 47 00 43 08 00 00 47 00 43 00 00 00 45",
+        "0 0 none\n1 0 yes 0\n1 1 none\n2 0 yes 0\n2 1 none\n3 0 none\n4 0 yes 0\n4 1 none\n5 0 yes 2\n5 1 none\n\
+         6 0 yes 3\n6 1 none\n7 0 yes 7\n7 1 none\n8 0 yes 8\n8 1 none\n9 0 yes 0\n9 1 none\n",
+    ),
+    ("4 to 3", "47 00 43 00 00 00 52 00 00 04 00 03 00 00 45", "refused 32\n"),
     ("p9, no bytes", "", "refused 1\n"),
     ("p9, 45", "45", "refused 8\n"),
     ("p9, 47 00 45", "47 00 45", "0 0 none\n"),
@@ -123,6 +134,20 @@ fn literals(count: usize) -> Vec<u8> {
     bytes
 }
 
+/// The largest book: each command as often as there may be, the literals ranges.
+fn largest() -> Vec<u8> {
+    let mut bytes = Vec::new();
+    for goal in 0..MOST_GOALS {
+        bytes.extend([GOAL, 0]);
+        for clause in 0..MOST_CLAUSES / MOST_GOALS {
+            bytes.extend([CLAUSE, goal as u8, clause as u8, 0]);
+            bytes.extend([RANGE, goal as u8, 0, clause as u8, 0, 0, 1, 1].repeat(MOST_LITERALS));
+        }
+    }
+    bytes.push(END);
+    bytes
+}
+
 /// The result lines of a script, without the dumps.
 fn results(script: &str) -> Result<String, String> {
     let mut runner = Runner::new(Form::Quiet);
@@ -166,7 +191,14 @@ fn cases() -> Result<(), String> {
             list(&bytes)?;
         }
     }
-    Ok(())
+    let mut bytes = largest();
+    let written = Book::read(&bytes).map(|book| book.bytes());
+    hold("the largest book", "17537, written as it was read: true\n", &{
+        format!("{}, written as it was read: {}\n", bytes.len(), written.as_ref() == Ok(&bytes))
+    })?;
+    bytes.push(0);
+    let refused = Book::read(&bytes).map(|_| ());
+    hold("a byte after the largest book", "Err(7)\n", &format!("{refused:?}\n"))
 }
 
 /// Counts of every result of a run.
@@ -176,6 +208,13 @@ pub struct Counts {
     pub calls: u64,
     pub forests: u64,
     pub digest: u64,
+    /// Literals of the books made that are ranges.
+    pub ranges: u64,
+    /// Calls on books with a range.
+    pub on_ranges: u64,
+    /// Answers that fit a range, and answers that did not.
+    pub fit: u64,
+    pub misfit: u64,
 }
 
 /// Runs forests of a profile until there are `calls` calls.
@@ -188,10 +227,18 @@ pub fn counted_run(seed: u64, calls: u64, profile: Profile) -> Result<Counts, St
         gen::forest(&mut gen::rng_of(seed, counts.forests), profile, &mut script);
         counts.forests += 1;
         let mut runner = Runner::new(Form::Quiet);
+        let before = ranges();
+        let mut here = 0;
         for line in script.lines() {
             out.clear();
             runner.step(line, &mut out)?;
             counts.calls += 1;
+            if line.starts_with("book") {
+                here = runner.book().map_or(0, Book::ranges);
+                counts.ranges += here;
+            } else {
+                counts.on_ranges += u64::from(here > 0);
+            }
             let result = out.lines().next().unwrap_or("");
             let mut words = result.split(' ');
             let mut word = words.next().unwrap_or("").to_string();
@@ -203,6 +250,8 @@ pub fn counted_run(seed: u64, calls: u64, profile: Profile) -> Result<Counts, St
             *counts.words.entry(word).or_default() += 1;
             counts.digest = fnv1a(format!("{:016x}{out}", counts.digest).as_bytes());
         }
+        counts.fit += ranges().fit - before.fit;
+        counts.misfit += ranges().misfit - before.misfit;
     }
     Ok(counts)
 }
@@ -230,15 +279,22 @@ pub fn check(calls: u64, seed: u64) -> Result<(), String> {
         println!("| {word} | {} |", count(&counts, word));
     }
     println!();
+    println!(
+        "ranges: {} literals of books that were made, {} calls on these books, {} answers fit one, {} did not\n",
+        counts.ranges, counts.on_ranges, counts.fit, counts.misfit
+    );
     // A shorter run than the standard one needs its share only.
     let least = AT_LEAST * calls / STANDARD_CALLS;
-    for number in (1..=13).chain(20..=29) {
-        let word = if number <= 20 { "refused" } else { "stop" };
+    for number in (1..=13).chain(20..=29).chain([32]) {
+        let word = if matches!(number, 21..=29) { "stop" } else { "refused" };
         let times = count(&counts, &format!("{word} {number}"));
         if times < least {
             return Err(format!("{word} {number} came up {times} times only, not {least}"));
         }
     }
-    println!("each of the numbers 1 to 13 and 20 to 29 came up at least {least} times");
+    if counts.fit.min(counts.misfit) < least {
+        return Err(format!("a range took or left an answer less than {least} times"));
+    }
+    println!("each of the numbers 1 to 13, 20 to 29 and 32 came up at least {least} times");
     Ok(())
 }

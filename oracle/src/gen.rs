@@ -10,7 +10,7 @@ mod rare;
 pub use books::{damaged_book, plain_book};
 
 use crate::rng::Rng;
-use books::{random_book, taste};
+use books::{random_book, share_of_ranges, taste};
 use calls::{clock, Forest, Haste};
 use rare::{chain_forest, delayed_forest, facts_forest, near_forest, strands_forest};
 use std::fmt::Write;
@@ -35,6 +35,8 @@ pub enum Profile {
     Large,
     /// Small books in scripts with malformed lines, comments and odd spacing.
     Lines,
+    /// Tiny books without ranges: what bench times, and so not to be changed.
+    Timed,
 }
 
 impl Profile {
@@ -69,7 +71,7 @@ fn general_forest(rng: &mut Rng, out: &mut String, profile: Profile) -> u64 {
     let mut limit = clock(rng);
     let mut haste = None;
     match profile {
-        Profile::Tiny => taste.goals = (1, 3),
+        Profile::Tiny | Profile::Timed => taste.goals = (1, 3),
         Profile::Small => {
             taste.goals = (1, 4);
             taste.most_clauses = 6;
@@ -99,6 +101,9 @@ fn general_forest(rng: &mut Rng, out: &mut String, profile: Profile) -> u64 {
                 taste.literals = (0, 8);
             }
         }
+    }
+    if profile != Profile::Timed {
+        taste.range = share_of_ranges(rng);
     }
     let bytes = random_book(rng, &taste).bytes();
     let mut forest = Forest::begin(rng, &bytes, limit, out);
@@ -216,7 +221,7 @@ pub fn forest(rng: &mut Rng, profile: Profile, out: &mut String) -> u64 {
             _ => general_forest(rng, out, profile),
         },
         Profile::Lines => lines_forest(rng, out),
-        Profile::Tiny | Profile::Large => general_forest(rng, out, profile),
+        Profile::Tiny | Profile::Large | Profile::Timed => general_forest(rng, out, profile),
     }
 }
 

@@ -1,6 +1,7 @@
 //! The script of the differential run: one call a line in, two lines a call out. In batches the forest's line
 //! comes after some calls, not after each.
 
+use crate::book::Book;
 use crate::bounded::{Bounded, Call, Reply};
 use chalk_engine::solve::{Ended, Outcome};
 use std::fmt::Write as _;
@@ -156,6 +157,11 @@ impl Runner {
     /// What the forest holds is told once after the calls of a batch.
     pub fn in_batches(form: Form) -> Runner {
         Runner { batch: true, ..Runner::new(form) }
+    }
+
+    /// The book of the forest at hand.
+    pub fn book(&self) -> Option<&Book> {
+        self.bounded.as_ref().map(|bounded| &*bounded.book)
     }
 
     /// What the forest holds; a bare run says nothing of it.

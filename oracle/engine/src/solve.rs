@@ -7,7 +7,8 @@
 mod dump;
 mod watch;
 
-pub(crate) use watch::{answers, delayed, push, search, strands, turn};
+pub use watch::{ranges, Ranges};
+pub(crate) use watch::{answers, delayed, held, push, search, strands, turn};
 
 use crate::context::AnswerResult;
 use crate::forest::{start, Forest};

@@ -1,7 +1,8 @@
 //! Books of chance: small ones of every kind, plain levelled ones, books at the limits, damaged bytes.
 
-use crate::book::{Book, Clause, GoalFlags, Literal, CLAUSE, END, GOAL, NOT, POSITIVE};
+use crate::book::{Book, Clause, GoalFlags, Literal, CLAUSE, END, GOAL, NOT, POSITIVE, RANGE};
 use crate::rng::Rng;
+use chalk_ir::Want;
 
 /// How likely each thing is in a book, in percent.
 pub struct Taste {
@@ -13,6 +14,8 @@ pub struct Taste {
     pub floundered: u64,
     pub variant: u64,
     pub want: u64,
+    /// Of the positive literals that want no single variant.
+    pub range: u64,
     pub cannot_prove: u64,
     pub outsized_answer: u64,
     pub outsized_literal: u64,
@@ -29,6 +32,7 @@ pub fn taste(rng: &mut Rng) -> Taste {
         floundered: rng.pick(&[0, 0, 0, 10, 30]),
         variant: rng.pick(&[0, 20, 50, 90]),
         want: rng.pick(&[0, 0, 20, 50]),
+        range: 0,
         cannot_prove: rng.pick(&[0, 0, 10, 40]),
         outsized_answer: rng.pick(&[0, 0, 0, 10, 25]),
         outsized_literal: rng.pick(&[0, 0, 0, 10, 25]),
@@ -38,6 +42,54 @@ pub fn taste(rng: &mut Rng) -> Taste {
 
 pub fn variant(rng: &mut Rng) -> u16 {
     rng.pick(&[1, 1, 1, 2, 2, 3, 4, 256, 65535])
+}
+
+/// How many of a book's literals are to be ranges, in percent.
+pub fn share_of_ranges(rng: &mut Rng) -> u64 {
+    rng.pick(&[0, 0, 15, 40])
+}
+
+/// Variants in use, and those beside them.
+const NEAR: &[u16] = &[0, 1, 1, 1, 2, 2, 3, 4, 5, 255, 256, 257, 65534, 65535];
+
+/// A range whose ends are variants in use, or beside them.
+pub fn ranged(rng: &mut Rng) -> Want {
+    let (low, high) = match rng.below(12) {
+        0 => (0, 0),
+        1 => (0, 65535),
+        2 => (65535, 65535),
+        3 => {
+            let both = variant(rng);
+            (both, both)
+        }
+        _ => {
+            let (one, other) = (rng.pick(NEAR), rng.pick(NEAR));
+            (one.min(other), one.max(other))
+        }
+    };
+    Want::Between(low, high)
+}
+
+/// A range whose low end is above its high end, by one or by more.
+pub fn crossed(rng: &mut Rng) -> Want {
+    match ranged(rng) {
+        Want::Between(low, high) if low < high => Want::Between(high, low),
+        want => {
+            let high = want.low().min(65534);
+            Want::Between(high + 1, high)
+        }
+    }
+}
+
+/// What a positive literal wants.
+fn wanted(rng: &mut Rng, taste: &Taste) -> Want {
+    if rng.chance(taste.want) {
+        Want::Exactly(variant(rng))
+    } else if taste.range > 0 && rng.chance(taste.range) {
+        ranged(rng)
+    } else {
+        Want::Any
+    }
 }
 
 pub fn random_book(rng: &mut Rng, taste: &Taste) -> Book {
@@ -58,7 +110,7 @@ pub fn random_book(rng: &mut Rng, taste: &Taste) -> Book {
                 literals.push(Literal {
                     positive,
                     goal: rng.below(goals) as u16,
-                    want: if positive && rng.chance(taste.want) { variant(rng) } else { 0 },
+                    want: if positive { wanted(rng, taste) } else { Want::Any },
                     outsized: rng.chance(taste.outsized_literal),
                 });
             }
@@ -95,7 +147,7 @@ pub fn plain_book(rng: &mut Rng) -> (Book, Vec<u64>) {
                     literals.push(Literal {
                         positive,
                         goal: rng.pick(&named) as u16,
-                        want: 0,
+                        want: Want::Any,
                         outsized: false,
                     });
                 }
@@ -106,16 +158,16 @@ pub fn plain_book(rng: &mut Rng) -> (Book, Vec<u64>) {
     (book, levels)
 }
 
-pub fn want(goal: u16, want: u16) -> Literal {
-    Literal { positive: true, goal, want, outsized: false }
+pub fn want(goal: u16, variant: u16) -> Literal {
+    Literal { positive: true, goal, want: Want::Exactly(variant), outsized: false }
 }
 
 pub fn any(goal: u16) -> Literal {
-    want(goal, 0)
+    Literal { want: Want::Any, ..want(goal, 0) }
 }
 
 pub fn not(goal: u16) -> Literal {
-    Literal { positive: false, goal, want: 0, outsized: false }
+    Literal { positive: false, ..any(goal) }
 }
 
 /// A builder for books made on purpose.
@@ -136,6 +188,23 @@ impl Made {
             outsized: false,
             literals,
         });
+    }
+
+    /// Some literals as ranges, which take and leave what they did before: no variant in use is above 999, or
+    /// from a wanted one on.
+    pub fn with_ranges(mut self, rng: &mut Rng) -> Made {
+        let percent = rng.pick(&[0, 0, 25, 75]);
+        let literals = self.0.clauses.iter_mut().flat_map(|clause| &mut clause.literals);
+        for literal in literals.filter(|literal| literal.positive) {
+            if rng.chance(percent) {
+                let (low, high) = match literal.want {
+                    Want::Any => rng.pick(&[(0, 65535), (1, 65535), (0, 999), (1, 999)]),
+                    want => (want.low(), rng.pick(&[want.low(), want.low() + 1, 65535])),
+                };
+                literal.want = Want::Between(low, high);
+            }
+        }
+        self
     }
 }
 
@@ -175,14 +244,41 @@ pub fn limit_book(rng: &mut Rng) -> Vec<u8> {
             }
         }
     }
-    made.0.bytes()
+    made.with_ranges(rng).0.bytes()
+}
+
+/// A book whose last literal is a range, which may be wrong in more than one way: crossed, with a flag that
+/// means nothing, of a goal that is not there, as ninth literal, before a clause, cut short.
+fn range_book(rng: &mut Rng) -> Vec<u8> {
+    let goals = rng.range(1, 4) as u16;
+    let mut bytes = [GOAL, 0].repeat(usize::from(goals));
+    if rng.chance(90) {
+        bytes.extend([CLAUSE, rng.below(3) as u8, 0, 0]);
+        for _ in 0..rng.pick(&[0, 0, 1, 2, 7, 8, 8]) {
+            let goal = rng.below(u64::from(goals)) as u16;
+            let want = if rng.chance(50) { ranged(rng) } else { Want::Any };
+            Literal { want, ..any(goal) }.write(&mut bytes);
+        }
+    }
+    let undefined = rng.chance(20);
+    let goal = if undefined { rng.pick(&[goals, goals + 1, 64, 65535]) } else { rng.below(u64::from(goals)) as u16 };
+    let want = if rng.chance(70) { crossed(rng) } else { ranged(rng) };
+    Literal { want, ..any(goal) }.write(&mut bytes);
+    let flags = bytes.len() - 1;
+    bytes[flags] = rng.pick(&[0, 0, 0, 0, 0, 0, 1, 1, 2, 255]);
+    if rng.chance(10) {
+        bytes.truncate(bytes.len() - rng.range(1, 7) as usize);
+    } else {
+        bytes.push(END);
+    }
+    bytes
 }
 
 /// A command with operands of chance, some of them out of bounds.
 pub fn random_command(rng: &mut Rng, out: &mut Vec<u8>) {
     let small = |rng: &mut Rng| rng.pick(&[0u16, 0, 1, 1, 2, 3, 63, 64, 256, 65535]).to_le_bytes();
     let flags = |rng: &mut Rng| rng.pick(&[0u8, 0, 0, 0, 0, 1, 1, 2, 3, 4, 255]);
-    match rng.below(20) {
+    match rng.below(21) {
         0..=4 => out.extend([GOAL, flags(rng)]),
         5..=9 => {
             out.push(CLAUSE);
@@ -201,6 +297,13 @@ pub fn random_command(rng: &mut Rng, out: &mut Vec<u8>) {
             out.push(flags(rng));
         }
         17..=18 => out.push(END),
+        19 => {
+            out.push(RANGE);
+            for _ in 0..3 {
+                out.extend(small(rng));
+            }
+            out.push(flags(rng));
+        }
         _ => out.push(rng.below(256) as u8),
     }
 }
@@ -209,6 +312,9 @@ pub fn random_command(rng: &mut Rng, out: &mut Vec<u8>) {
 pub fn damaged_book(rng: &mut Rng) -> Vec<u8> {
     if rng.chance(6) {
         return vec![END];
+    }
+    if rng.chance(10) {
+        return range_book(rng);
     }
     let mut bytes = match rng.below(20) {
         0..=5 => limit_book(rng),
@@ -236,7 +342,8 @@ pub fn damaged_book(rng: &mut Rng) -> Vec<u8> {
             noise
         }
         _ => {
-            let taste = taste(rng);
+            let mut taste = taste(rng);
+            taste.range = share_of_ranges(rng);
             let mut book = random_book(rng, &taste);
             if rng.chance(25) {
                 let beyond = book.goals.len() as u16;
@@ -260,8 +367,8 @@ pub fn damaged_book(rng: &mut Rng) -> Vec<u8> {
             4 => {
                 bytes.remove(at);
             }
-            5 => bytes.insert(at, rng.pick(&[0, 1, GOAL, CLAUSE, POSITIVE, NOT, END, 255])),
-            6 => bytes[at] = rng.pick(&[GOAL, CLAUSE, POSITIVE, NOT, END]),
+            5 => bytes.insert(at, rng.pick(&[0, 1, GOAL, CLAUSE, POSITIVE, RANGE, NOT, END, 255])),
+            6 => bytes[at] = rng.pick(&[GOAL, CLAUSE, POSITIVE, RANGE, NOT, END]),
             _ => {
                 bytes.pop();
             }

@@ -39,8 +39,8 @@ impl<I: Interner> ResolventOps<I> for InferenceTable<I> {
         })
     }
 
-    /// An answer fits a literal if the literal wants any variant, or the answer is for the goal as a whole,
-    /// or the two are the same. The strand keeps its own variant and takes over the answer's delayed goals.
+    /// An answer fits a literal if it is for the goal as a whole, or its variant lies from the lowest to the
+    /// highest that the literal wants. The strand keeps its own variant and takes over the answer's delayed goals.
     fn apply_answer_subst(
         &mut self,
         interner: I,
@@ -57,7 +57,9 @@ impl<I: Interner> ResolventOps<I> for InferenceTable<I> {
         } = self.instantiate_canonical(interner, canonical_answer_subst);
 
         let want = selected_goal.goal.domain_goal().want;
-        if want != 0 && answer_subst.variant != 0 && answer_subst.variant != want {
+        let fits = want.takes(answer_subst.variant);
+        crate::solve::held(want, fits);
+        if !fits {
             return Err(NoSolution);
         }
         ex_clause.delayed_subgoals.extend(delayed_subgoals);

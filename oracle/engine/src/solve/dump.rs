@@ -4,7 +4,7 @@ use super::{number_of, value_of, Trees};
 use crate::table::AnswerIndex;
 use crate::{AnswerMode, Literal, TableIndex};
 use chalk_ir::interner::Interner;
-use chalk_ir::{Goal, InEnvironment};
+use chalk_ir::{Goal, InEnvironment, Want};
 use std::fmt::Write;
 
 impl Trees {
@@ -91,7 +91,11 @@ fn literal<I: Interner>(literal: &Literal<I>, out: &mut String) {
     let goal = match literal {
         Literal::Positive(goal) => {
             let goal = goal.goal.domain_goal();
-            let _ = write!(out, "+{}/{}", goal.number, goal.want);
+            let _ = match goal.want {
+                Want::Between(low, high) => write!(out, "+{}/{low}-{high}", goal.number),
+                // any is 0
+                want => write!(out, "+{}/{}", goal.number, want.low()),
+            };
             goal
         }
         Literal::Negative(goal) => {

@@ -6,6 +6,7 @@ use crate::stack::{Stack, StackIndex};
 use crate::tables::Tables;
 use crate::{TableIndex, TimeStamp};
 use chalk_ir::interner::Interner;
+use chalk_ir::Want;
 use std::cell::Cell;
 use std::panic::resume_unwind;
 
@@ -38,6 +39,33 @@ thread_local! {
             cut_at: Cell::new(None),
         }
     };
+}
+
+/// How many answers were held against a range so far.
+#[derive(Copy, Clone, Debug, Default, PartialEq, Eq)]
+pub struct Ranges {
+    pub fit: u64,
+    pub misfit: u64,
+}
+
+thread_local! {
+    static RANGES: Cell<Ranges> = const { Cell::new(Ranges { fit: 0, misfit: 0 }) };
+}
+
+/// The answers held against a range by this thread.
+pub fn ranges() -> Ranges {
+    RANGES.get()
+}
+
+/// An answer was held against what a literal wants.
+pub(crate) fn held(want: Want, fits: bool) {
+    if let Want::Between(..) = want {
+        let Ranges { fit, misfit } = RANGES.get();
+        RANGES.set(Ranges {
+            fit: fit + u64::from(fits),
+            misfit: misfit + u64::from(!fits),
+        });
+    }
 }
 
 pub(super) fn watch_call(turn_limit: u64, clock_limit: u64, cut_at: Option<CutAt>) {

@@ -161,18 +161,50 @@ impl<G: HasEnvironment> InEnvironment<G> {
     }
 }
 
-/// A goal of the book, with what the literal that names it says besides: the wanted variant (0: any) and
+/// Which variants of its goal a literal takes, besides 0, the goal as a whole: all of them, one, or those from
+/// a low one to a high one, both included.
+#[derive(Copy, Clone, Debug, PartialEq, Eq)]
+pub enum Want {
+    Any,
+    Exactly(u16),
+    Between(u16, u16),
+}
+
+impl Want {
+    pub fn low(self) -> u16 {
+        match self {
+            Want::Any => 0,
+            Want::Exactly(variant) => variant,
+            Want::Between(low, _) => low,
+        }
+    }
+
+    pub fn high(self) -> u16 {
+        match self {
+            Want::Any => u16::MAX,
+            Want::Exactly(variant) => variant,
+            Want::Between(_, high) => high,
+        }
+    }
+
+    /// Whether an answer of this variant fits.
+    pub fn takes(self, variant: u16) -> bool {
+        variant == 0 || self.low() <= variant && variant <= self.high()
+    }
+}
+
+/// A goal of the book, with what the literal that names it says besides: the variants that it wants and
 /// whether the literal is outsized. Both are no part of the goal: two goals are equal if their numbers are.
 #[derive(Copy, Clone, Debug)]
 pub struct DomainGoal<I: Interner> {
     pub number: u16,
-    pub want: u16,
+    pub want: Want,
     pub outsized: bool,
     phantom: PhantomData<I>,
 }
 
 impl<I: Interner> DomainGoal<I> {
-    pub fn new(number: u16, want: u16, outsized: bool) -> Self {
+    pub fn new(number: u16, want: Want, outsized: bool) -> Self {
         DomainGoal {
             number,
             want,
@@ -209,7 +241,7 @@ pub struct Goal<I: Interner> {
 }
 
 impl<I: Interner> Goal<I> {
-    pub fn literal(number: u16, want: u16, outsized: bool) -> Self {
+    pub fn literal(number: u16, want: Want, outsized: bool) -> Self {
         Goal {
             data: GoalData::DomainGoal(DomainGoal::new(number, want, outsized)),
         }
@@ -217,7 +249,7 @@ impl<I: Interner> Goal<I> {
 
     /// The goal by its number alone.
     pub fn bare(number: u16) -> Self {
-        Goal::literal(number, 0, false)
+        Goal::literal(number, Want::Any, false)
     }
 
     pub fn data(&self, _interner: I) -> &GoalData<I> {
