@@ -26,6 +26,8 @@ FOLDER = os.path.join(tree.ROOT, "papers")
 GOAL_MARKS = ("coinductive", "floundered")
 CLAUSE_MARKS = ("cannot prove", "outsized")
 LITERAL_MARKS = ("outsized",)
+# The bytes of each command but the end, its operands included.
+LENGTHS = {0x47: 2, 0x43: 4, 0x50: 6, 0x52: 8, 0x4E: 4}
 
 
 def u16(n):
@@ -80,6 +82,15 @@ def book(text):
         for part in body.split(",") if body else []:
             out += literal(part)
     return out + b"\x45"
+
+
+def ranges_in(data):
+    """How many literals of a book that is read are ranges."""
+    found, at = 0, 0
+    while data[at] != 0x45:
+        found += data[at] == 0x52
+        at += LENGTHS[data[at]]
+    return found
 
 
 def numbered(goal, number):
@@ -202,8 +213,8 @@ PAPERS = [
 HEADER = """# Sample papers
 
 Each file `NAME.book` holds the bytes of a book. p1 to p9 are the cases of document 01, `release` is a paper as the
-workshop has it; the others are the sizes at the limits and one past them, ranges at their ends, and the largest book. `inspect` prints what a book says,
-`listing` what follows from it. `tools/papers.py` makes the files and this page from a notation that can be read;
+workshop has it; the others are the sizes at the limits and one past them, ranges, and the largest book. `inspect` prints what a
+book says, `listing` what follows from it. `tools/papers.py` makes the files and this page from a notation that can be read;
 `tools/papers.py --check` says whether they are those.
 
 | file | bytes | what it is | in hex |

@@ -11,14 +11,14 @@ use mathlib.Core.Path.{_≡_, refl}
 use mathlib.Core.Bool.{false}
 use mathlib.Core.List.{List, [], _∷_, map}
 use %(s)s.Stop.{go}
-use %(s)s.Book.{Literal, Positive, Negative, Clause, Goal, Book}
+use %(s)s.Book.{any, Literal, Positive, Negative, Clause, Goal, Book}
 use %(s)s.Tables.{Forest}
 use %(s)s.Logic.{NoMoreSolutions, QuantumExceeded}
 use %(s)s.Turn.{found, fail, cut, stopped}
 use %(s)s.Calls.{Call, opens, searches, Reply, table, searched, sitting, Called, calls}
 
 abbrev pub pos : ℕ → Literal
-pos g = Positive g 0 false
+pos g = Positive g any false
 
 abbrev pub neg : ℕ → Literal
 neg g = Negative g false

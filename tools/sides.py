@@ -3,12 +3,15 @@ import collections
 import re
 import subprocess
 
+import papers
+
 # The results of a call, in the order of a table.
 WORDS = "made table yes maybe none floundered again negcycle invalid cut true false".split()
-REFUSALS = ["refused %d" % n for n in (*range(1, 14), 20)]
+REFUSALS = ["refused %d" % n for n in (*range(1, 14), 20, 32)]
 STOPS = ["stop %d" % n for n in range(21, 30)]
 # A line that is no dump and no hash of one.
 RESULT = re.compile(rb"^(?!state |[0-9a-f]{16}$).+$", re.M)
+BOOK = re.compile(rb" *book ([0-9A-Fa-f ]*)clock ")
 
 
 class Broken(Exception):
@@ -52,12 +55,15 @@ def results_of(output):
 
 
 class Counts:
-    """What the Rust said, over all scripts."""
+    """What the Rust said, over all scripts; how many literals of the books that were made are ranges, and the calls on these books."""
 
     def __init__(self):
         self.calls, self.turns, self.said = 0, 0, collections.Counter()
+        self.ranges, self.on_ranges = 0, 0
 
-    def see(self, output):
+    def see(self, output, script=None):
+        if script is not None:
+            self.see_ranges(output, script)
         for line, times in results_of(output).items():
             result = line.decode()
             turns = re.search(r" turns (\d+)$", result)
@@ -66,18 +72,32 @@ class Counts:
             numbered = re.match(r"(refused|stop) \d+|no forest|bad line", result)
             self.said[numbered.group(0) if numbered else result.split()[0]] += times
 
+    def see_ranges(self, output, script):
+        here, lines = 0, [line for line in script.split(b"\n") if not is_skipped(line)]
+        for line, result in zip(lines, RESULT.findall(output)):
+            if result == b"made":
+                here = papers.ranges_in(bytes.fromhex(BOOK.match(line).group(1).decode()))
+                self.ranges += here
+            elif line.strip(b" ").startswith(b"book") and not result.startswith(b"bad line"):
+                here = 0
+            elif here:
+                self.on_ranges += 1
+
     def add(self, other):
         self.calls, self.turns = self.calls + other.calls, self.turns + other.turns
+        self.ranges, self.on_ranges = self.ranges + other.ranges, self.on_ranges + other.on_ranges
         self.said += other.said
 
     def rare(self, least):
-        """The numbers that came up less often."""
-        return [w for w in REFUSALS + STOPS if self.said[w] < least]
+        """The numbers, and what there is to ranges, that came up less often."""
+        ranges = {"literals that are ranges": self.ranges, "calls on books with ranges": self.on_ranges}
+        return [w for w in REFUSALS + STOPS if self.said[w] < least] + [w for w in ranges if ranges[w] < least]
 
     def table(self):
         order = WORDS + ["no forest", "bad line"] + REFUSALS + STOPS
         cells = ["%-12s %10s" % (w, format(self.said[w], ",")) for w in order + sorted(set(self.said) - set(order))]
-        return "\n".join("   ".join(cells[at:at + 4]) for at in range(0, len(cells), 4))
+        ranges = "ranges: {0.ranges:,} literals of the books that were made, {0.on_ranges:,} calls on these books".format(self)
+        return "\n".join(["   ".join(cells[at:at + 4]) for at in range(0, len(cells), 4)] + [ranges])
 
 
 def difference(script, rust, ours):

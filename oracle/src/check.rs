@@ -193,9 +193,8 @@ fn cases() -> Result<(), String> {
     }
     let mut bytes = largest();
     let written = Book::read(&bytes).map(|book| book.bytes());
-    hold("the largest book", "17537, written as it was read: true\n", &{
-        format!("{}, written as it was read: {}\n", bytes.len(), written.as_ref() == Ok(&bytes))
-    })?;
+    let said = format!("{} bytes, written as they were read: {}\n", bytes.len(), written.as_ref() == Ok(&bytes));
+    hold("the largest book", "17537 bytes, written as they were read: true\n", &said)?;
     bytes.push(0);
     let refused = Book::read(&bytes).map(|_| ());
     hold("a byte after the largest book", "Err(7)\n", &format!("{refused:?}\n"))
