@@ -31,7 +31,13 @@ def said(words, script, seconds=None):
 
 
 def is_skipped(line):
-    return line.startswith(b"#") or not line.strip(b" ")
+    """A line of spaces, or a comment; one that is no text is malformed, however it begins."""
+    if not line.startswith(b"#"):
+        return not line.strip(b" ")
+    try:
+        return bool(line.decode())
+    except UnicodeDecodeError:
+        return False
 
 
 def calls_of(script, output):

@@ -262,7 +262,7 @@ fn range_book(rng: &mut Rng) -> Vec<u8> {
     }
     let undefined = rng.chance(20);
     let goal = if undefined { rng.pick(&[goals, goals + 1, 64, 65535]) } else { rng.below(u64::from(goals)) as u16 };
-    let want = if rng.chance(70) { crossed(rng) } else { ranged(rng) };
+    let want = if rng.chance(75) { crossed(rng) } else { ranged(rng) };
     Literal { want, ..any(goal) }.write(&mut bytes);
     let flags = bytes.len() - 1;
     bytes[flags] = rng.pick(&[0, 0, 0, 0, 0, 0, 1, 1, 2, 255]);
