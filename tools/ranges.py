@@ -6,9 +6,9 @@ tools/ranges.py --check           say whether the scripts there are those
 tools/ranges.py --oracle          run the Rust's listing on each book, and say whether it is the one that stands here
 tools/ranges.py --listing [PATH]  the same of target/bin/listing, or of a program in its place
 
-`tools/compare-definitions --faults tools/scripts` takes the scripts: it holds what the definitions reply and list against the Rust, and sees
-that each script finds the fault of the definitions beside it. Books are in the notation of papers.py, or bytes in hex. A paper, named as a
-file, is in no script: its bytes are more than the definitions are computed on. Status 0 only if all is as it stands here.
+`tools/compare-definitions --faults tools/scripts` takes the scripts: it holds what the definitions reply and list against the Rust, and
+sees that each script finds the fault of the definitions beside it. Books are in the notation of papers.py, or bytes in hex. A paper, named
+as a file, is in no script: the largest ones are more than the definitions are computed on. Status 0 only if all is as it stands here.
 """
 import argparse
 import os
