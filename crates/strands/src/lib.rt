@@ -20,10 +20,10 @@ pub enum Selected {
     Subgoal { index: u8, table: u8, answer: u16 },
 }
 
-// `Strand` with its `ExClause`, in 94 bytes: 8 of variant, flags, answer time and counts, 32 of literals, 32 of floundered ones and 8 of
+// `Strand` with its `ExClause`, in 126 bytes: 8 of variant, flags, answer time and counts, 48 of literals, 48 of floundered ones and 8 of
 // their times, 8 of delayed goals and 6 of what is selected. A `FlounderedSubgoal` is a literal and, at the same index, its time: a struct
-// of the two would have a byte more that aligns it. The last pursued time stands beside the strands, by place, where it can be read
-// without the strand. Reading and writing back an element of an array costs twice as much above 128 bytes.
+// of the two would have a byte more that aligns it, and a strand 134. The last pursued time stands beside the strands, by place, where it
+// can be read without the strand. Reading and writing back an element of an array costs twice as much above 128 bytes.
 pub struct Strand {
     pub variant: u16,
     pub outsized: bool,
