@@ -5,3 +5,4 @@ pub mod RoundTrip
 pub mod Written
 pub mod Prefix
 pub mod Fitting
+pub mod Largest

@@ -1,4 +1,5 @@
--- Reading what was written gives the book back, for every book within the limits (`read-write`, at the end).
+-- Reading what was written gives the book back, for every book within the limits (`read-write`, at the end), and with a byte more it is
+-- refused with 7 (`read-past`).
 --
 -- The bytes of a book are read from left to right, each command over the book so far. So each lemma below starts from any book so
 -- far and says that the bytes of a part (a literal, the literals of a clause, the clauses of a goal, the goals) bring it to the
@@ -12,7 +13,7 @@ use mathlib.Core.List.{List, [], _∷_, _++_, append-nil, append-assoc}
 use lib.ListN.{length, length-append}
 use lib.Dec.{ltb, leb, eqb}
 use borrow.Author.Tests.{le-ltb, lt-ltb, lt-leb, ne-eqb}
-use Rattle.definitions.specs.Refusal.{accepted, _refuses_, unless}
+use Rattle.definitions.specs.Refusal.{refused, accepted, _refuses_, unless}
 use Rattle.definitions.specs.Book.{any, exactly, between, Literal, Positive, Negative, Clause, Goal, Book, clause-count}
 use Rattle.definitions.specs.Book.{Command, end, command, width, is-end}
 use Rattle.definitions.specs.Book.{bit0, bit1, flag, want-of, crossed}
@@ -244,3 +245,16 @@ pub read-write : (book : Book) → Within book → read (write book) ≡ accepte
 read-write book w =
     read-goals (length book) [] book (0x45 ∷ []) (w .clauses-fit) (omega arith) (omega arith)
     ∙ read-end book (w .some-goal) (w .clauses-fit)
+
+-- what stands behind a book's end is refused
+past-end : (book : Book) (b : ℕ) (more : List ℕ) → read-from (0x45 ∷ b ∷ more) 0 book ≡ refused 7
+past-end book b more =
+    let told : apply-command end (b ∷ more) book ≡ refused 7 =
+    ap (λ (t : Bool). unless (t refuses 7 ∷ eqb (length book) 0 refuses 8 ∷ not (goals-name (length book) book) refuses 6 ∷ []) book)
+    (lt-ltb 0 (length (b ∷ more)) (omega arith)) in
+    rw (whole-apply end (b ∷ more) book (omega arith) ∙ told, read-from)
+
+pub read-past : (book : Book) → Within book → (b : ℕ) (more : List ℕ) → read (write book ++ (b ∷ more)) ≡ refused 7
+read-past book w b more =
+    rw (append-assoc (write-goals book) (0x45 ∷ []) (b ∷ more))
+    (read-goals (length book) [] book (0x45 ∷ b ∷ more) (w .clauses-fit) (omega arith) (omega arith) ∙ past-end book b more)
