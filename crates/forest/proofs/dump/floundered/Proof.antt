@@ -30,6 +30,9 @@ mul-set-aside c = search needs
 element-copy-out-set-aside : tie.Need-element-copy-out-set-aside Inv-loop μ-loop
 element-copy-out-set-aside c = search needs
 
+element-copy-out-set-aside-2 : tie.Need-element-copy-out-set-aside-2 Inv-loop μ-loop
+element-copy-out-set-aside-2 c = search needs
+
 set-aside-requires : tie.Need-set-aside-requires Inv-loop μ-loop
 set-aside-requires c κs = search needs
 
@@ -63,6 +66,7 @@ floundered-spec =
     loop-holds
     mul-set-aside
     element-copy-out-set-aside
+    element-copy-out-set-aside-2
     set-aside-requires
     add-i
     loop-less
