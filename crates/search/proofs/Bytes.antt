@@ -11,7 +11,7 @@ byte-index x h = omega arith
 pub byte-fits : (x : ℕ) → Fits w8 x → Fits w64 x
 byte-fits x h = omega arith
 
-pub byte-strand : (x : ℕ) → Fits w8 x → Fits w64 (x * 94)
+pub byte-strand : (x : ℕ) → Fits w8 x → Fits w64 (x * 126)
 byte-strand x h = omega arith
 
 pub byte-answer : (x : ℕ) → Fits w8 x → Fits w64 (x * 12)
