@@ -67,8 +67,8 @@ command-few clause operands book next e x =
 command-few positive operands book next e x = literal-few (Positive (u16 operands 0) (want-of (u16 operands 2)) (bit0 (byte operands 4)))
     (byte operands 4) book next e x
 command-few ranged operands book next e x =
-    literal-few (Positive (u16 operands 0) (between (u16 operands 2) (u16 operands 4)) (bit0 (byte operands 6))) (byte operands 6) book next e
-    x
+    literal-few (Positive (u16 operands 0) (between (u16 operands 2) (u16 operands 4)) (bit0 (byte operands 6))) (byte operands 6) book next
+    e x
 command-few negative operands book next e x = literal-few (Negative (u16 operands 0) (bit0 (byte operands 2))) (byte operands 2) book next e
     x
 command-few end operands book next e x =

@@ -245,7 +245,8 @@ module _ (bs : List ℕ) (b : Book) (literals named at : ℕ) (s : SoFar bs b li
             )
 
         clause-flags : o .flags ≡ byte after 2
-        clause-flags = ops .flags-are ∙ ap (λ (y : ℕ). byte bs (at + marked (command y))) is ∙ sym (byte-after bs at 2 (at + 3) (omega arith))
+        clause-flags =
+            ops .flags-are ∙ ap (λ (y : ℕ). byte bs (at + marked (command y))) is ∙ sym (byte-after bs at 2 (at + 3) (omega arith))
 
         clause-known : o .flags ≤ 3
         clause-known =
@@ -291,10 +292,12 @@ module _ (bs : List ℕ) (b : Book) (literals named at : ℕ) (s : SoFar bs b li
         which : OfLiteral x
         which = of-literal x no-goal no-clause no-end known
 
-        room-by : (flags : ℕ) (crossing : Bool) → fault (literal-tests flags crossing (b .clauses) literals) ≡ 0 → Room (b .clauses) literals crossing
+        room-by : (flags : ℕ) (crossing : Bool) → fault (literal-tests flags crossing (b .clauses) literals) ≡ 0
+            → Room (b .clauses) literals crossing
         room-by flags crossing t =
             let p =
-            passes (eqb (b .clauses) 0 refuses 3) (ltb 1 flags refuses 4 ∷ crossing refuses 32 ∷ leb 8 literals refuses 5 ∷ []) (omega arith) t in
+            passes (eqb (b .clauses) 0 refuses 3) (ltb 1 flags refuses 4 ∷ crossing refuses 32 ∷ leb 8 literals refuses 5 ∷ [])
+            (omega arith) t in
             let q = passes (ltb 1 flags refuses 4) (crossing refuses 32 ∷ leb 8 literals refuses 5 ∷ []) (omega arith) (p .1) in
             let r = passes (crossing refuses 32) (leb 8 literals refuses 5 ∷ []) (omega arith) (q .1) in
             record {
@@ -342,7 +345,8 @@ module _ (bs : List ℕ) (b : Book) (literals named at : ℕ) (s : SoFar bs b li
             ∙ kept-ends (o .kind) (o .number) low-at top-at (ops .low-fits)
             ∙ ap₂ (λ (i j : ℕ). numbered i j low-at top-at) e number-after
 
-        kept-positive : x ≡ 0x50 → kept (o .kind) (o .number) (o .want) ≡ Positive (u16 after 0) (want-of (u16 after 2)) (bit0 (byte after 4))
+        kept-positive : x ≡ 0x50
+            → kept (o .kind) (o .number) (o .want) ≡ Positive (u16 after 0) (want-of (u16 after 2)) (bit0 (byte after 4))
         kept-positive e =
             let f = byte bs (at + 5) in
             let w : low-at ≡ u16 after 2 = ap (want-at bs at) e ∙ sym (u16-after bs at 2 (at + 3) (omega arith)) in

@@ -22,6 +22,7 @@ abbrev pub signed : (negative : Bool) → (goal : ℕ) → (want : said.Want) �
 signed true goal want outsized = said.Negative goal outsized
 signed false goal want outsized = said.Positive goal want outsized
 
+-- of a literal's kind: it wants a range
 abbrev pub bit2 : ℕ → Bool
 bit2 kind = eqb (kind / 4 % 2) 1
 

@@ -1,4 +1,5 @@
-// How many bytes of operands each command has, by its byte (document 01: 47 goal, 43 clause, 50 literal, 52 literal of a range, 4E "not" literal, 45 end).
+// How many bytes of operands each command has, by its byte (document 01: 47 goal, 43 clause, 50 literal, 4E "not" literal, 45 end; and
+// 52, a literal that wants a range).
 ghost use mathlib.Core.Path.{_≡_};
 ghost use Rattle.definitions.specs.Book.{command};
 ghost use Rattle.book.specs.Faults.{marked};

@@ -75,10 +75,17 @@ abbrev pub range-cases : List Case
 range-cases =
     -- 2 and 8 lie outside of 3 to 7, 3 and 7 within, and an answer as a whole fits
     listed three-to-seven
-    (ascii "0 0 none\n1 0 yes 2\n1 1 none\n2 0 yes 0\n2 1 none\n3 0 yes 3\n3 1 none\n4 0 yes 0\n4 1 none\n5 0 yes 7\n5 1 none\n6 0 none\n7 0 yes 8\n7 1 none\n8 0 yes 0\n8 1 none\n9 0 yes 0\n9 1 none\n")
+    (ascii "0 0 none\n1 0 yes 2\n1 1 none\n"
+    ++ ascii "2 0 yes 0\n2 1 none\n3 0 yes 3\n3 1 none\n"
+    ++ ascii "4 0 yes 0\n4 1 none\n5 0 yes 7\n5 1 none\n"
+    ++ ascii "6 0 none\n7 0 yes 8\n7 1 none\n"
+    ++ ascii "8 0 yes 0\n8 1 none\n9 0 yes 0\n9 1 none\n")
     -- 0 to 0 takes an answer as a whole alone; the largest variant; all of them
     ∷ listed ends
-    (ascii "0 0 none\n1 0 yes 2\n1 1 none\n2 0 yes 0\n2 1 none\n3 0 yes 0\n3 1 none\n4 0 yes 0\n4 1 none\n5 0 yes 65534\n5 1 yes 65535\n5 2 none\n6 0 yes 0\n6 1 none\n7 0 yes 9\n7 1 none\n")
+    (ascii "0 0 none\n1 0 yes 2\n1 1 none\n"
+    ++ ascii "2 0 yes 0\n2 1 none\n3 0 yes 0\n3 1 none\n"
+    ++ ascii "4 0 yes 0\n4 1 none\n5 0 yes 65534\n5 1 yes 65535\n5 2 none\n"
+    ++ ascii "6 0 yes 0\n6 1 none\n7 0 yes 9\n7 1 none\n")
     -- a misfit ends the search, and its strand; the copy for the next answer goes on
     ∷ said misfit-of-range 1000
     (opens 0 gets table (go 0)
@@ -94,7 +101,7 @@ range-cases =
     ∷ listed (begun ++ eight ++ ranged 0 4 3 0 ++ end) (ascii "refused 32\n")
     ∷ listed (begun ++ ranged 5 4 3 0 ++ end) (ascii "refused 32\n")
     ∷ listed (0x47 ∷ 0x00 ∷ ranged 0 4 3 0 ++ end) (ascii "refused 3\n")
-    -- a range that is none the worse, where it can't stand
+    -- a range with nothing wrong in itself, where it can't stand
     ∷ listed (begun ++ eight ++ ranged 0 3 7 0 ++ end) (ascii "refused 5\n")
     ∷ listed (begun ++ ranged 5 3 7 0 ++ end) (ascii "refused 6\n")
     ∷ listed (0x47 ∷ 0x00 ∷ ranged 0 3 7 0 ++ end) (ascii "refused 3\n")

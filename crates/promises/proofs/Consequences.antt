@@ -32,7 +32,8 @@ book =
     record {
       coinductive = false;
       floundered = false;
-      clauses = record { variant = 0; cannot-prove = false; outsized = false; literals = Positive 1 any false ∷ Negative 2 false ∷ [] } ∷ [];
+      clauses =
+          record { variant = 0; cannot-prove = false; outsized = false; literals = Positive 1 any false ∷ Negative 2 false ∷ [] } ∷ [];
     }
     ∷ record {
       coinductive = false;

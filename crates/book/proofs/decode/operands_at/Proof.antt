@@ -63,8 +63,8 @@ returns c =
     let b = v .before in
     let a = b .before .before .args in
     operands-are (a .bytes .now) (a .at) (b .byte .result) (v .width .result) (w .wide .result) (f .byte2 .result) (k .kind-of .result)
-    (u .u16-at .result)
-    (t .want-at .result) (h .high-at .result) (c .ends .result) (b .byte .ensures) (v .width .ensures) (w .wide .ensures .0) (f .byte2 .ensures) (k .kind-of .ensures)
+    (u .u16-at .result) (t .want-at .result) (h .high-at .result) (c .ends .result)
+    (b .byte .ensures) (v .width .ensures) (w .wide .ensures .0) (f .byte2 .ensures) (k .kind-of .ensures)
     (search needs) (search needs) (search needs)
     (u .u16-at .ensures) (t .want-at .ensures) (h .high-at .ensures) (c .ends .ensures)
 
