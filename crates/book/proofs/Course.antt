@@ -6,7 +6,7 @@ use mathlib.Core.Bool.{Bool, true, false, not}
 use mathlib.Core.List.{List, [], _∷_, _++_}
 use lib.ListN.{length, getD, drop, length-replicate}
 use lib.Dec.{ltb, leb, eqb, leb·zero}
-use borrow.Author.Tests.{ltb-false, leb-false, eqb-true, eqb-false, ne-eqb, not-false}
+use borrow.Author.Tests.{ltb-false, leb-false, eqb-false, ne-eqb, not-false}
 use Rattle.definitions.specs.Refusal.{_refuses_}
 use Rattle.definitions.specs.Book as said
 use Rattle.definitions.specs.Book.{goal, clause, positive, ranged, negative, end, unknown, command, width, byte, u16, bit0, crossed}
@@ -17,7 +17,7 @@ use Rattle.definitions.proofs.Book.{want-straight}
 use Rattle.book.specs.declared.Book.{Book}
 use Rattle.book.specs.declared.Reading.{Reading}
 use Rattle.book.specs.declared.decode.Operands.{Operands}
-use Rattle.book.specs.View.{wanted, bit2, numbered, view, signed, kept, literal-viewed, Full, Ranged, blank, seen-by, Read}
+use Rattle.book.specs.View.{wanted, bit2, numbered, view, signed, kept, Full, Ranged, blank, seen-by, Read}
 use Rattle.book.specs.Faults.{fault, marked, counts, next-fault, literal-tests, end-tests, largest}
 use Rattle.book.specs.Operands.{kind-by, want-at, high-at, OperandsAt}
 use Rattle.book.proofs.Tests.{OfLiteral, of-positive, of-ranged, of-negative, of-literal, byte-after, u16-after}

@@ -21,7 +21,8 @@ use Rattle.strands.specs.declared.Selected.{Selected}
 use Rattle.strands.specs.declared.Strand.{Strand}
 use Rattle.strands.specs.View as strands
 use Rattle.strands.specs.View.{Sound, seen, clause, selected}
-use Rattle.strands.proofs.FlounderCases.{length-timed}
+use Rattle.laws.specs.Pairs.{paired}
+use Rattle.laws.proofs.Pairs.{length-paired}
 use Rattle.strands.proofs.Lists.{length-view}
 use Rattle.strands.proofs.LiteralCases.{count-is}
 use Rattle.control.specs.declared.select_subgoal.Selection.the-variants as selection
@@ -112,8 +113,8 @@ module _ (goal floundered : List ℕ) (count : ℕ) (goal-flags goal-len : List 
   passes-are : passes-for s ≡ 2 * (length (clause s .subgoals) + length (clause s .floundered-subgoals)) + 4
   passes-are =
       let a = count-is s (o .literals-long) in
-      let b = length-view strands.floundered (s .«floundered_count») (strands.timed (s .floundered) (s .«floundered_time»)) in
-      let c = length-timed 8 (s .floundered) (s .«floundered_time») (o .floundered-long) (o .times-long) in
+      let b = length-view strands.floundered (s .«floundered_count») (paired (s .floundered) (s .«floundered_time»)) in
+      let c = length-paired 8 (s .floundered) (s .«floundered_time») (o .floundered-long) (o .times-long) in
       omega arith
 
   enough : needs (begun live s) < passes-for s + busy (s .selected)

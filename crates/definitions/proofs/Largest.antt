@@ -5,7 +5,7 @@ use Prim.Native.Nat.{ℕ, zero, suc}
 use native.Mathlib.Omega.{arith}
 use mathlib.Core.Bool.{true}
 use mathlib.Core.Path.{_≡_, refl}
-use mathlib.Core.List.{List, [], _∷_, _++_}
+use mathlib.Core.List.{[], _∷_, _++_}
 use lib.ListN.{length, replicate}
 use Rattle.definitions.specs.Refusal.{refused, accepted}
 use Rattle.definitions.specs.Book.{between, Literal, Positive, Clause, Goal, Book, largest-book, read, write}

@@ -24,7 +24,7 @@ high any = 65535
 high (exactly variant) = variant
 high (between least most) = most
 
--- lib.rs `Literal`: a positive literal names a goal and which variants of it it wants, a "not" a goal alone
+-- lib.rs `Literal`: a positive literal names a goal and what it wants of it, a "not" a goal alone
 pub data Literal : Type 0 where
   Positive : (goal : ℕ) (want : Want) (outsized : Bool) → Literal
   Negative : (goal : ℕ) (outsized : Bool) → Literal

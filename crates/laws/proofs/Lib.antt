@@ -7,6 +7,7 @@ pub mod All
 pub mod Maps
 pub mod Takes
 pub mod Spans
+pub mod Pairs
 pub mod Totals
 pub mod Sums
 pub mod Distinct

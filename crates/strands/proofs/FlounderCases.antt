@@ -1,49 +1,10 @@
--- The ways out of the functions of floundering.rt, by the tests of the code, and the turns of its loop. First the laws on literals with
--- their times.
-use Prim.Native.Nat.{ℕ, zero, suc, _-_, _≤_, _<_}
+-- The ways out of the functions of floundering.rt, by the tests of the code, and the turns of its loop.
+use Prim.Native.Nat.{ℕ, suc, _-_, _≤_, _<_}
 use native.Mathlib.Omega.{arith}
-use mathlib.Core.List.{List, [], _∷_}
-use mathlib.Core.Path.{_≡_, refl, sym, ap, _∙_}
-use lib.ListN.{length, getD, set}
+use mathlib.Core.Path.{_≡_, ap}
 use borrow.Author.Tests.{lt-ltb, le-ltb, le-leb, lt-leb, eq-eqb, ne-eqb}
-use Rattle.book.specs.declared.Literal.{Literal}
 use Rattle.strands.specs.declared.Strand.{Strand}
-use Rattle.strands.specs.Fields.{no-literal}
 use Rattle.strands.specs.Floundering.{set-aside, flounder, time-at, taken-back, reconsider-at, reconsider-down}
-use Rattle.strands.specs.View.{timed}
-
-pub length-timed : (n : ℕ) (ls : List Literal) (times : List ℕ) → length ls ≡ n → length times ≡ n
-    → length (timed ls times) ≡ n
-length-timed n [] times p q = p
-length-timed n (l ∷ ls) [] p q = absurd (omega arith)
-length-timed zero (l ∷ ls) (time ∷ times) p q = absurd (omega arith)
-length-timed (suc n) (l ∷ ls) (time ∷ times) p q = ap suc (length-timed n ls times (omega arith) (omega arith))
-
--- what stands at a place, in arrays of one length
-pub timed-at : (ls : List Literal) (times : List ℕ) (i : ℕ) → length ls ≡ length times
-    → getD (timed ls times) i (no-literal, 0) ≡ (getD ls i no-literal, getD times i 0)
-timed-at [] [] i e = refl
-timed-at [] (time ∷ times) i e = absurd (omega arith)
-timed-at (l ∷ ls) [] i e = absurd (omega arith)
-timed-at (l ∷ ls) (time ∷ times) zero e = refl
-timed-at (l ∷ ls) (time ∷ times) (suc i) e = timed-at ls times i (omega arith)
-
--- a place of both written
-pub timed-set : (ls : List Literal) (times : List ℕ) (i : ℕ) (l : Literal) (time : ℕ)
-    → set (timed ls times) i (l, time) ≡ timed (set ls i l) (set times i time)
-timed-set [] times i l time = refl
-timed-set (a ∷ ls) [] zero l time = refl
-timed-set (a ∷ ls) [] (suc i) l time = refl
-timed-set (a ∷ ls) (b ∷ times) zero l time = refl
-timed-set (a ∷ ls) (b ∷ times) (suc i) l time = ap (λ (r : List (Literal × ℕ)). (a, b) ∷ r) (timed-set ls times i l time)
-
--- what stands at j written at i
-pub timed-moved : (ls : List Literal) (times : List ℕ) (i j : ℕ) → length ls ≡ length times
-    → set (timed ls times) i (getD (timed ls times) j (no-literal, 0))
-    ≡ timed (set ls i (getD ls j no-literal)) (set times i (getD times j 0))
-timed-moved ls times i j e =
-    ap (λ (f : Literal × ℕ). set (timed ls times) i f) (timed-at ls times j e)
-    ∙ timed-set ls times i (getD ls j no-literal) (getD times j 0)
 
 module _ (s : Strand) where
   pub flounder-none : s .«literal_count» ≡ 0 → flounder s ≡ s

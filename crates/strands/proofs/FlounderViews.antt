@@ -17,25 +17,27 @@ use Rattle.definitions.specs.Logic.{flounder-subgoal, reconsider-from, reconsid
 use Rattle.definitions.specs.Slg.{next-subgoal-index}
 use Rattle.definitions.specs.Stop.{go, _>>=_, unwrap}
 use Rattle.definitions.specs.Strand.{with-floundered}
+use Rattle.laws.specs.Pairs.{paired}
+use Rattle.laws.proofs.Pairs.{length-paired, paired-at, paired-set, paired-moved}
 use Rattle.book.specs.View.{meant}
 use Rattle.book.specs.declared.Literal.{Literal}
 use Rattle.strands.specs.declared.Strand.{Strand}
 use Rattle.strands.specs.Fields.{no-literal}
 use Rattle.strands.specs.Floundering.{last-literal, flounder-by, flounder}
 use Rattle.strands.specs.Floundering.{aside-at, time-at, taken-back, reconsider-by, reconsider-at, reconsider-down, reconsider}
-use Rattle.strands.specs.View.{Sound, clause, timed, floundered, Kept}
+use Rattle.strands.specs.View.{Sound, clause, floundered, Kept}
 use Rattle.strands.proofs.FieldViews.{kept-on}
-use Rattle.strands.proofs.FlounderCases.{length-timed, timed-at, timed-set, timed-moved, flounder-last}
+use Rattle.strands.proofs.FlounderCases.{flounder-last}
 use Rattle.strands.proofs.Lists.{length-view, view-at, view-past, view-push, view-swap-remove}
 use Rattle.strands.proofs.LiteralCases.{index-is, found-at, removed}
 
 -- A strand's floundered literals with their times, in arrays of eight.
 
 abbrev pairs : Strand → List (Literal × ℕ)
-pairs s = timed (s .floundered) (s .«floundered_time»)
+pairs s = paired (s .floundered) (s .«floundered_time»)
 
 pairs-long : (s : Strand) → Sound s → length (pairs s) ≡ 8
-pairs-long s o = length-timed 8 (s .floundered) (s .«floundered_time») (o .floundered-long) (o .times-long)
+pairs-long s o = length-paired 8 (s .floundered) (s .«floundered_time») (o .floundered-long) (o .times-long)
 
 abbrev shown : ℕ → List (Literal × ℕ) → List said.FlounderedSubgoal
 shown n fs = map floundered (take n fs)
@@ -67,7 +69,7 @@ flounder-view s o some-left =
     (ap (λ (k : ℕ). remove (clause s .subgoals) k) (sym e) ∙ sym (removed s long i (omega arith)))
     (view-push floundered (s .«floundered_count») (pairs s) (last-literal s, s .«answer_time») (omega arith)
     ∙ ap (shown (s .«floundered_count» + 1))
-    (timed-set (s .floundered) (s .«floundered_time») (s .«floundered_count») (last-literal s) (s .«answer_time»)))
+    (paired-set (s .floundered) (s .«floundered_time») (s .«floundered_count») (last-literal s) (s .«answer_time»)))
     ∙ ap (λ (r : Strand). go (clause r)) (sym (flounder-last s (λ z. omega arith) within (omega arith)))
 
 flounder-by-kept : (s : Strand) (none-left too-many full : Bool) → Kept s (flounder-by none-left too-many full s)
@@ -160,7 +162,7 @@ module _ (i : ℕ) (s : Strand) where
         let few = o .few-literals in
         let long = pairs-long s o in
         view-at floundered (s .«floundered_count») i (pairs s) (no-literal, 0) (omega arith)
-        ∙ ap (λ (f : Literal × ℕ). some (floundered f)) (timed-at (s .floundered) (s .«floundered_time») i one-length)
+        ∙ ap (λ (f : Literal × ℕ). some (floundered f)) (paired-at (s .floundered) (s .«floundered_time») i no-literal 0 one-length)
 
     returned-is : i < s .«floundered_count» → time-at i s < s .«answer_time»
         → returned (clause s) i (floundered there) ≡ clause (taken-back i s)
@@ -172,7 +174,7 @@ module _ (i : ℕ) (s : Strand) where
         (view-push meant (s .«literal_count») (s .literals) (aside-at i s) (omega arith))
         (view-swap-remove floundered (s .«floundered_count») i (pairs s) (no-literal, 0) p (omega arith)
         ∙ ap (shown (s .«floundered_count» - 1))
-        (timed-moved (s .floundered) (s .«floundered_time») i (s .«floundered_count» - 1) one-length))
+        (paired-moved (s .floundered) (s .«floundered_time») i (s .«floundered_count» - 1) no-literal 0 one-length))
 
     turn-is : (too-many past late full : Bool) → ltb 8 (s .«floundered_count») ≡ too-many → leb (s .«floundered_count») i ≡ past
         → leb (s .«answer_time») (time-at i s) ≡ late → leb 8 (s .«literal_count») ≡ full

@@ -1,10 +1,11 @@
 -- What the structs mean: the strand and the answer of the definitions that they hold, and when they are sound.
 use Prim.Native.Nat.{ℕ, _+_, _≤_}
 use mathlib.Core.Bool.{Bool, true, false}
-use mathlib.Core.List.{List, [], _∷_, map}
+use mathlib.Core.List.{map}
 use mathlib.Core.Option.{Option, none, some}
 use mathlib.Core.Path.{_≡_}
 use lib.ListN.{length, take}
+use Rattle.laws.specs.Pairs.{paired}
 use Rattle.definitions.specs as said
 use Rattle.definitions.specs.Book as books
 use Rattle.definitions.specs.Strand as held
@@ -21,12 +22,7 @@ abbrev pub selected : Selected → Option held.SelectedSubgoal
 selected Nothing = none
 selected (Subgoal index table answer) = some (record { subgoal-index = index; subgoal-table = table; answer-index = answer })
 
--- the literals of one array, each with the time that another has at its place
-abbrev pub timed : List Literal → List ℕ → List (Literal × ℕ)
-timed [] times = []
-timed (l ∷ ls) [] = []
-timed (l ∷ ls) (time ∷ times) = (l, time) ∷ timed ls times
-
+-- a floundered literal and its time
 abbrev pub floundered : Literal × ℕ → said.FlounderedSubgoal
 floundered f = record { floundered-literal = meant (f .0); floundered-time = f .1 }
 
@@ -37,7 +33,7 @@ clause s = record {
   subgoals = map meant (take (s .«literal_count») (s .literals));
   delayed-subgoals = take (s .«delayed_count») (s .delayed);
   answer-time = s .«answer_time»;
-  floundered-subgoals = map floundered (take (s .«floundered_count») (timed (s .floundered) (s .«floundered_time»)));
+  floundered-subgoals = map floundered (take (s .«floundered_count») (paired (s .floundered) (s .«floundered_time»)));
 }
 
 -- a strand that was pursued at this time: the time stands beside the strands, by place
