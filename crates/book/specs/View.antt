@@ -8,6 +8,7 @@ use lib.Dec.{eqb}
 use Rattle.laws.specs.Spans.{span}
 use Rattle.definitions.specs.Refusal.{Refusable, refused, accepted}
 use Rattle.definitions.specs.Book as said
+use Rattle.definitions.specs.Desk.{desk}
 use Rattle.book.specs.declared.Book.{Book}
 use Rattle.book.specs.declared.Reading.{Reading}
 use Rattle.book.specs.declared.Literal.{Literal}
@@ -129,8 +130,16 @@ seen-by false r = refused (r .number)
 abbrev pub seen : Reading → Refusable said.Book
 seen r = seen-by (eqb (r .number) 0) r
 
--- what reading is to give
-pub record Read (bytes : List ℕ) (r : Reading) : Type 0 where
-  pub means : seen r ≡ said.read bytes
+-- what a reading is to give, by the definitions
+pub record Gives (what : Refusable said.Book) (r : Reading) : Type 0 where
+  pub means : seen r ≡ what
   pub sound : r .number ≡ 0 → Sound (r .book)
   pub bare : (r .number ≡ 0 → ⊥) → r .book ≡ blank
+
+-- by the old entry
+abbrev pub Read : (bytes : List ℕ) → Reading → Type 0
+Read bytes r = Gives (said.read bytes) r
+
+-- at the desk
+abbrev pub Taken : (bytes : List ℕ) → Reading → Type 0
+Taken bytes r = Gives (desk bytes) r

@@ -6,3 +6,4 @@ pub mod Written
 pub mod Prefix
 pub mod Fitting
 pub mod Largest
+pub mod Desk

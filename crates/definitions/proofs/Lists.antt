@@ -111,22 +111,23 @@ module _ {A : Type 0} where
 
   -- `position`.
 
-  -- the place that a search finds
-  pub position-at : (test : A → Bool) (l : List A) (i : ℕ) → position test l ≡ some i → (a : A) × (getElem? l i ≡ some a)
+  -- the place that a search finds, and what stands there
+  pub position-at : (test : A → Bool) (l : List A) (i : ℕ) → position test l ≡ some i
+      → (a : A) × (getElem? l i ≡ some a) × (test a ≡ true)
   position-at test [] i e = absurd (no-such e)
-  position-at test (b ∷ l) i e = at (position-at test l) (test b) i e
+  position-at test (b ∷ l) i e = at (position-at test l) (test b) refl i e
     where
       later : (o : Option ℕ) → position test l ≡ o → (i : ℕ) → elim o [ none ↦ none | some j ↦ some (suc j) ] ≡ some i
           → (j : ℕ) × (position test l ≡ some j) × (suc j ≡ i)
       later none k i e = absurd (no-such e)
       later (some j) k i e = (j, k, same-some e)
 
-      at : ((i : ℕ) → position test l ≡ some i → (a : A) × (getElem? l i ≡ some a)) → (t : Bool) (i : ℕ)
+      at : ((i : ℕ) → position test l ≡ some i → (a : A) × (getElem? l i ≡ some a) × (test a ≡ true)) → (t : Bool) → test b ≡ t → (i : ℕ)
           → elim t [ true ↦ some 0 | false ↦ elim (position test l) [ none ↦ none | some j ↦ some (suc j) ] ] ≡ some i
-          → (a : A) × (getElem? (b ∷ l) i ≡ some a)
-      at h true i e = (b, subst (λ z. getElem? (b ∷ l) z ≡ some b) (same-some e) refl)
-      at h false i e = let r = later (position test l) refl i e in let q = h (r .0) (r .1) in
-          (q .0, subst (λ z. getElem? (b ∷ l) z ≡ some (q .0)) (r .2) (q .1))
+          → (a : A) × (getElem? (b ∷ l) i ≡ some a) × (test a ≡ true)
+      at h true k i e = (b, subst (λ z. getElem? (b ∷ l) z ≡ some b) (same-some e) refl, k)
+      at h false k i e = let r = later (position test l) refl i e in let q = h (r .0) (r .1) in
+          (q .0, subst (λ z. getElem? (b ∷ l) z ≡ some (q .0)) (r .2) (q .1), q .2)
 
   -- a search that finds nothing
   pub position-none : (test : A → Bool) (l : List A) → position test l ≡ none → (i : ℕ) (a : A) → getElem? l i ≡ some a → test a ≡ false

@@ -7,7 +7,7 @@ use mathlib.Core.Option.{Option, none, some}
 use mathlib.Core.List.{List, [], _∷_}
 use lib.ListN.{length}
 use Rattle.definitions.specs.{TableIndex}
-use Rattle.definitions.specs.Refusal.{accepted}
+use Rattle.definitions.specs.Refusal.{Refusable, accepted}
 use Rattle.definitions.specs.Stop.{Stops, stop, go}
 use Rattle.definitions.specs.Lists.{push}
 use Rattle.definitions.specs.Book.{clause-count}
@@ -15,6 +15,7 @@ use Rattle.definitions.specs.Tables.{Forest}
 use Rattle.definitions.specs.Logic.{NoMoreSolutions, Floundered, QuantumExceeded, NegativeCycle, InvalidAnswer}
 use Rattle.definitions.specs.Turn.{Ending, found, fail, cut, stopped}
 use Rattle.definitions.specs.Forest.{make, Opened, open-goal, is-exceeded, SearchMade}
+use Rattle.definitions.specs.Desk.{make-at-desk}
 use Rattle.definitions.specs.Calls.{Call, opens, searches, peeks, asks-future, Reply, refusal, table, searched, peeked, future}
 use Rattle.definitions.specs.Calls.{Sitting, sitting, searches-made, Called, calls}
 use Rattle.definitions.specs.Model.{Plain, Levelled, In}
@@ -150,12 +151,19 @@ abbrev pub all-granted : List Called → ℕ
 all-granted [] = 0
 all-granted (c ∷ cs) = granted (c .reply) + all-granted cs
 
--- Demand 3: for every byte string that makes a forest with this clock limit, every levelling of its book and every list of calls.
--- Goals and clauses are those in the book's bytes.
-abbrev pub Demand3 : Type 0
-Demand3 =
-    (bytes : List ℕ) (clock-limit : ℕ) (f : Forest) → make bytes clock-limit ≡ accepted f →
+-- Demand 3 of a way in: for every byte string that makes a forest by it with this clock limit, every levelling of its book and every list
+-- of calls. Goals and clauses are those in the book's bytes.
+abbrev pub Demand3Of : ((bytes : List ℕ) → (clock-limit : ℕ) → Refusable Forest) → Type 0
+Demand3Of making =
+    (bytes : List ℕ) (clock-limit : ℕ) (f : Forest) → making bytes clock-limit ≡ accepted f →
     (level : ℕ → ℕ) → Plain (f .book) → Levelled (f .book) level →
     (cs : List Call) →
     AllSay (In (f .book) level) clock-limit false (calls (sitting f) cs)
     × (exceeded (calls (sitting f) cs) ≤ length (f .book) + clause-count (f .book) + all-granted (calls (sitting f) cs))
+
+abbrev pub Demand3 : Type 0
+Demand3 = Demand3Of make
+
+-- through the desk
+abbrev pub Demand3AtDesk : Type 0
+Demand3AtDesk = Demand3Of make-at-desk

@@ -7,7 +7,7 @@ use mathlib.Core.List.{List, [], _∷_}
 use lib.ListN.{length, getElem?, drop}
 use lib.Dec.{eqb, leb, ltb}
 use Rattle.definitions.specs.{TableIndex, MAX}
-use Rattle.definitions.specs.Book.{read}
+use Rattle.definitions.specs.Book.{Book, read}
 use Rattle.definitions.specs.Refusal.{Refusable, refused, accepted, _refuses_, unless}
 use Rattle.definitions.specs.Stop.{Stops, stop, go}
 use Rattle.definitions.specs.Lists.{any-passes}
@@ -17,15 +17,19 @@ use Rattle.definitions.specs.Logic.{NoMoreSolutions, Floundered, Quantum
 use Rattle.definitions.specs.Logic.{get-or-create-table-for-ucanonical-goal}
 use Rattle.definitions.specs.Turn.{Ending, found, fail, cut, stopped, Searched, root-answer}
 
--- Making. `Forest::new` over a book. The clock's limit is a number below 2 ^ 64, so that the second test of 13 is met by 2 ^ 64 - 1 alone.
-abbrev pub make : (bytes : List ℕ) → (clock-limit : ℕ) → Refusable Forest
-make bytes limit = elim (read bytes) [
+-- Making. `Forest::new` over a book that was read. The clock's limit is a number below 2 ^ 64, so that the second test of 13 is met by
+-- 2 ^ 64 - 1 alone.
+abbrev pub make-of : Refusable Book → (clock-limit : ℕ) → Refusable Forest
+make-of r limit = elim r [
   | refused n ↦ refused n
   | accepted book ↦ unless
       ((eqb limit 0 || leb MAX limit) refuses 13
       ∷ [])
       (record { book = book; clock-limit = limit; mark = 0; tables = []; clock = 0 })
 ]
+
+abbrev pub make : (bytes : List ℕ) → (clock-limit : ℕ) → Refusable Forest
+make bytes limit = make-of (read bytes) limit
 
 abbrev pub is-marked : Forest → Bool
 is-marked f = not (eqb (f .mark) 0)

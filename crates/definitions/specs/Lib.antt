@@ -18,6 +18,7 @@ pub mod Slg
 pub mod Logic
 pub mod Turn
 pub mod Forest
+pub mod Desk
 pub mod Calls
 pub mod Ascii
 pub mod Listing

@@ -11,7 +11,8 @@ use Rattle.definitions.specs.Stop.{stop, go}
 use Rattle.definitions.specs.Tables.{Forest}
 use Rattle.definitions.specs.Logic.{RootSearchFail, NoMoreSolutions, Floundered, QuantumExceeded, NegativeCycle, InvalidAnswer}
 use Rattle.definitions.specs.Turn.{Ending, found, fail, cut, stopped}
-use Rattle.definitions.specs.Forest.{make, opened, peek-rounds}
+use Rattle.definitions.specs.Forest.{opened, peek-rounds}
+use Rattle.definitions.specs.Desk.{make-at-desk}
 
 -- The lines.
 
@@ -85,8 +86,9 @@ list-goals (suc left) goal f =
       | false ↦ here .lines ++ list-goals left (suc goal) (here .forest)
     ]
 
+-- a book is taken as the desk takes it
 abbrev pub lines : (bytes : List ℕ) → Refusable (List Line)
-lines bytes = elim (make bytes listing-clock) [
+lines bytes = elim (make-at-desk bytes listing-clock) [
   | refused n ↦ refused n
   | accepted f ↦ accepted (list-goals (length (f .book)) 0 f)
 ]
