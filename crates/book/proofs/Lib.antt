@@ -10,3 +10,6 @@ pub mod Course
 pub mod Fits
 pub mod Looks
 pub mod Limits
+pub mod Twice
+pub mod TwiceInBook
+pub mod AtDesk

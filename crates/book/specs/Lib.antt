@@ -3,3 +3,4 @@ pub mod Operands
 pub mod View
 pub mod Access
 pub mod Fitting
+pub mod Repeats

@@ -90,7 +90,7 @@ fn high_at(bytes: &[u8], at: usize, b: u8) -> u16
 }
 
 // The two as a book keeps them.
-fn ends(want: u16, high: u16) -> u32
+pub(crate) fn ends(want: u16, high: u16) -> u32
     ensures { λ r. ⌜ r ≡ want + 65536 * high ⌝ }
 {
     (want as u32) + 65536 * (high as u32)

@@ -2,9 +2,11 @@
 // answers.
 pub mod access;
 mod decode;
+pub mod desk;
 mod faults;
 pub mod fitting;
 mod reader;
+mod repeats;
 mod widths;
 
 pub use crate::reader::read;
@@ -39,6 +41,21 @@ pub struct Literal {
 pub struct Reading {
     pub number: u8,
     pub book: Book,
+}
+
+// A clause that is the same as an earlier one of its goal: the two by their numbers among the goal's clauses. Where none was found all
+// are 0.
+pub struct Repeat {
+    pub found: bool,
+    pub goal: usize,
+    pub clause: usize,
+    pub earlier: usize,
+}
+
+// What the desk sees: the reading of the old entry, and the book's first repeat.
+pub struct Looked {
+    pub reading: Reading,
+    pub repeat: Repeat,
 }
 
 // A strand's substitution: the variant that it stands for, and whether that answer is too large to keep.

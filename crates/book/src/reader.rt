@@ -34,7 +34,7 @@ fn larger(a: usize, b: usize) -> usize
     if a < b { b } else { a }
 }
 
-fn refused(number: u8) -> Reading
+pub(crate) fn refused(number: u8) -> Reading
     ensures { λ r. ⌜ (r .number ≡ number) × (r .book ≡ blankBook) ⌝ }
 {
     let book = blank();
