@@ -65,7 +65,7 @@ fn loads() -> Vec<Load> {
     let mut plain = String::new();
     for number in 0..10_000 {
         gen::forest(&mut gen::rng_of(7, number), Profile::Timed, &mut random);
-        gen::forest(&mut gen::rng_of(7, number), Profile::Plain, &mut plain);
+        gen::forest(&mut gen::rng_of(7, number), Profile::TimedPlain, &mut plain);
     }
     vec![
         Load { name: "ladder of 20 goals", script: ladder, turns: true },
@@ -84,7 +84,7 @@ fn inside(script: &str) -> (u64, u64, Duration) {
     for line in &lines {
         calls += 1;
         match line {
-            Line::Book { bytes, clock } => bounded = Bounded::new(bytes, *clock).ok(),
+            Line::Book { entry, bytes, clock } => bounded = Bounded::by(*entry, bytes, *clock).ok(),
             Line::Call(call) => {
                 if let Some(bounded) = &mut bounded {
                     if let Reply::Search(ended) | Reply::Peek(ended) = bounded.call(*call) {

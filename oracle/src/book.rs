@@ -1,4 +1,5 @@
-//! The book reader: bytes to goals and clauses, or the number of the refusal.
+//! The book reader: bytes to goals and clauses, or the number of the refusal. Beside it the exam desk, which
+//! refuses more.
 
 use chalk_ir::interner::BookInterner;
 use chalk_ir::{Goal, ProgramClause, UnificationDatabase, Want};
@@ -70,6 +71,40 @@ pub struct GoalFlags {
 pub struct Book {
     pub goals: Vec<GoalFlags>,
     pub clauses: Vec<Clause>,
+}
+
+/// The way in: at the exam desk, or by the old entry, which takes equal clauses of a goal too.
+#[derive(Clone, Copy, Debug, PartialEq, Eq)]
+pub enum Entry {
+    Desk,
+    Old,
+}
+
+impl Entry {
+    /// Its word in a script.
+    pub fn word(self) -> &'static str {
+        match self {
+            Entry::Desk => "desk",
+            Entry::Old => "book",
+        }
+    }
+
+    /// The book, or the number by which this entry refuses it.
+    pub fn read(self, bytes: &[u8]) -> Result<Book, u8> {
+        match self {
+            Entry::Desk => Book::desk(bytes),
+            Entry::Old => Book::read(bytes),
+        }
+    }
+}
+
+/// A clause that is equal to an earlier one of its goal. Clauses are numbered within the goal, from 0.
+#[derive(Clone, Copy, Debug, PartialEq, Eq)]
+pub struct Repeat {
+    pub goal: usize,
+    pub clause: usize,
+    /// The first clause of the goal that it is equal to.
+    pub earlier: usize,
 }
 
 struct Reader<'a> {
@@ -154,6 +189,31 @@ impl Book {
                 _ => return Err(2),
             }
         }
+    }
+
+    /// What is read, and 36 where a goal has two equal clauses: the last of all tests.
+    pub fn desk(bytes: &[u8]) -> Result<Book, u8> {
+        let book = Book::read(bytes)?;
+        match book.repeat() {
+            None => Ok(book),
+            Some(_) => Err(36),
+        }
+    }
+
+    /// The first clause, in the order of the book, that is equal to an earlier one of its own goal: the same
+    /// variant, flags and literals in order, by command and operands.
+    pub fn repeat(&self) -> Option<Repeat> {
+        for goal in 0..self.goals.len() {
+            let clauses: Vec<&Clause> = self.clauses.iter().filter(|clause| clause.goal == goal).collect();
+            for clause in 0..clauses.len() {
+                for earlier in 0..clause {
+                    if clauses[earlier] == clauses[clause] {
+                        return Some(Repeat { goal, clause, earlier });
+                    }
+                }
+            }
+        }
+        None
     }
 
     /// A literal belongs to the last clause so far, even if a goal came between.

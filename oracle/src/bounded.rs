@@ -1,6 +1,6 @@
 //! A forest as document 01 has it: refusals, the mark, and the undoing of a stopped turn by replay.
 
-use crate::book::Book;
+use crate::book::{Book, Entry};
 use chalk_engine::solve::{CutAt, Ended, Outcome, Trees};
 use std::rc::Rc;
 
@@ -33,8 +33,13 @@ pub struct Bounded {
 }
 
 impl Bounded {
+    /// By the old entry.
     pub fn new(bytes: &[u8], clock_limit: u64) -> Result<Bounded, u8> {
-        let book = Rc::new(Book::read(bytes)?);
+        Bounded::by(Entry::Old, bytes, clock_limit)
+    }
+
+    pub fn by(entry: Entry, bytes: &[u8], clock_limit: u64) -> Result<Bounded, u8> {
+        let book = Rc::new(entry.read(bytes)?);
         if clock_limit == 0 || clock_limit == u64::MAX {
             return Err(13);
         }

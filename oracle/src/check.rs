@@ -1,9 +1,9 @@
 //! `oracle check`: the cases and sizes of document 01, then the standard run with its counts.
 
-use crate::book::{Book, CLAUSE, END, GOAL, MOST_CLAUSES, MOST_GOALS, MOST_LITERALS, POSITIVE, RANGE};
+use crate::book::{Book, Repeat, CLAUSE, END, GOAL, MOST_CLAUSES, MOST_GOALS, MOST_LITERALS, POSITIVE, RANGE};
 use crate::gen::{self, Profile};
 use crate::list::list;
-use crate::script::{fnv1a, hex, Form, Runner};
+use crate::script::{fnv1a, hex, to_hex, Form, Runner};
 use chalk_engine::solve::ranges;
 use std::collections::BTreeMap;
 
@@ -112,6 +112,54 @@ const SCRIPTS: &[(&str, &str, &str)] = &[
         "no forest\nrefused 13\nrefused 13\nrefused 8\nmade\nrefused 9\nrefused 10\ntable 0\n\
          refused 10\nrefused 11\nrefused 12\nrefused 12\nrefused 12\nrefused 11\nrefused 10\nfalse\n",
     ),
+    (
+        "the desk: 36 before 13, and no forest after it",
+        "desk 47 00 45 clock 0\nbook 4700 43000000 43000000 45 clock 0\ndesk 4700 43000000 43000000 45 clock 0\n\
+         book 4700 43000000 43000000 45 clock 9\nopen 0\ndesk 4700 43000000 43000000 45 clock 9\nopen 0\n\
+         desk 4700 43000000 45 clock 9\nopen 0\nsearch 0 0 9\n",
+        "refused 13\nrefused 13\nrefused 36\nmade\ntable 0\nrefused 36\nno forest\nmade\ntable 0\nyes 0 turns 1\n",
+    ),
+];
+
+/// What the desk says to what the old entry takes.
+type Desk = Option<Repeat>;
+
+const fn repeat(goal: usize, clause: usize, earlier: usize) -> Desk {
+    Some(Repeat { goal, clause, earlier })
+}
+
+/// Name, book, and what is said of it: a number by both entries, or what the desk says where the old one accepts.
+const DESK: &[(&str, &str, Result<Desk, u8>)] = &[
+    ("0. 0.", "4700 43000000 43000000 45", Ok(repeat(0, 1, 0))),
+    ("0. 0/1.", "4700 43000000 43010000 45", Ok(None)),
+    ("0. and one that cannot prove", "4700 43000000 43000001 45", Ok(None)),
+    ("0. and an outsized one", "4700 43000000 43000002 45", Ok(None)),
+    ("equal facts of two goals", "4700 43000000 4700 43000000 45", Ok(None)),
+    ("equal facts of goal 3", "4700 43000000 4700 4700 43000000 4700 43000000 43000000 45", Ok(repeat(3, 1, 0))),
+    (
+        "0 :- 0, 1 and 0 :- 1, 0",
+        "4700 43000000 500000000000 500100000000 43000000 500100000000 500000000000 4700 45",
+        Ok(None),
+    ),
+    ("0 :- 0 and 0 :- not 0", "4700 43000000 500000000000 43000000 4E000000 45", Ok(None)),
+    ("want 3 and 3 to 3", "4700 43000000 500000030000 43000000 5200000300030000 45", Ok(None)),
+    ("want 0 and 0 to 65535", "4700 43000000 500000000000 43000000 52000000 00FFFF00 45", Ok(None)),
+    ("3 to 3 twice", "4700 43000000 5200000300030000 43000000 5200000300030000 45", Ok(repeat(0, 1, 0))),
+    ("0 :- 0 and an outsized 0", "4700 43000000 500000000000 43000000 500000000001 45", Ok(None)),
+    ("0 :- 0 and 0 :- 0, 0", "4700 43000000 500000000000 43000000 500000000000 500000000000 45", Ok(None)),
+    ("a, b, a", "4700 43000000 43010000 43000000 45", Ok(repeat(0, 2, 0))),
+    ("a, b, b, a", "4700 43000000 43010000 43010000 43000000 45", Ok(repeat(0, 2, 1))),
+    ("a, a, a", "4700 43000000 43000000 43000000 45", Ok(repeat(0, 1, 0))),
+    ("a literal behind the next goal", "4700 43000000 43000000 4700 500000000000 45", Ok(None)),
+    (
+        "a literal behind the next goal makes them equal",
+        "4700 43000000 500000000000 43000000 4700 500000000000 45",
+        Ok(repeat(0, 1, 0)),
+    ),
+    ("0 :- 5 twice", "4700 43000000 500500000000 43000000 500500000000 45", Err(6)),
+    ("equal facts and a byte after the end", "4700 43000000 43000000 45 00", Err(7)),
+    ("equal facts and no end", "4700 43000000 43000000", Err(1)),
+    ("equal facts and a crossed range", "4700 43000000 43000000 43000000 5200000400030000 45", Err(32)),
 ];
 
 fn goals(count: usize) -> Vec<u8> {
@@ -146,6 +194,36 @@ fn largest() -> Vec<u8> {
     }
     bytes.push(END);
     bytes
+}
+
+/// As many clauses in one goal as there may be, all of them different in the last literal alone.
+fn all_alike() -> Vec<u8> {
+    let mut bytes = vec![GOAL, 0];
+    for clause in 0..MOST_CLAUSES {
+        bytes.extend([CLAUSE, 0, 0, 0]);
+        bytes.extend([RANGE, 0, 0, 1, 0, 0, 2, 0].repeat(MOST_LITERALS - 1));
+        bytes.extend([RANGE, 0, 0, clause as u8, 0, 0, 1, 0]);
+    }
+    bytes.push(END);
+    bytes
+}
+
+/// A book through both entries: by the reader, by the script, and by the listing.
+fn through_both(name: &str, bytes: &[u8], expected: Result<Desk, u8>) -> Result<(), String> {
+    let read = Book::read(bytes).map(|book| book.repeat());
+    let desk = match expected {
+        Ok(None) => "made".into(),
+        Ok(Some(_)) => "refused 36".into(),
+        Err(number) => format!("refused {number}"),
+    };
+    let old = if expected.is_ok() { "made".into() } else { desk.clone() };
+    let digits = to_hex(bytes);
+    let said = results(&format!("book {digits} clock 9\ndesk {digits} clock 9\n"))?;
+    hold(
+        name,
+        &format!("{expected:?}\n{old}\n{desk}\n{}\n", desk.starts_with("refused")),
+        &format!("{read:?}\n{said}{}\n", list(bytes)? == format!("{desk}\n")),
+    )
 }
 
 /// The result lines of a script, without the dumps.
@@ -191,6 +269,17 @@ fn cases() -> Result<(), String> {
             list(&bytes)?;
         }
     }
+    for (name, book, expected) in DESK {
+        let digits: String = book.split(' ').collect();
+        through_both(name, &hex(&digits).unwrap(), *expected)?;
+    }
+    let mut bytes = all_alike();
+    let said = format!("{} bytes\n", bytes.len());
+    hold("the longest equal clauses but for the last literal", "17411 bytes\n", &said)?;
+    through_both("256 clauses, different in the last literal", &bytes, Ok(None))?;
+    let last = bytes.len() - 6;
+    bytes[last] = 0;
+    through_both("the same, the last equal to the first", &bytes, Ok(repeat(0, 255, 0)))?;
     let mut bytes = largest();
     let written = Book::read(&bytes).map(|book| book.bytes());
     let said = format!("{} bytes, written as they were read: {}\n", bytes.len(), written.as_ref() == Ok(&bytes));
@@ -214,6 +303,11 @@ pub struct Counts {
     /// Answers that fit a range, and answers that did not.
     pub fit: u64,
     pub misfit: u64,
+    /// Calls on forests made at the desk, and on those made by the old entry.
+    pub at_desk: u64,
+    pub by_old: u64,
+    /// Calls on forests whose book has equal clauses.
+    pub on_equal: u64,
 }
 
 /// Runs forests of a profile until there are `calls` calls.
@@ -227,16 +321,21 @@ pub fn counted_run(seed: u64, calls: u64, profile: Profile) -> Result<Counts, St
         counts.forests += 1;
         let mut runner = Runner::new(Form::Quiet);
         let before = ranges();
-        let mut here = 0;
+        let (mut here, mut equal, mut desk) = (0, false, false);
         for line in script.lines() {
             out.clear();
             runner.step(line, &mut out)?;
             counts.calls += 1;
-            if line.starts_with("book") {
+            if line.starts_with("book") || line.starts_with("desk") {
                 here = runner.book().map_or(0, Book::ranges);
+                equal = runner.book().is_some_and(|book| book.repeat().is_some());
+                desk = line.starts_with("desk");
                 counts.ranges += here;
-            } else {
+            } else if runner.book().is_some() {
                 counts.on_ranges += u64::from(here > 0);
+                counts.on_equal += u64::from(equal);
+                counts.at_desk += u64::from(desk);
+                counts.by_old += u64::from(!desk);
             }
             let result = out.lines().next().unwrap_or("");
             let mut words = result.split(' ');
@@ -282,9 +381,13 @@ pub fn check(calls: u64, seed: u64) -> Result<(), String> {
         "ranges: {} literals of books that were made, {} calls on these books, {} answers fit one, {} did not\n",
         counts.ranges, counts.on_ranges, counts.fit, counts.misfit
     );
+    println!(
+        "entries: {} calls on forests made at the desk, {} on forests made by the old entry, {} of these on books with equal clauses\n",
+        counts.at_desk, counts.by_old, counts.on_equal
+    );
     // A shorter run than the standard one needs its share only.
     let least = AT_LEAST * calls / STANDARD_CALLS;
-    for number in (1..=13).chain(20..=29).chain([32]) {
+    for number in (1..=13).chain(20..=29).chain([32, 36]) {
         let word = if matches!(number, 21..=29) { "stop" } else { "refused" };
         let times = count(&counts, &format!("{word} {number}"));
         if times < least {
@@ -294,6 +397,9 @@ pub fn check(calls: u64, seed: u64) -> Result<(), String> {
     if counts.fit.min(counts.misfit) < least {
         return Err(format!("a range took or left an answer less than {least} times"));
     }
-    println!("each of the numbers 1 to 13, 20 to 29 and 32 came up at least {least} times");
+    if counts.at_desk.min(counts.on_equal) < least {
+        return Err(format!("an entry had less than {least} calls, or books with equal clauses had"));
+    }
+    println!("each of the numbers 1 to 13, 20 to 29, 32 and 36 came up at least {least} times");
     Ok(())
 }

@@ -1,4 +1,4 @@
-//! Scripts from a seed: books of every kind, and calls with every kind of argument.
+//! Scripts from a seed: books of every kind, each through both entries, and calls with every kind of argument.
 //!
 //! While it writes a script the generator runs it too, so that most calls name tables and indexes that are
 //! there, and a marked forest is soon left.
@@ -9,8 +9,9 @@ mod rare;
 
 pub use books::{damaged_book, plain_book};
 
+use crate::book::Entry;
 use crate::rng::Rng;
-use books::{random_book, share_of_ranges, taste};
+use books::{copies, random_book, share_of_ranges, taste};
 use calls::{clock, Forest, Haste};
 use rare::{chain_forest, delayed_forest, facts_forest, near_forest, strands_forest};
 use std::fmt::Write;
@@ -35,8 +36,10 @@ pub enum Profile {
     Large,
     /// Small books in scripts with malformed lines, comments and odd spacing.
     Lines,
-    /// Tiny books without ranges: what bench times, and so not to be changed.
+    /// Tiny books without ranges, by the old entry alone: what bench times, and so not to be changed.
     Timed,
+    /// Plain levelled books as bench times them, by the old entry alone.
+    TimedPlain,
 }
 
 impl Profile {
@@ -102,11 +105,20 @@ fn general_forest(rng: &mut Rng, out: &mut String, profile: Profile) -> u64 {
             }
         }
     }
-    if profile != Profile::Timed {
+    let timed = profile == Profile::Timed;
+    if !timed {
         taste.range = share_of_ranges(rng);
     }
-    let bytes = random_book(rng, &taste).bytes();
-    let mut forest = Forest::begin(rng, &bytes, limit, out);
+    let mut book = random_book(rng, &taste);
+    if !timed {
+        copies(rng, &mut book, 20);
+    }
+    let bytes = book.bytes();
+    let mut forest = if timed {
+        Forest::by(Entry::Old, rng, &bytes, limit, out)
+    } else {
+        Forest::begin(rng, &bytes, limit, out)
+    };
     match haste {
         Some(haste) => forest.calls_in(count, haste),
         None => forest.random_calls(count),
@@ -114,10 +126,14 @@ fn general_forest(rng: &mut Rng, out: &mut String, profile: Profile) -> u64 {
     forest.calls
 }
 
-fn plain_forest(rng: &mut Rng, out: &mut String) -> u64 {
+fn plain_forest(rng: &mut Rng, out: &mut String, timed: bool) -> u64 {
     let (book, _) = plain_book(rng);
     let limit = clock(rng);
-    let mut forest = Forest::begin(rng, &book.bytes(), limit, out);
+    let mut forest = if timed {
+        Forest::by(Entry::Old, rng, &book.bytes(), limit, out)
+    } else {
+        Forest::begin(rng, &book.bytes(), limit, out)
+    };
     let count = forest.rng.range(10, 30);
     forest.random_calls(count);
     forest.calls
@@ -163,19 +179,32 @@ fn lines_forest(rng: &mut Rng, out: &mut String) -> u64 {
                 "book zz clock 9",
                 "book 470045 clock 9 9",
                 "book 470045 clock clock 9",
+                "desk",
+                "desk 47 00 45",
+                "desk 470045 clock",
+                "desk 470045 clock x",
+                "desk 470045 clock 18446744073709551616",
+                "desk 47004 clock 9",
+                "desk zz clock 9",
+                "desk 470045 clock 9 9",
+                "desk 470045 desk 470045 clock 9",
+                "desk book 470045 clock 9",
+                "Desk 470045 clock 9",
+                "desks 470045 clock 9",
                 "clock 9",
                 "state",
             ]);
             let _ = writeln!(out, "{odd}");
         }
-        match line.strip_prefix("book ").and_then(|rest| rest.split_once(' ')) {
-            Some((bytes, rest)) if rng.chance(50) => {
+        let book = ["book", "desk"].into_iter().find(|word| line.starts_with(*word));
+        match book.and_then(|word| Some((word, line[word.len() + 1..].split_once(' ')?))) {
+            Some((word, (bytes, rest))) if rng.chance(50) => {
                 let spaced: Vec<String> = bytes
                     .as_bytes()
                     .chunks(if rng.chance(50) { 2 } else { 4 })
                     .map(|pair| String::from_utf8_lossy(pair).to_lowercase())
                     .collect();
-                let _ = writeln!(out, "book  {} {rest}", spaced.join(" "));
+                let _ = writeln!(out, "{word}  {} {rest}", spaced.join(" "));
             }
             _ if rng.chance(10) => {
                 let _ = writeln!(out, " {} ", line.replace(' ', "  "));
@@ -188,7 +217,7 @@ fn lines_forest(rng: &mut Rng, out: &mut String) -> u64 {
     calls
 }
 
-/// One forest of a profile, added to `out`; how many calls it has, its book's line included.
+/// One forest of a profile, added to `out`; how many calls it has, its book's lines included.
 pub fn forest(rng: &mut Rng, profile: Profile, out: &mut String) -> u64 {
     match profile {
         Profile::Mix => match rng.below(100) {
@@ -196,11 +225,12 @@ pub fn forest(rng: &mut Rng, profile: Profile, out: &mut String) -> u64 {
             27..=54 => general_forest(rng, out, Profile::Mix),
             55..=63 => general_forest(rng, out, Profile::Tiny),
             64..=67 => general_forest(rng, out, Profile::Large),
-            68..=74 => plain_forest(rng, out),
+            68..=74 => plain_forest(rng, out, false),
             75..=87 => near_forest(rng, out, false),
             _ => forest(rng, Profile::Answers, out),
         },
-        Profile::Plain => plain_forest(rng, out),
+        Profile::Plain => plain_forest(rng, out, false),
+        Profile::TimedPlain => plain_forest(rng, out, true),
         Profile::Bytes => bytes_forest(rng, out),
         Profile::Answers => match rng.below(100) {
             0..=29 => delayed_forest(rng, out, false),

@@ -1,5 +1,6 @@
-//! The listing program of document 01.
+//! The listing program of document 01. It reads as the exam desk does.
 
+use crate::book::Entry;
 use crate::bounded::{Bounded, Call, Reply};
 use crate::script::{unexpected, word};
 use chalk_engine::solve::Outcome;
@@ -12,7 +13,7 @@ pub const TURNS: u64 = 10_000;
 /// The listing of a book, as one text; the error is a report of an unexpected panic.
 pub fn list(bytes: &[u8]) -> Result<String, String> {
     let mut out = String::new();
-    let mut bounded = match Bounded::new(bytes, CLOCK) {
+    let mut bounded = match Bounded::by(Entry::Desk, bytes, CLOCK) {
         Ok(bounded) => bounded,
         Err(number) => return Ok(format!("refused {number}\n")),
     };

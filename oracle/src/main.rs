@@ -37,7 +37,7 @@ fn input_book(words: &[&str]) -> Result<Vec<u8>, String> {
     Ok(bytes)
 }
 
-/// For each line of hex: `accepted`, or `refused` and the number.
+/// For each line of hex: `accepted`, or `refused` and the number; where the desk alone refuses, that and the place.
 fn read_books() -> Result<(), String> {
     let mut out = io::BufWriter::new(io::stdout().lock());
     for line in io::stdin().lines() {
@@ -45,7 +45,12 @@ fn read_books() -> Result<(), String> {
         let text: String = line.split(' ').collect();
         match script::hex(&text).map(|bytes| book::Book::read(&bytes)) {
             None => writeln!(out, "no hex"),
-            Some(Ok(_)) => writeln!(out, "accepted"),
+            Some(Ok(book)) => match book.repeat() {
+                None => writeln!(out, "accepted"),
+                Some(book::Repeat { goal, clause, earlier }) => {
+                    writeln!(out, "accepted, desk refused 36 goal {goal} clause {clause} as {earlier}")
+                }
+            },
             Some(Err(number)) => writeln!(out, "refused {number}"),
         }
         .map_err(|e| e.to_string())?;

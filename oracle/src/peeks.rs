@@ -3,6 +3,7 @@
 //! Two forests go through the script: one with the peek, one with its searches. After each peek both must be the same, and the last
 //! search must have said what the peek says.
 
+use crate::book::Entry;
 use crate::bounded::{Bounded, Call, Reply};
 use crate::script::{parse, unexpected, Line};
 use chalk_engine::solve::{Ended, Outcome};
@@ -15,9 +16,9 @@ struct Both {
 }
 
 impl Both {
-    fn new(bytes: &[u8], clock: u64) -> Option<Both> {
-        let peeking = Bounded::new(bytes, clock).ok()?;
-        let searching = Bounded::new(bytes, clock).ok()?;
+    fn new(entry: Entry, bytes: &[u8], clock: u64) -> Option<Both> {
+        let peeking = Bounded::by(entry, bytes, clock).ok()?;
+        let searching = Bounded::by(entry, bytes, clock).ok()?;
         Some(Both { peeking, searching })
     }
 
@@ -76,8 +77,8 @@ fn step(both: &mut Option<Both>, line: &[u8], out: &mut Vec<u8>) -> Result<(), S
     if let (Line::Call(call), Some(both)) = (&read, both.as_mut()) {
         return both.call(*call, line, out);
     }
-    if let Line::Book { bytes, clock } = read {
-        *both = Both::new(&bytes, clock);
+    if let Line::Book { entry, bytes, clock } = read {
+        *both = Both::new(entry, &bytes, clock);
     }
     out.extend_from_slice(line);
     out.push(b'\n');

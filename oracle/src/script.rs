@@ -1,7 +1,7 @@
 //! The script of the differential run: one call a line in, two lines a call out. In batches the forest's line
 //! comes after some calls, not after each.
 
-use crate::book::Book;
+use crate::book::{Book, Entry};
 use crate::bounded::{Bounded, Call, Reply};
 use chalk_engine::solve::{Ended, Outcome};
 use std::fmt::Write as _;
@@ -10,7 +10,7 @@ use std::io::{BufRead, Write};
 pub enum Line {
     Skip,
     Bad,
-    Book { bytes: Vec<u8>, clock: u64 },
+    Book { entry: Entry, bytes: Vec<u8>, clock: u64 },
     Call(Call),
 }
 
@@ -58,12 +58,13 @@ pub fn parse(line: &str) -> Line {
 }
 
 fn parse_words(words: &[&str]) -> Option<Line> {
-    if let ["book", bytes @ .., "clock", clock] = words {
+    if let [way @ ("book" | "desk"), bytes @ .., "clock", clock] = words {
+        let entry = if *way == "desk" { Entry::Desk } else { Entry::Old };
         let mut book = Vec::new();
         for word in bytes {
             book.extend(hex(word)?);
         }
-        return Some(Line::Book { bytes: book, clock: number(clock)? });
+        return Some(Line::Book { entry, bytes: book, clock: number(clock)? });
     }
     let numbers: Option<Vec<u64>> = words[1..].iter().map(|word| number(word)).collect();
     let call = match (words[0], &numbers?[..]) {
@@ -200,11 +201,11 @@ impl Runner {
                 let _ = writeln!(out, "bad line {}", self.line);
                 return Ok(());
             }
-            Line::Book { bytes, clock } => {
+            Line::Book { entry, bytes, clock } => {
                 self.end_batch(out);
                 self.since_book.clear();
                 self.since_book.push(line.to_string());
-                match Bounded::new(&bytes, clock) {
+                match Bounded::by(entry, &bytes, clock) {
                     Ok(bounded) => {
                         self.bounded = Some(bounded);
                         out.push_str("made\n");

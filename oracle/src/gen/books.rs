@@ -1,6 +1,6 @@
 //! Books of chance: small ones of every kind, plain levelled ones, books at the limits, damaged bytes.
 
-use crate::book::{Book, Clause, GoalFlags, Literal, CLAUSE, END, GOAL, NOT, POSITIVE, RANGE};
+use crate::book::{Book, Clause, GoalFlags, Literal, CLAUSE, END, GOAL, MOST_CLAUSES, NOT, POSITIVE, RANGE};
 use crate::rng::Rng;
 use chalk_ir::Want;
 
@@ -126,6 +126,66 @@ pub fn random_book(rng: &mut Rng, taste: &Taste) -> Book {
     book
 }
 
+/// In some of a hundred cases a clause once more, anywhere among those of its goal, or one that is like it but
+/// for one thing.
+pub fn copies(rng: &mut Rng, book: &mut Book, percent: u64) {
+    while !book.clauses.is_empty() && book.clauses.len() < MOST_CLAUSES && rng.chance(percent) {
+        let mut copy = book.clauses[rng.below(book.clauses.len() as u64) as usize].clone();
+        if rng.chance(60) {
+            alike(rng, &mut copy, book.goals.len() as u64);
+        }
+        let at = rng.below(book.clauses.len() as u64 + 1) as usize;
+        book.clauses.insert(at, copy);
+    }
+}
+
+/// One thing of a clause changed: its variant, a flag, its goal, a literal, the order of two.
+fn alike(rng: &mut Rng, clause: &mut Clause, goals: u64) {
+    let other = variant(rng);
+    if clause.literals.is_empty() || rng.chance(35) {
+        match rng.below(4) {
+            0 => clause.variant = rng.pick(&[clause.variant ^ 1, clause.variant ^ 256, other]),
+            1 => clause.cannot_prove = !clause.cannot_prove,
+            2 => clause.outsized = !clause.outsized,
+            _ => clause.goal = rng.below(goals) as usize,
+        }
+        return;
+    }
+    let which = rng.below(clause.literals.len() as u64) as usize;
+    let literal = &mut clause.literals[which];
+    match rng.below(7) {
+        0 => literal.outsized = !literal.outsized,
+        1 => literal.goal = rng.below(goals) as u16,
+        2 => {
+            literal.positive = !literal.positive;
+            literal.want = Want::Any;
+        }
+        3 => {
+            clause.literals.remove(which);
+        }
+        4 => {
+            let last = clause.literals.len() - 1;
+            clause.literals.swap(which, last);
+        }
+        _ if !literal.positive => literal.goal = rng.below(goals) as u16,
+        // the same variants by the other command
+        5 => {
+            literal.want = match literal.want {
+                Want::Between(0, 65535) => Want::Any,
+                Want::Between(low, high) if low == high && low > 0 => Want::Exactly(low),
+                want => Want::Between(want.low(), want.high()),
+            }
+        }
+        _ => {
+            literal.want = match literal.want {
+                Want::Between(low, _) if rng.chance(50) => Want::Between(low, 65535),
+                Want::Between(_, high) => Want::Between(0, high),
+                _ => rng.pick(&[Want::Any, Want::Exactly(other)]),
+            }
+        }
+    }
+}
+
 /// A plain book, and levels for its goals that make it a levelled one.
 pub fn plain_book(rng: &mut Rng) -> (Book, Vec<u64>) {
     let goals = rng.pick(&[1, 2, 3, 3, 4, 5, 6, 9]);
@@ -190,6 +250,12 @@ impl Made {
         });
     }
 
+    /// Now and then a clause twice, or one that is like another.
+    pub fn with_copies(mut self, rng: &mut Rng) -> Made {
+        copies(rng, &mut self.0, 8);
+        self
+    }
+
     /// Some literals as ranges, which take and leave what they did before: no variant in use is above 999, or
     /// from a wanted one on.
     pub fn with_ranges(mut self, rng: &mut Rng) -> Made {
@@ -244,7 +310,7 @@ pub fn limit_book(rng: &mut Rng) -> Vec<u8> {
             }
         }
     }
-    made.with_ranges(rng).0.bytes()
+    made.with_ranges(rng).with_copies(rng).0.bytes()
 }
 
 /// A book whose last literal is a range, which may be wrong in more than one way: crossed, with a flag that
@@ -270,6 +336,51 @@ fn range_book(rng: &mut Rng) -> Vec<u8> {
         bytes.truncate(bytes.len() - rng.range(1, 7) as usize);
     } else {
         bytes.push(END);
+    }
+    bytes
+}
+
+/// A book with a clause twice, or nearly so, with other clauses before, between and after. The literals of the
+/// last one may stand behind another goal. It may be wrong in another way too: a byte after the end, a literal
+/// of a goal that is not there, a crossed range, no end.
+fn copied_book(rng: &mut Rng) -> Vec<u8> {
+    let mut taste = taste(rng);
+    taste.goals = (1, 3);
+    taste.clauses = (1, 3);
+    taste.range = share_of_ranges(rng);
+    let mut book = random_book(rng, &taste);
+    let percent = rng.pick(&[40, 70]);
+    copies(rng, &mut book, percent);
+    if rng.chance(10) {
+        let which = rng.below(book.clauses.len() as u64) as usize;
+        let beyond = book.goals.len() as u16;
+        let literal = match rng.below(3) {
+            0 => any(beyond),
+            1 => any(65535),
+            _ => Literal { want: crossed(rng), ..any(0) },
+        };
+        book.clauses[which].literals.truncate(7);
+        book.clauses[which].literals.push(literal);
+        let copy = book.clauses[which].clone();
+        book.clauses.push(copy);
+    }
+    let mut bytes = book.bytes();
+    // Where a goal is put before the last literal, that still belongs to the clause before it.
+    if let Some(last) = book.clauses.last().and_then(|clause| clause.literals.last()) {
+        let mut tail = Vec::new();
+        last.write(&mut tail);
+        tail.push(END);
+        if bytes.ends_with(&tail) && rng.chance(30) {
+            let at = bytes.len() - tail.len();
+            bytes.splice(at..at, [GOAL, 0]);
+        }
+    }
+    match rng.below(20) {
+        0 => bytes.push(0),
+        1 => {
+            bytes.pop();
+        }
+        _ => {}
     }
     bytes
 }
@@ -315,6 +426,9 @@ pub fn damaged_book(rng: &mut Rng) -> Vec<u8> {
     }
     if rng.chance(10) {
         return range_book(rng);
+    }
+    if rng.chance(8) {
+        return copied_book(rng);
     }
     let mut bytes = match rng.below(20) {
         0..=5 => limit_book(rng),

@@ -1,5 +1,6 @@
 //! Calls of chance on one forest, which is run while its lines are written.
 
+use crate::book::Entry;
 use crate::bounded::{Bounded, Call, Reply};
 use crate::rng::Rng;
 use crate::script::to_hex;
@@ -12,16 +13,29 @@ pub struct Forest<'a> {
     pub bounded: Option<Bounded>,
     pub clock: u64,
     pub out: &'a mut String,
-    /// Calls with a book before, the book's line included.
+    /// Calls with a book before, the book's lines included.
     pub calls: u64,
     /// The tables of which no more is to be expected.
     pub done: Vec<u64>,
 }
 
 impl Forest<'_> {
+    /// The book through both entries, in an order of chance; the forest is that of the last one. Where the
+    /// desk alone refuses, that is mostly the old entry's.
     pub fn begin<'a>(rng: &'a mut Rng, bytes: &[u8], clock: u64, out: &'a mut String) -> Forest<'a> {
-        let _ = writeln!(out, "book {} clock {clock}", to_hex(bytes));
-        Forest { rng, bounded: Bounded::new(bytes, clock).ok(), clock, out, calls: 1, done: Vec::new() }
+        let refused = |entry| Bounded::by(entry, bytes, clock).is_err();
+        let desk_alone = refused(Entry::Desk) && !refused(Entry::Old);
+        let desk_last = rng.chance(if desk_alone { 25 } else { 60 });
+        let (first, last) = if desk_last { (Entry::Old, Entry::Desk) } else { (Entry::Desk, Entry::Old) };
+        let _ = writeln!(out, "{} {} clock {clock}", first.word(), to_hex(bytes));
+        let forest = Forest::by(last, rng, bytes, clock, out);
+        Forest { calls: 2, ..forest }
+    }
+
+    /// The book through one entry alone.
+    pub fn by<'a>(entry: Entry, rng: &'a mut Rng, bytes: &[u8], clock: u64, out: &'a mut String) -> Forest<'a> {
+        let _ = writeln!(out, "{} {} clock {clock}", entry.word(), to_hex(bytes));
+        Forest { rng, bounded: Bounded::by(entry, bytes, clock).ok(), clock, out, calls: 1, done: Vec::new() }
     }
 
     pub fn call(&mut self, call: Call) {

@@ -29,7 +29,7 @@ pub fn delayed_forest(rng: &mut Rng, out: &mut String, compact: bool) -> u64 {
         made.clause(middle, variant, literals);
     }
     let clock = if rng.chance(90) { 1_000_000 } else { rng.range(1, 20) };
-    let made = made.with_ranges(rng);
+    let made = made.with_ranges(rng).with_copies(rng);
     let mut forest = Forest::begin(rng, &made.0.bytes(), clock, out);
     forest.call(Call::Open { goal: 0 });
     if compact {
@@ -78,7 +78,7 @@ pub fn strands_forest(rng: &mut Rng, out: &mut String, compact: bool) -> u64 {
         calls.push(Call::Open { goal: 2 });
         calls.push(Call::Search { table: 0, index: 1, turns: 30 });
     }
-    let made = made.with_ranges(rng);
+    let made = made.with_ranges(rng).with_copies(rng);
     let mut forest = Forest::begin(rng, &made.0.bytes(), 1_000_000, out);
     for call in calls {
         forest.call(call);
@@ -116,14 +116,14 @@ pub fn facts_forest(rng: &mut Rng, out: &mut String, compact: bool) -> u64 {
     for variant in 1..=count {
         made.clause(facts, variant as u16, vec![]);
     }
-    let made = made.with_ranges(rng);
+    let made = made.with_ranges(rng).with_copies(rng);
     let mut forest = Forest::begin(rng, &made.0.bytes(), 1_000_000, out);
     if let Some(caller) = caller {
         forest.call(Call::Open { goal: u64::from(caller) });
         forest.call(Call::Peek { table: 0, index: 0, rounds: 1000, turns: 5000 });
     } else {
         forest.call(Call::Open { goal: u64::from(facts) });
-        for index in 0..count {
+        for index in 0..if forest.bounded.is_some() { count } else { 1 } {
             forest.call(Call::Search { table: 0, index, turns: 10 });
         }
     }
@@ -161,7 +161,7 @@ pub fn chain_forest(rng: &mut Rng, out: &mut String) -> u64 {
     if rng.chance(30) {
         made.clause(ends, 999, vec![]);
     }
-    let made = made.with_ranges(rng);
+    let made = made.with_ranges(rng).with_copies(rng);
     let mut forest = Forest::begin(rng, &made.0.bytes(), 1_000_000, out);
     forest.call(Call::Open { goal: 0 });
     forest.call(Call::Peek { table: 0, index: 0, rounds: 1000, turns: 5000 });
@@ -226,7 +226,7 @@ pub fn near_forest(rng: &mut Rng, out: &mut String, short: bool) -> u64 {
         made.0.clauses[clause].literals.insert(0, any(goal));
     }
     let clock = if rng.chance(85) { 1_000_000 } else { rng.range(1, 20) };
-    let made = made.with_ranges(rng);
+    let made = made.with_ranges(rng).with_copies(rng);
     let mut forest = Forest::begin(rng, &made.0.bytes(), clock, out);
     for goal in 0..goals {
         forest.call(Call::Open { goal });
