@@ -7,11 +7,12 @@ import papers
 
 # The results of a call, in the order of a table.
 WORDS = "made table yes maybe none floundered again negcycle invalid cut true false".split()
-REFUSALS = ["refused %d" % n for n in (*range(1, 14), 20, 32)]
+REFUSALS = ["refused %d" % n for n in (*range(1, 14), 20, 32, 36)]
 STOPS = ["stop %d" % n for n in range(21, 30)]
 # A line that is no dump and no hash of one.
 RESULT = re.compile(rb"^(?!state |[0-9a-f]{16}$).+$", re.M)
-BOOK = re.compile(rb" *book ([0-9A-Fa-f ]*)clock ")
+# A book, by the old entry or at the desk.
+BOOK = re.compile(rb" *(book|desk) ([0-9A-Fa-f ]*)clock +(\d+) *$")
 
 
 class Broken(Exception):
@@ -40,6 +41,11 @@ def is_skipped(line):
         return False
 
 
+def is_book(line):
+    """A line that makes a forest, at the desk or by the old entry, or would if it were not malformed."""
+    return line.strip(b" ").startswith((b"book", b"desk"))
+
+
 def calls_of(script, output):
     """Of each line that is no skipped one: its number, itself, and what was written of it: the result, and the dump where one follows. A
     malformed line has none; of calls that were handed over together the last one alone has it."""
@@ -60,16 +66,25 @@ def results_of(output):
     return collections.Counter(RESULT.findall(output))
 
 
+# What is counted besides the results, and how a table tells it.
+BESIDES = {
+    "ranges": "literals that are ranges", "on_ranges": "calls on books with ranges",
+    "at_desk": "calls on forests made at the desk", "by_old": "calls on forests made by the old entry",
+    "on_equal": "calls on books with equal clauses", "both": "books through both entries",
+}
+
+
 class Counts:
-    """What the Rust said, over all scripts; how many literals of the books that were made are ranges, and the calls on these books."""
+    """What the Rust said, over all scripts. Of the books that were made: how many of their literals are ranges, and the calls on these
+    books; the calls on forests of either entry, and on books that the desk refuses; and how many books went through both entries."""
 
     def __init__(self):
         self.calls, self.turns, self.said = 0, 0, collections.Counter()
-        self.ranges, self.on_ranges = 0, 0
+        self.besides = collections.Counter()
 
     def see(self, output, script=None):
         if script is not None:
-            self.see_ranges(output, script)
+            self.see_books(output, script)
         for line, times in results_of(output).items():
             result = line.decode()
             turns = re.search(r" turns (\d+)$", result)
@@ -78,39 +93,52 @@ class Counts:
             numbered = re.match(r"(refused|stop) \d+|no forest|bad line", result)
             self.said[numbered.group(0) if numbered else result.split()[0]] += times
 
-    def see_ranges(self, output, script):
-        here, lines = 0, [line for line in script.split(b"\n") if not is_skipped(line)]
+    def see_books(self, output, script):
+        """A book has gone through both entries where its two lines have nothing between them but what is malformed."""
+        here, before, lines = [], None, [line for line in script.split(b"\n") if not is_skipped(line)]
         for line, result in zip(lines, RESULT.findall(output)):
+            if result.startswith(b"bad line"):
+                continue
+            if not is_book(line):
+                self.besides.update(here)
+                before = None
+                continue
+            way, digits, clock = BOOK.match(line).groups()
+            book = bytes.fromhex(digits.decode()), int(clock)
+            pair = before is not None and before[:2] == book and before[2] != way
+            self.besides["both"] += pair
+            here = []
             if result == b"made":
-                here = papers.ranges_in(bytes.fromhex(BOOK.match(line).group(1).decode()))
-                self.ranges += here
-            elif line.strip(b" ").startswith(b"book") and not result.startswith(b"bad line"):
-                here = 0
-            elif here:
-                self.on_ranges += 1
+                ranges = papers.ranges_in(book[0])
+                self.besides["ranges"] += ranges
+                here = ["at_desk" if way == b"desk" else "by_old"] + ["on_ranges"] * (ranges > 0)
+                here += ["on_equal"] * (pair and before[3] == b"refused 36")
+            before = None if pair else (*book, way, result)
 
     def add(self, other):
         self.calls, self.turns = self.calls + other.calls, self.turns + other.turns
-        self.ranges, self.on_ranges = self.ranges + other.ranges, self.on_ranges + other.on_ranges
+        self.besides += other.besides
         self.said += other.said
 
     def rare(self, least):
-        """The numbers, and what there is to ranges, that came up less often."""
-        ranges = {"literals that are ranges": self.ranges, "calls on books with ranges": self.on_ranges}
-        return [w for w in REFUSALS + STOPS if self.said[w] < least] + [w for w in ranges if ranges[w] < least]
+        """The numbers, and what is counted besides, that came up less often."""
+        return [w for w in REFUSALS + STOPS if self.said[w] < least] + [w for b, w in BESIDES.items() if self.besides[b] < least]
 
     def table(self):
         order = WORDS + ["no forest", "bad line"] + REFUSALS + STOPS
         cells = ["%-12s %10s" % (w, format(self.said[w], ",")) for w in order + sorted(set(self.said) - set(order))]
-        ranges = "ranges: {0.ranges:,} literals of the books that were made, {0.on_ranges:,} calls on these books".format(self)
-        return "\n".join(["   ".join(cells[at:at + 4]) for at in range(0, len(cells), 4)] + [ranges])
+        told = ("ranges: {ranges:,} literals of the books that were made, {on_ranges:,} calls on these books\n"
+                "entries: {at_desk:,} calls on forests made at the desk, {by_old:,} on forests made by the old entry, of these "
+                "{on_equal:,} on books with equal clauses; {both:,} books through both")
+        besides = {b: self.besides[b] for b in BESIDES}
+        return "\n".join(["   ".join(cells[at:at + 4]) for at in range(0, len(cells), 4)] + [told.format(**besides)])
 
 
 def difference(script, rust, ours):
     """The first line that differs, with what both sides said, and the calls since the book."""
     since = []
     for (number, line, one), (_, _, other) in zip(calls_of(script, rust), calls_of(script, ours)):
-        if line.strip(b" ").startswith(b"book") and not one[0].startswith(b"bad line"):
+        if is_book(line) and not one[0].startswith(b"bad line"):
             since = []
         since.append(line)
         if one != other:
