@@ -136,6 +136,12 @@ def largest(literal):
 LARGEST = largest(lambda goal, low: ranged(goal, low, 65535 - low))
 
 
+def alike(lasts):
+    """A clause of goal 0 for each: eight ranges, of which the last one alone is its own."""
+    rest = [ranged(0, 1, 2)] * 7
+    return "goal 0\n" + "\n".join("0 :- " + ", ".join(rest + [ranged(0, last, 256)]) for last in lasts)
+
+
 def three_to_seven():
     variants = (2, 3, 7, 8, 0)
     rest = ["goal %d\n%d :- %s" % (g, g, ranged(g + 5, 3, 7)) for g in range(5)]
@@ -205,6 +211,10 @@ PAPERS = [
     ("literals-9", "the same with 9: refused 5", wide(9)),
     ("range-3-7", "goals 0 to 4 want 3 to 7 of the goals 5 to 9, whose variants are 2, 3, 7, 8 and 0: 1, 2 and 4 hold", three_to_seven()),
     ("range-crossed", "a range from 4 to 3: refused 32", "goal 0\n0 :- 1/4-3\ngoal 1\n1/3"),
+    ("equal-clauses", "goal 1 has the same clause twice, with one between: the desk refuses it with 36",
+     "goal 0\n0 :- 1/1\ngoal 1\n1/1 :- 2, not 3\n1/2 :- 2\n1/1 :- 2, not 3\ngoal 2\n2\ngoal 3"),
+    ("clauses-256-alike", "256 clauses of one goal, different in the last of 8 ranges alone: the desk takes it", alike(range(256))),
+    ("clauses-256-twice", "the same, the last clause equal to the first: the desk refuses it with 36", alike([*range(255), 0])),
     ("largest", "the largest book there can be: 64 goals, 256 clauses of 8 ranges each, with every mark", LARGEST),
     ("largest-and-a-byte", "the same and a byte after it: refused 7", book(LARGEST) + b"\0"),
     ("largest-wants", "the largest book without a range: the same with a want in place of each", largest(numbered)),
@@ -213,8 +223,9 @@ PAPERS = [
 HEADER = """# Sample papers
 
 Each file `NAME.book` holds the bytes of a book. p1 to p9 are the cases of document 01, `release` is a paper as the
-workshop has it; the others are the sizes at the limits and one past them, ranges, and the largest book. `inspect` prints what a
-book says, `listing` what follows from it. `tools/papers.py` makes the files and this page from a notation that can be read;
+workshop has it; the others are the sizes at the limits and one past them, ranges, the same clause twice, and the largest book. A paper
+that is refused here is refused by both entries, but where the desk is named. `inspect` prints what a book says, `listing` what follows
+from it. `tools/papers.py` makes the files and this page from a notation that can be read;
 `tools/papers.py --check` says whether they are those.
 
 | file | bytes | what it is | in hex |

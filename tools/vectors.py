@@ -4,9 +4,11 @@
 tools/vectors.py           write the program's stdin (names and bytes), stdout (what it must say) and data/ (the papers)
 tools/vectors.py --check   say whether the files are those
 
-What is expected stands here by hand, after document 01: a number by which a book is refused, or how many goals and clauses it has.
-The order: for each command 1 (its byte), 2, 1 (its operands), 3, 4, 32, 5; at 45: 7, 8, 6. No bytes have two faults of which
-one is 3 and the other 5, or one is 8 and the other 6: without a clause there are no eight literals, and without a goal no literal.
+What is expected stands here by hand, after document 01: a number by which a book is refused, or how many goals and clauses it has, and
+36 behind these where the desk alone refuses it.
+The order: for each command 1 (its byte), 2, 1 (its operands), 3, 4, 32, 5; at 45: 7, 8, 6; at the desk 36 after all of them. No bytes have
+two faults of which one is 3 and the other 5, or one is 8 and the other 6: without a clause there are no eight literals, and without a goal
+no literal.
 """
 import os
 import sys
@@ -22,13 +24,16 @@ PAPERS = [
     ("p9-empty", 1), ("p9-end", 8), ("p9-one-goal", (1, 0)),
     ("goals-64", (64, 64)), ("goals-65", 5), ("clauses-256", (1, 256)), ("clauses-257", 5), ("literals-8", (9, 9)), ("literals-9", 5),
     ("range-3-7", (10, 10)), ("range-crossed", 32),
+    ("equal-clauses", (4, 5, 36)), ("clauses-256-alike", (1, 256)), ("clauses-256-twice", (1, 256, 36)),
     ("largest", (64, 256)), ("largest-and-a-byte", 7), ("largest-wants", (64, 256)),
 ]
 
 G = "47 00 "                    # a goal
 C = "43 00 00 00 "              # a clause of variant 0
+V = "43 01 00 00 "              # a clause of variant 1
 P = "50 00 00 00 00 00 "        # the literal 0
 N = "4E 00 00 00 "              # the literal not 0
+P1 = "50 01 00 00 00 00 "       # the literal 1
 P5 = "50 05 00 00 00 00 "       # the literal 5
 R = "52 00 00 03 00 07 00 00 "  # the literal 0/3-7
 X = "52 00 00 04 00 03 00 00 "  # the literal 0/4-3, which is crossed
@@ -56,9 +61,9 @@ VECTORS = [
     ("a literal that names goal 63", G + C + "50 3F 00 00 00 00 " + G * 63 + END, (64, 1)),
     ("a literal of the last clause, after a goal", G + C + G + P + END, (2, 1)),
     ("64 goals", G * 64 + END, (64, 0)),
-    ("256 clauses of two goals", G + C * 128 + G + C * 128 + END, (2, 256)),
+    ("256 clauses of two goals", G + C * 128 + G + C * 128 + END, (2, 256, 36)),
     ("8 literals", G + C + (P + N) * 4 + END, (1, 1)),
-    ("8 literals in each of two clauses", G + (C + P * 8) * 2 + END, (1, 2)),
+    ("8 literals in each of two clauses", G + (C + P * 8) * 2 + END, (1, 2, 36)),
     ("hex in small letters", "47 00 43 0a 0b 00 4e 00 00 00 45", (1, 1)),
 
     # each refusal
@@ -174,6 +179,46 @@ VECTORS = [
     ("5, not 6, nine literals that name no goal", G + C + P5 * 9 + END, 5),
     ("32, not 6, a literal that names no goal, and the range 4 to 3", G + C + P5 + X + END, 32),
     ("7 before 6, a byte after the end, and a range of a goal that is not there", G + C + "52 05 00 03 00 07 00 00 " + END + " 00", 7),
+
+    # the same clause twice: the desk refuses it, after all else
+    ("two equal facts", G + C + C + END, (1, 2, 36)),
+    ("facts of two variants", G + C + V + END, (1, 2)),
+    ("facts of two variants that differ in the high byte", G + V + "43 01 01 00 " + END, (1, 2)),
+    ("a fact, and one that can't prove", G + C + "43 00 00 01 " + END, (1, 2)),
+    ("a fact, and an outsized one", G + C + "43 00 00 02 " + END, (1, 2)),
+    ("two outsized facts that can't prove", G + "43 00 00 03 " * 2 + END, (1, 2, 36)),
+    ("equal facts of two goals", G + C + G + C + END, (2, 2)),
+    ("equal facts of goal 3", G + C + G + G + C + V + G + C + C + END, (4, 5, 36)),
+    ("a, b, a", G + C + V + C + END, (1, 3, 36)),
+    ("a, b, b, a", G + C + V + V + C + END, (1, 4, 36)),
+    ("0 :- 0, 1 and 0 :- 1, 0", G + C + P + P1 + C + P1 + P + G + END, (2, 2)),
+    ("0 :- 0, 1 twice", G + C + P + P1 + C + P + P1 + G + END, (2, 2, 36)),
+    ("0 :- 0 and 0 :- 1", G + C + P + C + P1 + G + END, (2, 2)),
+    ("0 :- 0 and 0 :- not 0", G + C + P + C + N + END, (1, 2)),
+    ("0 :- not 0 twice", G + C + N + C + N + END, (1, 2, 36)),
+    ("0 :- not 0 and an outsized not 0", G + C + N + C + "4E 00 00 01 " + END, (1, 2)),
+    ("0 :- 0 and an outsized 0", G + C + P + C + "50 00 00 00 00 01 " + END, (1, 2)),
+    ("want 3 twice", G + (C + "50 00 00 03 00 00 ") * 2 + END, (1, 2, 36)),
+    ("want 3 and want 259", G + C + "50 00 00 03 00 00 " + C + "50 00 00 03 01 00 " + END, (1, 2)),
+    ("want 3, and the range 3 to 3", G + C + "50 00 00 03 00 00 " + C + "52 00 00 03 00 03 00 00 " + END, (1, 2)),
+    ("want 0, and the range 0 to 65535", G + C + P + C + "52 00 00 00 00 FF FF 00 " + END, (1, 2)),
+    ("want 0, and the range 0 to 0", G + C + P + C + "52 00 00 00 00 00 00 00 " + END, (1, 2)),
+    ("the range 3 to 7 twice", G + (C + R) * 2 + END, (1, 2, 36)),
+    ("the ranges 3 to 7 and 3 to 8", G + C + R + C + "52 00 00 03 00 08 00 00 " + END, (1, 2)),
+    ("the ranges 3 to 7 and 2 to 7", G + C + R + C + "52 00 00 02 00 07 00 00 " + END, (1, 2)),
+    ("a fact, and 0 :- 0", G + C + C + P + END, (1, 2)),
+    ("0 :- 0, and 0 :- 0, 0", G + C + P + C + P * 2 + END, (1, 2)),
+    ("clauses of 8 literals that differ in the last", G + C + P * 8 + C + P * 7 + N + END, (1, 2)),
+    ("clauses that differ by a literal behind the next goal", G + C + C + G + P + END, (2, 2)),
+    ("clauses that are equal by a literal behind the next goal", G + C + P + C + G + P + END, (2, 2, 36)),
+    ("256 equal facts", G + C * 256 + END, (1, 256, 36)),
+    ("1, not 36, two equal facts, and no end", G + C + C, 1),
+    ("2, not 36, two equal facts, and no command", G + C + C + "46 " + END, 2),
+    ("4, not 36, two equal facts, and bit 2 of a clause", G + C + C + "43 00 00 04 " + END, 4),
+    ("5, not 36, 257 equal facts", G + C * 257 + END, 5),
+    ("6, not 36, a literal that names no goal, twice", G + (C + P5) * 2 + END, 6),
+    ("7, not 36, two equal facts, and a byte after the end", G + C + C + END + " 00", 7),
+    ("32, not 36, two equal facts, and the range 4 to 3", G + C + C + C + X + END, 32),
 ]
 
 
@@ -184,7 +229,7 @@ BUFFER = 4096
 def said(expected):
     if isinstance(expected, int):
         return "refused %d" % expected
-    return "accepted, %d goals, %d clauses" % expected
+    return "accepted, %d goals, %d clauses" % expected[:2] + "".join(", desk %d" % number for number in expected[2:])
 
 
 def files():
