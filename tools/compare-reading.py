@@ -3,14 +3,16 @@
 
 tools/compare-reading.py [SEED [COUNT]]     default 1 300000
 
-The oracle makes COUNT books and says of each how it reads it. The same books go, in one list, through the program `reading_tests` and,
-each as the input of a process of its own, through `inspect`, whose first line is `refused N` or the line of goal 0. Both programs are
-taken from target/bin, so `rt check` comes first. Last, `inspect` is run where it can't read or can't write, and has to say so on standard
-error. Status 0 if all agree, and each number came up with one book in 300.
+The oracle makes COUNT books and says of each how it reads it, by the old entry and at the desk. The same books go, in one list, through
+the program `reading_tests`, which ends its line with `desk 36` where the desk alone refuses, and, each as the input of a process of its
+own, through `inspect`, whose first line is `refused N` or the line of goal 0, and whose last two lines say where a clause stands twice.
+Both programs are taken from target/bin, so `rt check` comes first. Last, `inspect` is run where it can't read or can't write, and has to
+say so on standard error. Status 0 if all agree, and each number came up with one book in 300.
 """
 import argparse
 import collections
 import os
+import re
 import subprocess
 import sys
 
@@ -21,11 +23,20 @@ def output(words, given):
     return subprocess.run(words, input=given, capture_output=True, check=True).stdout.decode()
 
 
+# What the desk says behind the words of a book, in the last two lines of inspect.
+TWICE = re.compile(r"desk refused 36\ngoal (\d+), clause (\d+): the same as clause (\d+)\n?$")
+
+
+def without_place(said):
+    """What the oracle says of a book, the place left out, which reading_tests does not tell."""
+    return said.split(" goal ")[0]
+
+
 def listed(books):
     """What reading_tests says of each, as the oracle would say it."""
     given = "".join(":%s\n" % book for book in books)
     said = output([tree.built("reading_tests")], given.encode()).splitlines()
-    return [line[2:].split(",")[0] for line in said]
+    return [re.sub(r",.*?(, desk (\d+))?$", lambda m: ", desk refused " + m[2] if m[2] else "", line[2:]) for line in said]
 
 
 def inspected(inspect, book):
@@ -37,12 +48,16 @@ def inspected(inspect, book):
         (os.POSIX_SPAWN_DUP2, given[0], 0), (os.POSIX_SPAWN_DUP2, out[1], 1), (os.POSIX_SPAWN_CLOSE, out[0])])
     os.close(given[0])
     os.close(out[1])
-    first = os.read(out[0], 4096).decode().split("\n")[0]
-    while os.read(out[0], 65536):
-        pass
+    said = b""
+    while some := os.read(out[0], 65536):
+        said += some
     os.close(out[0])
     os.waitpid(child, 0)
-    return "accepted" if first.startswith("goal 0") else first
+    text = said.decode()
+    if not text.startswith("goal 0"):
+        return text.split("\n")[0]
+    twice = TWICE.search(text)
+    return "accepted" + (", desk refused 36 goal %s clause %s as %s" % twice.groups() if twice else "")
 
 
 def failures(inspect):
@@ -79,13 +94,15 @@ def main():
     wanted = output([oracle, "read"], "\n".join(books + [""]).encode()).splitlines()
     if not books:
         sys.exit("compare-reading: no books to compare")
-    counts = collections.Counter(wanted)
+    counts = collections.Counter(map(without_place, wanted))
     for answer, number in sorted(counts.items()):
         print("%8d %s" % (number, answer))
-    rare = [n for n in (*range(1, 9), 32) if 300 * counts["refused %d" % n] < len(books)]
+    numbered = {n: counts["refused %d" % n] for n in (*range(1, 9), 32)}
+    numbered[36] = counts["accepted, desk refused 36"]
+    rare = [n for n in numbered if 300 * numbered[n] < len(books)]
     if rare:
         print("too few books are refused by: %s" % ", ".join(map(str, rare)))
-    right = report("reading_tests", books, wanted, listed(books))
+    right = report("reading_tests", books, list(map(without_place, wanted)), listed(books))
     right = report("inspect", books, wanted, [inspected(inspect, book) for book in books]) and right
     return 0 if failures(inspect) and right and not rare else 1
 
