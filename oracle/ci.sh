@@ -23,7 +23,7 @@ say "cases, sizes and the standard run"
     exit 1
 }
 grep -c '^ok ' "$work/check" | sed 's/$/ cases and sizes agree/'
-grep -e '^standard run' -e '^ranges' -e '^each of the numbers' "$work/check"
+grep -e '^standard run' -e '^ranges' -e '^entries' -e '^each of the numbers' "$work/check"
 
 say "every profile twice from one seed: the same script, the same output, no unexpected panic"
 for profile in mix plain tiny bytes answers small limits large; do
@@ -48,8 +48,9 @@ done
 say "damaged books"
 "$oracle" books 11 20000 >"$work/books"
 "$oracle" books 11 20000 | cmp - "$work/books"
-"$oracle" read <"$work/books" | sort | uniq -c | tee "$work/read"
+"$oracle" read <"$work/books" | sed 's/ goal .*//' | sort | uniq -c | tee "$work/read"
 grep -q ' refused 32$' "$work/read"
+grep -q ' accepted, desk refused 36$' "$work/read"
 
 say "demand 3"
 "$oracle" demand3 11 100000

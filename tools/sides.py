@@ -110,7 +110,8 @@ class Counts:
             here = []
             if result == b"made":
                 ranges = papers.ranges_in(book[0])
-                self.besides["ranges"] += ranges
+                # once, where both entries take it
+                self.besides["ranges"] += 0 if pair and before[3] == b"made" else ranges
                 here = ["at_desk" if way == b"desk" else "by_old"] + ["on_ranges"] * (ranges > 0)
                 here += ["on_equal"] * (pair and before[3] == b"refused 36")
             before = None if pair else (*book, way, result)

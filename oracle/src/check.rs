@@ -296,7 +296,7 @@ pub struct Counts {
     pub calls: u64,
     pub forests: u64,
     pub digest: u64,
-    /// Literals of the books made that are ranges.
+    /// Literals that are ranges, of the books whose forests the calls go to.
     pub ranges: u64,
     /// Calls on books with a range.
     pub on_ranges: u64,
@@ -330,7 +330,6 @@ pub fn counted_run(seed: u64, calls: u64, profile: Profile) -> Result<Counts, St
                 here = runner.book().map_or(0, Book::ranges);
                 equal = runner.book().is_some_and(|book| book.repeat().is_some());
                 desk = line.starts_with("desk");
-                counts.ranges += here;
             } else if runner.book().is_some() {
                 counts.on_ranges += u64::from(here > 0);
                 counts.on_equal += u64::from(equal);
@@ -348,6 +347,7 @@ pub fn counted_run(seed: u64, calls: u64, profile: Profile) -> Result<Counts, St
             *counts.words.entry(word).or_default() += 1;
             counts.digest = fnv1a(format!("{:016x}{out}", counts.digest).as_bytes());
         }
+        counts.ranges += here;
         counts.fit += ranges().fit - before.fit;
         counts.misfit += ranges().misfit - before.misfit;
     }
@@ -378,7 +378,7 @@ pub fn check(calls: u64, seed: u64) -> Result<(), String> {
     }
     println!();
     println!(
-        "ranges: {} literals of books that were made, {} calls on these books, {} answers fit one, {} did not\n",
+        "ranges: {} literals of the forests' books, {} calls on these books, {} answers fit one, {} did not\n",
         counts.ranges, counts.on_ranges, counts.fit, counts.misfit
     );
     println!(
