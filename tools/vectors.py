@@ -191,13 +191,13 @@ VECTORS = [
     ("equal facts of goal 3", G + C + G + G + C + V + G + C + C + END, (4, 5, 36)),
     ("a, b, a", G + C + V + C + END, (1, 3, 36)),
     ("a, b, b, a", G + C + V + V + C + END, (1, 4, 36)),
-    ("0 :- 0, 1 and 0 :- 1, 0", G + C + P + P1 + C + P1 + P + G + END, (2, 2)),
-    ("0 :- 0, 1 twice", G + C + P + P1 + C + P + P1 + G + END, (2, 2, 36)),
-    ("0 :- 0 and 0 :- 1", G + C + P + C + P1 + G + END, (2, 2)),
-    ("0 :- 0 and 0 :- not 0", G + C + P + C + N + END, (1, 2)),
-    ("0 :- not 0 twice", G + C + N + C + N + END, (1, 2, 36)),
-    ("0 :- not 0 and an outsized not 0", G + C + N + C + "4E 00 00 01 " + END, (1, 2)),
-    ("0 :- 0 and an outsized 0", G + C + P + C + "50 00 00 00 00 01 " + END, (1, 2)),
+    ("the literals 0, 1 and the literals 1, 0", G + C + P + P1 + C + P1 + P + G + END, (2, 2)),
+    ("the literals 0, 1 twice", G + C + P + P1 + C + P + P1 + G + END, (2, 2, 36)),
+    ("the literal 0 and the literal 1", G + C + P + C + P1 + G + END, (2, 2)),
+    ("the literal 0 and not 0", G + C + P + C + N + END, (1, 2)),
+    ("not 0 twice", G + C + N + C + N + END, (1, 2, 36)),
+    ("not 0, and an outsized not 0", G + C + N + C + "4E 00 00 01 " + END, (1, 2)),
+    ("the literal 0, and an outsized 0", G + C + P + C + "50 00 00 00 00 01 " + END, (1, 2)),
     ("want 3 twice", G + (C + "50 00 00 03 00 00 ") * 2 + END, (1, 2, 36)),
     ("want 3 and want 259", G + C + "50 00 00 03 00 00 " + C + "50 00 00 03 01 00 " + END, (1, 2)),
     ("want 3, and the range 3 to 3", G + C + "50 00 00 03 00 00 " + C + "52 00 00 03 00 03 00 00 " + END, (1, 2)),
@@ -206,8 +206,8 @@ VECTORS = [
     ("the range 3 to 7 twice", G + (C + R) * 2 + END, (1, 2, 36)),
     ("the ranges 3 to 7 and 3 to 8", G + C + R + C + "52 00 00 03 00 08 00 00 " + END, (1, 2)),
     ("the ranges 3 to 7 and 2 to 7", G + C + R + C + "52 00 00 02 00 07 00 00 " + END, (1, 2)),
-    ("a fact, and 0 :- 0", G + C + C + P + END, (1, 2)),
-    ("0 :- 0, and 0 :- 0, 0", G + C + P + C + P * 2 + END, (1, 2)),
+    ("a fact, and a clause with the literal 0", G + C + C + P + END, (1, 2)),
+    ("the literal 0, and the literals 0, 0", G + C + P + C + P * 2 + END, (1, 2)),
     ("clauses of 8 literals that differ in the last", G + C + P * 8 + C + P * 7 + N + END, (1, 2)),
     ("clauses that differ by a literal behind the next goal", G + C + C + G + P + END, (2, 2)),
     ("clauses that are equal by a literal behind the next goal", G + C + P + C + G + P + END, (2, 2, 36)),
@@ -241,6 +241,7 @@ def files():
         with open(os.path.join(tree.ROOT, "papers", name + ".book"), "rb") as f:
             out["data/%s.book" % name] = f.read()
     for label, text, expected in VECTORS:
+        assert ":" not in label, "a label ends at its colon: " + label
         given += "%s: %s\n" % (label, text)
         wanted += "%s: %s\n" % (label, said(expected))
     assert len(wanted) > BUFFER, "the output fits the buffer: more lines are needed"
