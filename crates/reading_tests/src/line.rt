@@ -1,5 +1,5 @@
 // A line of the list, character by character.
-use book::Reading;
+use book::desk::Looked;
 
 // What is known of the line so far: whether its label is over, the high half of a byte (16: none), how many characters of a name or
 // bytes of a book are there, and how much of the output's buffer is in use. `over` is set at the end of the input.
@@ -107,7 +107,15 @@ fn counted(out: &mut [u8], at: usize, n: usize, words: &[u8]) -> usize {
 fn accepted(out: &mut [u8], at: usize, goals: usize, clauses: usize) -> usize {
     let word = pen::text(out, at, b": accepted");
     let first = counted(out, word, goals, b" goals");
-    counted(out, first, clauses, b" clauses\n")
+    counted(out, first, clauses, b" clauses")
+}
+
+// What the desk says to a book that the old entry takes.
+fn at_desk(out: &mut [u8], at: usize, twice: bool) -> usize {
+    if twice {
+        return pen::text(out, at, b", desk 36\n");
+    }
+    pen::byte(out, at, b'\n')
 }
 
 fn refused(out: &mut [u8], at: usize, number: u8) -> usize {
@@ -116,10 +124,13 @@ fn refused(out: &mut [u8], at: usize, number: u8) -> usize {
     pen::byte(out, named, b'\n')
 }
 
-fn answer(out: &mut [u8], at: usize, reading: Reading) -> usize {
+fn answer(out: &mut [u8], at: usize, looked: Looked) -> usize {
+    let twice = looked.repeat.found;
+    let reading = looked.reading;
     if reading.number == 0 {
         let book = reading.book;
-        return accepted(out, at, book.goals, book.clauses);
+        let words = accepted(out, at, book.goals, book.clauses);
+        return at_desk(out, words, twice);
     }
     refused(out, at, reading.number)
 }
@@ -131,7 +142,7 @@ fn unreadable(out: &mut [u8], at: usize) -> usize {
 fn vector(out: &mut [u8], bytes: &[u8], line: Line) -> Line {
     let len = line.len;
     if len <= bytes.len() {
-        return next(answer(out, line.at, book::read(&bytes[..len])));
+        return next(answer(out, line.at, book::desk::look(&bytes[..len])));
     }
     next(unreadable(out, line.at))
 }
@@ -150,7 +161,7 @@ fn file(out: &mut [u8], bytes: &mut [u8], line: Line) -> Line {
     }
     let n = io::read_full(fd, bytes);
     libc::close(fd);
-    next(answer(out, line.at, book::read(&bytes[..n])))
+    next(answer(out, line.at, book::desk::look(&bytes[..n])))
 }
 
 fn label(out: &mut [u8], bytes: &mut [u8], line: Line, c: u8) -> Line {

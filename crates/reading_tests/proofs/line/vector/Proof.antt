@@ -6,13 +6,13 @@ use borrow.Author.Needs.{needs}
 use Rattle.reading_tests.proofs.line.vector.Statement.{statement}
 use Rattle.reading_tests.proofs.line.vector.Tie as tie
 
-slice-aggregate-read : tie.Need-slice-aggregate-read
-slice-aggregate-read c =
+slice-aggregate-look : tie.Need-slice-aggregate-look
+slice-aggregate-look c =
     sym (length-take-le (c .before .before .before .before .before .args .line .len)
     (c .before .before .before .before .before .args .bytes .now) (omega arith))
 
-read-requires : tie.Need-read-requires
-read-requires c κs = search needs
+look-requires : tie.Need-look-requires
+look-requires c κs = search needs
 
 answer-requires : tie.Need-answer-requires
 answer-requires c κs = search needs
@@ -42,8 +42,8 @@ pub vector-spec : {M : Type 1} → statement M
 vector-spec =
     tie.close
     (tie.spec
-    slice-aggregate-read
-    read-requires
+    slice-aggregate-look
+    look-requires
     answer-requires
     next-requires
     same-length
