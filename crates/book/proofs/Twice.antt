@@ -11,7 +11,7 @@ use lib.Seq.{getD-set-same, getD-set-other}
 use lib.Dec.{eqb, ltb}
 use borrow.Author.Tests.{eq-eqb, ne-eqb, eqb-true, eqb-false, ltb-true, ltb-false}
 use Rattle.laws.specs.Spans.{span}
-use Rattle.laws.proofs.Spans.{length-span, span-snoc}
+use Rattle.laws.proofs.Spans.{length-span, span-snoc, span-left, span-done}
 use Rattle.definitions.specs.Book as said
 use Rattle.definitions.specs.Book.{Clause, Goal, want-of, bit0, bit1, flag}
 use Rattle.definitions.specs.Desk as desks
@@ -111,28 +111,16 @@ module _ (f h : ℕ → said.Literal) where
       at true b x = x
       at false b x = refl
 
--- the first of a span that is left, and the others
-span-next : {A : Type 0} (f : ℕ → A) (j n : ℕ) → j < n → span f j (n - j) ≡ f j ∷ span f (j + 1) (n - (j + 1))
-span-next {A} f j n h =
-    let e : n - j ≡ suc (n - (j + 1)) = omega arith in
-    let i : suc j ≡ j + 1 = omega arith in
-    ap (λ (k : ℕ). span f j k) e ∙ ap (λ (k : ℕ). f j ∷ span f k (n - (j + 1))) i
-
-span-over : {A : Type 0} (f : ℕ → A) (j n : ℕ) → n ≤ j → span f j (n - j) ≡ []
-span-over {A} f j n h =
-    let e : n - j ≡ 0 = omega arith in
-    ap (λ (k : ℕ). span f j k) e
-
 module _ (f h : ℕ → said.Literal) (j n : ℕ) (X : Bool) (left : same-literals (span f j (n - j)) (span h j (n - j)) ≡ X) where
   literals-again : j < n → same-literal (f j) (h j) ≡ true
       → same-literals (span f (j + 1) (n - (j + 1))) (span h (j + 1) (n - (j + 1))) ≡ X
-  literals-again lt e = rw (span-next f j n lt, span-next h j n lt, e) at left
+  literals-again lt e = rw (span-left f j n j lt, span-left h j n j lt, e) at left
 
   literals-differ : j < n → same-literal (f j) (h j) ≡ false → false ≡ X
-  literals-differ lt e = rw (span-next f j n lt, span-next h j n lt, e) at left
+  literals-differ lt e = rw (span-left f j n j lt, span-left h j n j lt, e) at left
 
   literals-same : n ≤ j → true ≡ X
-  literals-same ge = rw (span-over f j n ge, span-over h j n ge) at left
+  literals-same ge = rw (span-done f j n j ge, span-done h j n j ge) at left
 
 -- the literals of two clauses that are read
 module _ (len kind goal want : List ℕ) (c d : ℕ) where
@@ -250,10 +238,10 @@ literal-mixed key w k n r l a b c d = d ∙ ap (mix k) c ∙ ap (λ (x : ℕ). m
 
 module _ (f : ℕ → said.Literal) (key j n X : ℕ) (left : literals-key key (span f j (n - j)) ≡ X) where
   key-again : (k : ℕ) → j < n → k ≡ mix-literal key (f j) → literals-key k (span f (j + 1) (n - (j + 1))) ≡ X
-  key-again k lt e = ap (λ (x : ℕ). literals-key x (span f (j + 1) (n - (j + 1)))) e ∙ (rw (span-next f j n lt) at left)
+  key-again k lt e = ap (λ (x : ℕ). literals-key x (span f (j + 1) (n - (j + 1)))) e ∙ (rw (span-left f j n j lt) at left)
 
   key-whole : n ≤ j → key ≡ X
-  key-whole ge = rw (span-over f j n ge) at left
+  key-whole ge = rw (span-done f j n j ge) at left
 
 -- the key of a clause that is read
 module _ (variants flags len kind goal want : List ℕ) (c : ℕ) where
@@ -409,11 +397,10 @@ behind-begins clause g first n =
 
 module _ (clause : ℕ → Clause) (g first k n : ℕ) (X : Option desks.Repeat)
     (left : repeat-behind g (span clause first k) (span clause (first + k) (n - k)) ≡ X) (lt : k < n) where
-  span-left : span clause (first + k) (n - k) ≡ clause (first + k) ∷ span clause (first + (k + 1)) (n - (k + 1))
-  span-left =
-      let e : n - k ≡ suc (n - (k + 1)) = omega arith in
-      let i : suc (first + k) ≡ first + (k + 1) = omega arith in
-      ap (λ (m : ℕ). span clause (first + k) m) e ∙ ap (λ (m : ℕ). clause (first + k) ∷ span clause m (n - (k + 1))) i
+  clauses-left : span clause (first + k) (n - k) ≡ clause (first + k) ∷ span clause (first + (k + 1)) (n - (k + 1))
+  clauses-left =
+      let i : first + k + 1 ≡ first + (k + 1) = omega arith in
+      span-left clause (first + k) n k lt ∙ ap (λ (m : ℕ). clause (first + k) ∷ span clause m (n - (k + 1))) i
 
   module _ (r : ℕ) (x : Earlier clause first (first + k) r) where
     pub behind-again : first + k ≤ r → repeat-behind g (span clause first (k + 1)) (span clause (first + (k + 1)) (n - (k + 1))) ≡ X
@@ -425,7 +412,7 @@ module _ (clause : ℕ → Clause) (g first k n : ℕ) (X : Option desks.Repeat)
         let pushed : push (span clause first k) (clause (first + k)) ≡ span clause first (k + 1) =
         sym (span-snoc clause first k) ∙ ap (λ (m : ℕ). span clause first m) i in
         ap (λ (before : List Clause). repeat-behind g before (span clause (first + (k + 1)) (n - (k + 1)))) (sym pushed)
-        ∙ (rw (span-left, repeat-behind, missed) at left)
+        ∙ (rw (clauses-left, repeat-behind, missed) at left)
 
     pub behind-found : r < first + k → some (record { goal = g; clause = k; earlier = r - first }) ≡ X
     behind-found here =
@@ -436,13 +423,11 @@ module _ (clause : ℕ → Clause) (g first k n : ℕ) (X : Option desks.Repeat)
         (λ i a b. x .none-before i a (omega arith))
         (subst (λ (i : ℕ). same-clause (clause (first + k)) (clause i) ≡ true) (sym z) (x .found here)) in
         let counted : length (span clause first k) ≡ k = length-span clause first k in
-        rw (span-left, repeat-behind, found, counted) at left
+        rw (clauses-left, repeat-behind, found, counted) at left
 
 pub behind-over : (clause : ℕ → Clause) (g first k n : ℕ) (X : Option desks.Repeat)
     → repeat-behind g (span clause first k) (span clause (first + k) (n - k)) ≡ X → n ≤ k → none ≡ X
-behind-over clause g first k n X left ge =
-    let e : n - k ≡ 0 = omega arith in
-    rw e at left
+behind-over clause g first k n X left ge = rw (span-done clause (first + k) n k ge) at left
 
 -- All goals.
 
@@ -450,10 +435,10 @@ module _ (goal : ℕ → Goal) (g n : ℕ) (X : Option desks.Repeat) (left : rep
   pub from-again : g < n → repeat-behind g [] (goal g .clauses) ≡ none → repeat-from (g + 1) (span goal (g + 1) (n - (g + 1))) ≡ X
   from-again lt e =
       let i : suc g ≡ g + 1 = omega arith in
-      ap (λ (m : ℕ). repeat-from m (span goal (g + 1) (n - (g + 1)))) (sym i) ∙ (rw (span-next goal g n lt, repeat-from, e) at left)
+      ap (λ (m : ℕ). repeat-from m (span goal (g + 1) (n - (g + 1)))) (sym i) ∙ (rw (span-left goal g n g lt, repeat-from, e) at left)
 
   pub from-found : (r : desks.Repeat) → g < n → repeat-behind g [] (goal g .clauses) ≡ some r → some r ≡ X
-  from-found r lt e = rw (span-next goal g n lt, repeat-from, e) at left
+  from-found r lt e = rw (span-left goal g n g lt, repeat-from, e) at left
 
   pub from-over : n ≤ g → none ≡ X
-  from-over ge = rw (span-over goal g n ge) at left
+  from-over ge = rw (span-done goal g n g ge) at left

@@ -2,31 +2,31 @@
 -- each turn. Assumes nothing.
 use Prim.Native.Nat.{ℕ, suc, _+_, _-_, _*_, _<_, _≤_}
 use native.Mathlib.Omega.{arith}
-use mathlib.Core.Bool.{Bool}
-use mathlib.Core.Path.{_≡_, sym, ap, _∙_}
+use mathlib.Core.Bool.{Bool, true, false, not, true≢false}
+use mathlib.Core.Option.{Option}
+use mathlib.Core.Path.{_≡_, refl, sym, ap, _∙_}
 use mathlib.Core.List.{List, [], _∷_, _++_}
 use lib.ListN.{getD}
 use borrow.Author.Tests.{eq-eqb, ne-eqb}
 use Rattle.definitions.specs.Ascii.{ascii}
+use Rattle.definitions.specs.Listing.{decimal}
+use Rattle.definitions.specs.Desk as Repeats
 use Rattle.definitions.specs.Refusal.{Refusable}
 use Rattle.definitions.specs.Book as Said
 use Rattle.definitions.specs.Book.{Literal, Clause, Goal, bit0, bit1}
 use Rattle.pen.specs.Pen.{Pen, put, put-all}
 use Rattle.laws.specs.Spans.{span}
+use Rattle.laws.proofs.Spans.{span-left, span-done}
 use Rattle.pen.proofs.Putting.{put-two, put-one, put-nothing, put-all-append}
 use Rattle.book.specs.declared.Book.{Book}
 use Rattle.book.specs.declared.Reading.{Reading}
+use Rattle.book.specs.declared.Repeat.{Repeat}
+use Rattle.book.specs.declared.Looked.{Looked}
+use Rattle.book.specs.Repeats.{repeat-seen, repeat-of, Looks}
 use Rattle.book.specs.View.{Sound, clause-made, view, seen, seen-by}
 use Rattle.book.proofs.Held.{goal-within}
 use Rattle.inspect.specs.Words.{before, literal-words, body-words, head-words, clause-words, clauses-words, goal-line, goal-words}
-use Rattle.inspect.specs.Words.{goals-words, refusal-words, reading-words}
-
--- one place less
-one-less : (n k : ℕ) → k < n → n - k ≡ suc (n - (k + 1))
-one-less n k h = omega arith
-
-none-left : (n k : ℕ) → n ≤ k → n - k ≡ 0
-none-left n k h = omega arith
+use Rattle.inspect.specs.Words.{goals-words, refusal-words, book-words, desk-words, reading-words}
 
 module _ {A : Type 0} (f : ℕ → A) where
   -- f from a place on, k places in, of n
@@ -34,14 +34,13 @@ module _ {A : Type 0} (f : ℕ → A) where
   from s n k = span f (s + k) (n - k)
 
   from-next : (s n k : ℕ) → k < n → from s n k ≡ f (s + k) ∷ from s n (k + 1)
-  from-next s n k h =
-      ap (span f (s + k)) (one-less n k h) ∙ ap (λ (t : ℕ). f (s + k) ∷ span f t (n - (k + 1))) (next-place s k)
+  from-next s n k h = span-left f (s + k) n k h ∙ ap (λ (t : ℕ). f (s + k) ∷ span f t (n - (k + 1))) (next-place s k)
     where
-      next-place : (s k : ℕ) → suc (s + k) ≡ s + (k + 1)
+      next-place : (s k : ℕ) → s + k + 1 ≡ s + (k + 1)
       next-place s k = omega arith
 
   from-end : (s n k : ℕ) → n ≤ k → from s n k ≡ []
-  from-end s n k h = ap (span f (s + k)) (none-left n k h)
+  from-end s n k h = span-done f (s + k) n k h
 
   from-start : (s n : ℕ) → from s n 0 ≡ span f s n
   from-start s n = ap (λ (t : ℕ). span f t (n - 0)) (start s) ∙ ap (span f s) (whole n)
@@ -182,13 +181,41 @@ clauses-in b g s h = omega (arith, goal-within b (b .goals) g (s .tiles) h, s .f
 -- What reading gave.
 
 pub accepted-said : (r : Reading) (p q : Pen) → r .number ≡ 0 → q ≡ put-all (goals-words 0 (view (r .book))) p
-    → q ≡ put-all (reading-words (seen r)) p
-accepted-said r p q e f = f ∙ ap (λ (b : Bool). put-all (reading-words (seen-by b r)) p) (sym (eq-eqb (r .number) 0 e))
+    → q ≡ put-all (book-words (seen r)) p
+accepted-said r p q e f = f ∙ ap (λ (b : Bool). put-all (book-words (seen-by b r)) p) (sym (eq-eqb (r .number) 0 e))
 
 pub refused-said : (r : Reading) (p q : Pen) → (r .number ≡ 0 → ⊥) → q ≡ put-all (refusal-words (r .number)) p
-    → q ≡ put-all (reading-words (seen r)) p
-refused-said r p q e f = f ∙ ap (λ (b : Bool). put-all (reading-words (seen-by b r)) p) (sym (ne-eqb (r .number) 0 e))
+    → q ≡ put-all (book-words (seen r)) p
+refused-said r p q e f = f ∙ ap (λ (b : Bool). put-all (book-words (seen-by b r)) p) (sym (ne-eqb (r .number) 0 e))
 
-pub read-said : (r : Reading) (b : Refusable Said.Book) (p q : Pen) → seen r ≡ b → q ≡ put-all (reading-words (seen r)) p
-    → q ≡ put-all (reading-words b) p
-read-said r b p q e f = f ∙ ap (λ (x : Refusable Said.Book). put-all (reading-words x) p) e
+-- What the desk says to it.
+
+pub no-repeat-said : (r : Repeat) (p : Pen) → not (r .found) ≡ true → p ≡ put-all (desk-words (repeat-seen r)) p
+unfolding desk-words
+no-repeat-said r p e = on (r .found) refl
+  where
+    on : (b : Bool) → r .found ≡ b → p ≡ put-all (desk-words (repeat-seen r)) p
+    on true f = absurd (true≢false (sym e ∙ ap not f))
+    on false f = rw f (sym (put-nothing p))
+
+pub repeat-said : (r : Repeat) (p q s t u : Pen) → not (r .found) ≡ false
+    → q ≡ put-all (ascii "desk refused 36\ngoal " ++ decimal (r .goal)) p → s ≡ put-all (ascii ", clause " ++ decimal (r .clause)) q
+    → t ≡ put-all (ascii ": the same as clause " ++ decimal (r .earlier)) s → u ≡ put-all (ascii "\n") t
+    → u ≡ put-all (desk-words (repeat-seen r)) p
+unfolding desk-words
+repeat-said r p q s t u e a b c d = on (r .found) refl
+  where
+    on : (y : Bool) → r .found ≡ y → u ≡ put-all (desk-words (repeat-seen r)) p
+    on false k = absurd (true≢false (sym (ap not k) ∙ e))
+    on true k =
+        rw k
+        (put-two (ascii "desk refused 36\ngoal " ++ decimal (r .goal)) _ p q u a
+        (put-two (ascii ", clause " ++ decimal (r .clause)) _ q s u b
+        (put-two (ascii ": the same as clause " ++ decimal (r .earlier)) (ascii "\n") s t u c d)))
+
+pub paper-said : (bytes : List ℕ) (l : Looked) (p q s : Pen) → Looks bytes l → q ≡ put-all (book-words (seen (l .reading))) p
+    → s ≡ put-all (desk-words (repeat-seen (l .repeat))) q → s ≡ put-all (reading-words (Said.read bytes)) p
+paper-said bytes l p q s x e f =
+    put-two (book-words (Said.read bytes)) (desk-words (repeat-of (Said.read bytes))) p q s
+    (e ∙ ap (λ (b : Refusable Said.Book). put-all (book-words b) p) (x .reads .means))
+    (f ∙ ap (λ (o : Option Repeats.Repeat). put-all (desk-words o) q) (x .repeats))

@@ -1,12 +1,15 @@
--- What `inspect` prints: a book in words, in the notation of document 01, or a refusal with its sentence.
+-- What `inspect` prints: a book in words, in the notation of document 01, and what the desk says to it; or a refusal with its sentence.
 use Prim.Native.Nat.{ℕ, zero, suc}
 use mathlib.Core.Bool.{Bool, true, false}
+use mathlib.Core.Option.{Option, none, some}
 use mathlib.Core.List.{List, [], _∷_, _++_}
 use lib.Dec.{eqb}
 use Rattle.definitions.specs.Ascii.{ascii}
 use Rattle.definitions.specs.Listing.{decimal}
 use Rattle.definitions.specs.Refusal.{Refusable, refused, accepted}
 use Rattle.definitions.specs.Book.{Want, any, exactly, between, Literal, Positive, Negative, Clause, Goal, Book}
+use Rattle.definitions.specs.Desk.{Repeat}
+use Rattle.book.specs.Repeats.{repeat-of}
 
 -- words that stand there only where a flag is set
 abbrev pub mark : Bool → List ℕ → List ℕ
@@ -97,7 +100,20 @@ sentence n = sentence-in sentences n
 unfoldable pub refusal-words : ℕ → List ℕ
 refusal-words n = ascii "refused " ++ (decimal n ++ (ascii "\n" ++ sentence n))
 
--- THE WORDS of what reading gave
+-- what reading gave
+abbrev pub book-words : Refusable Book → List ℕ
+book-words (refused n) = refusal-words n
+book-words (accepted book) = goals-words 0 book
+
+-- behind a book that the desk turns down: its number, and the clause that stands there for the second time
+unfoldable pub desk-words : Option Repeat → List ℕ
+desk-words none = []
+desk-words (some r) =
+    (ascii "desk refused 36\ngoal " ++ decimal (r .goal))
+    ++ ((ascii ", clause " ++ decimal (r .clause))
+    ++ ((ascii ": the same as clause " ++ decimal (r .earlier))
+    ++ ascii "\n"))
+
+-- THE WORDS of a paper: what the old entry reads, and whether the desk turns that down
 abbrev pub reading-words : Refusable Book → List ℕ
-reading-words (refused n) = refusal-words n
-reading-words (accepted book) = goals-words 0 book
+reading-words r = book-words r ++ desk-words (repeat-of r)

@@ -7,19 +7,24 @@
 //
 // A clause is the goal's number, its variant behind a slash (none is variant 0, the goal as a whole), its marks, and its literals behind
 // `:-`; a fact has none. A literal is a goal's number, behind a slash the variant that it wants (none: any) or the ends of a range, and
-// its mark.
+// its mark. Behind a book that the desk turns down, since a goal has the same clause twice, stand its number and the clause's place:
+//
+//     desk refused 36
+//     goal 1, clause 2: the same as clause 0
 use book::Book;
 use book::Reading;
+use book::Repeat;
 use book::access::high_end;
 use book::access::low_end;
 ghost use mathlib.Core.Path.{_≡_};
 ghost use Prim.Native.Nat.{_<_, _/_, _%_};
 ghost use Rattle.definitions.specs.Book.{bit0 as bit0Of, bit1 as bit1Of, read as readBook};
 ghost use Rattle.pen.specs.Pen.{pen, put-all};
+ghost use Rattle.book.specs.Repeats.{repeat-seen};
 ghost use Rattle.book.specs.View.{Sound, wanted, bit2 as bit2Of, kept, clause-viewed, goal-viewed, view, seen};
 ghost use Rattle.inspect.specs.Words.{mark as markOf, slashed as slashedOf, ranged as rangedOf, want-words, name-words, literal-words, before, head-words};
 ghost use Rattle.inspect.specs.Words.{clause-words, clauses-words, goal-line as goalLine, goal-words, goals-words};
-ghost use Rattle.inspect.specs.Words.{sentence as sentenceOf, refusal-words, reading-words};
+ghost use Rattle.inspect.specs.Words.{sentence as sentenceOf, refusal-words, book-words, desk-words, reading-words};
 
 fn wide(n: u16) -> usize
     ensures { λ r. ⌜ (r ≡ n) × (r < 65536) ⌝ }
@@ -243,7 +248,7 @@ fn refusal(out: &mut [u8], at: usize, number: u8) -> usize
 // What reading gave, in words, from the start of the buffer on.
 fn reading(out: &mut [u8], r: Reading) -> usize
     requires { ⌜ (r .number ≡ 0 → Sound (r .book)) ⌝ }
-    ensures { λ n. ⌜ pen (now (out .exit)) n ≡ put-all (reading-words (seen r)) (pen (now (out .entry)) 0) ⌝ }
+    ensures { λ n. ⌜ pen (now (out .exit)) n ≡ put-all (book-words (seen r)) (pen (now (out .entry)) 0) ⌝ }
 {
     if r.number == 0 {
         let book = r.book;
@@ -252,9 +257,26 @@ fn reading(out: &mut [u8], r: Reading) -> usize
     refusal(out, 0, r.number)
 }
 
-// What a byte string says as a book, in words, put down from the start of the buffer on.
+// Where a clause stands for the second time, so that the desk turns the book down.
+fn at_desk(out: &mut [u8], at: usize, r: Repeat) -> usize
+    ensures { λ n. ⌜ pen (now (out .exit)) n ≡ put-all (desk-words (repeat-seen r)) (pen (now (out .entry)) at) ⌝ }
+{
+    if !r.found {
+        return at;
+    }
+    let goal = pen::counted(out, at, b"desk refused 36\ngoal ", r.goal as u64);
+    let clause = pen::counted(out, goal, b", clause ", r.clause as u64);
+    let earlier = pen::counted(out, clause, b": the same as clause ", r.earlier as u64);
+    pen::text(out, earlier, b"\n")
+}
+
+// What a byte string says as a book, in words, and what the desk says to it, put down from the start of the buffer on.
 pub(crate) fn say(out: &mut [u8], bytes: &[u8]) -> usize
     ensures { λ r. ⌜ pen (now (out .exit)) r ≡ put-all (reading-words (readBook (now (bytes .entry)))) (pen (now (out .entry)) 0) ⌝ }
 {
-    reading(out, book::read(bytes))
+    let l = book::desk::look(bytes);
+    let r = l.reading;
+    let repeat = l.repeat;
+    let read = reading(out, r);
+    at_desk(out, read, repeat)
 }

@@ -1,5 +1,5 @@
 -- Laws of `span`: f at n places from s on.
-use Prim.Native.Nat.{ℕ, zero, suc, _+_, _≤_, _<_}
+use Prim.Native.Nat.{ℕ, zero, suc, _+_, _-_, _≤_, _<_}
 use native.Mathlib.Omega.{arith}
 use mathlib.Core.Path.{_≡_, refl, sym, ap, ap₂, subst, _∙_}
 use mathlib.Core.List.{List, [], _∷_, _++_, map}
@@ -40,6 +40,16 @@ module _ {A : Type 0} where
   take-span f s (suc m) zero h = refl
   take-span f s zero (suc n) h = absurd (omega arith)
   take-span f s (suc m) (suc n) h = ap (λ (l : List A). f s ∷ l) (take-span f (suc s) m n (omega arith))
+
+  -- what is left of n places when k are done, the next of them at i
+  pub span-left : (f : ℕ → A) (i n k : ℕ) → k < n → span f i (n - k) ≡ f i ∷ span f (i + 1) (n - (k + 1))
+  span-left f i n k h =
+      let e : n - k ≡ suc (n - (k + 1)) = omega arith in
+      let j : suc i ≡ i + 1 = omega arith in
+      ap (span f i) e ∙ ap (λ (m : ℕ). f i ∷ span f m (n - (k + 1))) j
+
+  pub span-done : (f : ℕ → A) (i n k : ℕ) → n ≤ k → span f i (n - k) ≡ []
+  span-done f i n k h = let e : n - k ≡ 0 = omega arith in ap (span f i) e
 
   -- two spans that agree place by place
   pub span-moved : (f g : ℕ → A) (s r n : ℕ) → ((j : ℕ) → j < n → f (s + j) ≡ g (r + j)) → span f s n ≡ span g r n

@@ -1,27 +1,17 @@
 // A line of the listing (document 01): the goal, the index at which the peek ended, the word of its outcome, and behind yes and maybe the
 // variant, behind stop the number; one space apart. It is written from the numbers of a reply (crate `batch`, calls.rt).
 ghost use mathlib.Core.Path.{_≡_};
-ghost use mathlib.Core.List.{_++_};
-ghost use Rattle.definitions.specs.Listing.{decimal};
 ghost use Rattle.pen.specs.Pen.{pen, put-all};
 ghost use Rattle.listing.specs.Lines.{words-of, spaced, reply-line, refusal-line};
-
-// A word, and the number behind it.
-fn counted(out: &mut [u8], at: usize, word: &[u8], value: u64) -> usize
-    ensures { λ r. ⌜ pen (now (out .exit)) r ≡ put-all (now (word .entry) ++ decimal value) (pen (now (out .entry)) at) ⌝ }
-{
-    let worded = pen::text(out, at, word);
-    pen::number(out, worded, value)
-}
 
 // What is no word of a peek is not said: a call that is refused has none, and none of those that are listed is.
 fn words(out: &mut [u8], at: usize, word: u64, value: u64) -> usize
     ensures { λ r. ⌜ pen (now (out .exit)) r ≡ put-all (words-of word value) (pen (now (out .entry)) at) ⌝ }
 {
     match word {
-        2 => counted(out, at, b"stop ", value),
-        3 => counted(out, at, b"yes ", value),
-        4 => counted(out, at, b"maybe ", value),
+        2 => pen::counted(out, at, b"stop ", value),
+        3 => pen::counted(out, at, b"yes ", value),
+        4 => pen::counted(out, at, b"maybe ", value),
         5 => pen::text(out, at, b"none"),
         6 => pen::text(out, at, b"floundered"),
         7 => pen::text(out, at, b"again"),
@@ -53,6 +43,6 @@ pub(crate) fn line(out: &mut [u8], at: usize, goal: u64, index: u64, word: u64, 
 pub(crate) fn refusal(out: &mut [u8], at: usize, number: u8) -> usize
     ensures { λ r. ⌜ pen (now (out .exit)) r ≡ put-all (refusal-line number) (pen (now (out .entry)) at) ⌝ }
 {
-    let worded = counted(out, at, b"refused ", number as u64);
+    let worded = pen::counted(out, at, b"refused ", number as u64);
     pen::text(out, worded, b"\n")
 }

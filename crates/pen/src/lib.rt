@@ -9,6 +9,7 @@
 // its buffer holds, so that `byte` has to write it out, and the last words of every program come by `flush`.
 ghost use mathlib.Core.Path.{_≡_};
 ghost use mathlib.Core.Bool.{false};
+ghost use mathlib.Core.List.{_++_};
 ghost use Prim.Native.Nat.{_<_};
 ghost use lib.ListN.{length};
 ghost use Rattle.definitions.specs.Listing.{decimal as decimalOf};
@@ -58,4 +59,12 @@ pub fn number(out: &mut [u8], at: usize, n: u64) -> usize
     let mut digits = [0u8; 20];
     let k = io::decimal(n, &mut digits);
     text(out, at, &digits[..k])
+}
+
+// A word, and the number behind it.
+pub fn counted(out: &mut [u8], at: usize, word: &[u8], n: u64) -> usize
+    ensures { λ r. ⌜ pen (now (out .exit)) r ≡ put-all (now (word .entry) ++ decimalOf n) (pen (now (out .entry)) at) ⌝ }
+{
+    let worded = text(out, at, word);
+    number(out, worded, n)
 }

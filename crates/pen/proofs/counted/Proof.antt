@@ -1,8 +1,8 @@
 -- `counted`: the word, then the number.
 use Rattle.pen.proofs.Putting.{put-two}
 use borrow.Author.Needs.{needs}
-use Rattle.listing.proofs.lines.counted.Statement.{statement}
-use Rattle.listing.proofs.lines.counted.Tie as tie
+use Rattle.pen.proofs.counted.Statement.{statement}
+use Rattle.pen.proofs.counted.Tie as tie
 
 text-requires : tie.Need-text-requires
 text-requires c κs = search needs

@@ -1,0 +1,54 @@
+-- `at_desk`: nothing where there is no repeat, else four texts one after the other.
+use Rattle.inspect.proofs.Lines.{no-repeat-said, repeat-said}
+use borrow.Author.Needs.{needs}
+use Rattle.inspect.proofs.words.at_desk.Statement.{statement}
+use Rattle.inspect.proofs.words.at_desk.Tie as tie
+
+returns : tie.Need-returns
+returns c = search no-repeat-said
+
+slice-aggregate-counted : tie.Need-slice-aggregate-counted
+slice-aggregate-counted c = search needs
+
+counted-requires : tie.Need-counted-requires
+counted-requires c κs = search needs
+
+slice-aggregate-counted-2 : tie.Need-slice-aggregate-counted-2
+slice-aggregate-counted-2 c = search needs
+
+counted-requires-2 : tie.Need-counted-requires-2
+counted-requires-2 c κs = search needs
+
+slice-aggregate-counted-3 : tie.Need-slice-aggregate-counted-3
+slice-aggregate-counted-3 c = search needs
+
+counted-requires-3 : tie.Need-counted-requires-3
+counted-requires-3 c κs = search needs
+
+slice-aggregate-text : tie.Need-slice-aggregate-text
+slice-aggregate-text c = search needs
+
+text-requires : tie.Need-text-requires
+text-requires c κs = search needs
+
+same-length : tie.Need-same-length
+same-length c = search needs
+
+returns-2 : tie.Need-returns-2
+returns-2 c = search repeat-said
+
+pub at-desk-spec : {M : Type 1} → statement M
+at-desk-spec =
+    tie.close
+    (tie.spec
+    returns
+    slice-aggregate-counted
+    counted-requires
+    slice-aggregate-counted-2
+    counted-requires-2
+    slice-aggregate-counted-3
+    counted-requires-3
+    slice-aggregate-text
+    text-requires
+    same-length
+    returns-2)
