@@ -35,7 +35,14 @@ same-length : tie.Need-same-length
 same-length c = search needs
 
 returns-2 : tie.Need-returns-2
-returns-2 c = search repeat-said
+returns-2 c =
+    let t = c .before .before in
+    let third = t .before .before .before .before .before in
+    let second = third .before .before .before .before .before in
+    let first = second .before .before .before .before .before in
+    let left = first .before .before .before in
+    repeat-said (left .before .before .before .args .r) _ _ _ _ _ (left .if1 .left) (first .counted .ensures) (second .counted2 .ensures)
+    (third .counted3 .ensures) (t .text .ensures)
 
 pub at-desk-spec : {M : Type 1} → statement M
 at-desk-spec =
