@@ -105,11 +105,12 @@ goal-said goal flags a b p q r s t u e f g h i j k =
     (put-two (decimal goal) _ q r u h
     (put-two (mark a (ascii " [coinductive]")) _ r s u i (put-two (mark b (ascii " [floundered]")) (ascii "\n") s t u j k))))
 
-pub refusal-said : (n : ℕ) (p q r s t : Pen) → q ≡ put-all (ascii "refused ") p → r ≡ put-all (decimal n) q → s ≡ put-all (ascii "\n") r
-    → t ≡ put-all (sentence n) s → t ≡ put-all (refusal-words n) p
+pub refusal-said : (n : ℕ) (p q r s t : Pen) → q ≡ put-all (ascii "refused " ++ decimal n) p → r ≡ put-all (ascii "\n") q
+    → s ≡ put-all (sentence n) r → t ≡ put-all (ascii "neither entry takes it\n") s → t ≡ put-all (refusal-words n) p
 unfolding refusal-words
 refusal-said n p q r s t e f g h =
-    put-two (ascii "refused ") _ p q t e (put-two (decimal n) _ q r t f (put-two (ascii "\n") (sentence n) r s t g h))
+    put-two (ascii "refused " ++ decimal n) _ p q t e
+    (put-two (ascii "\n") _ q r t f (put-two (sentence n) (ascii "neither entry takes it\n") r s t g h))
 
 pub sentence-is : (n k : ℕ) (p q : Pen) → n ≡ k → q ≡ put-all (sentence k) p → q ≡ put-all (sentence n) p
 sentence-is n k p q e f = rw e f

@@ -97,8 +97,9 @@ sentence-in (s ∷ ss) n = elim (eqb n (s .0)) [ true ↦ s .1 | false ↦ sente
 unfoldable pub sentence : ℕ → List ℕ
 sentence n = sentence-in sentences n
 
+-- what the old entry turns down the desk does too
 unfoldable pub refusal-words : ℕ → List ℕ
-refusal-words n = ascii "refused " ++ (decimal n ++ (ascii "\n" ++ sentence n))
+refusal-words n = (ascii "refused " ++ decimal n) ++ (ascii "\n" ++ (sentence n ++ ascii "neither entry takes it\n"))
 
 -- what reading gave
 abbrev pub book-words : Refusable Book → List ℕ

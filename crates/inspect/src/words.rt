@@ -239,10 +239,10 @@ fn sentence(out: &mut [u8], at: usize, number: u8) -> usize
 fn refusal(out: &mut [u8], at: usize, number: u8) -> usize
     ensures { λ r. ⌜ pen (now (out .exit)) r ≡ put-all (refusal-words number) (pen (now (out .entry)) at) ⌝ }
 {
-    let word = pen::text(out, at, b"refused ");
-    let named = pen::number(out, word, number as u64);
+    let named = pen::counted(out, at, b"refused ", number as u64);
     let line = pen::text(out, named, b"\n");
-    sentence(out, line, number)
+    let said = sentence(out, line, number);
+    pen::text(out, said, b"neither entry takes it\n")
 }
 
 // What reading gave, in words, from the start of the buffer on.
