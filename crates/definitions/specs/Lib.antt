@@ -25,6 +25,7 @@ pub mod Listing
 pub mod Cases
 pub mod MoreCases
 pub mod RangeCases
+pub mod DeskCases
 pub mod Model
 pub mod Claim
 pub mod Instances
