@@ -19,6 +19,8 @@ use Rattle.definitions.specs.Calls.{Sitting, sitting, Call, opens, searches, pe
 use Rattle.definitions.specs.Calls.{searches-made, calls}
 use Rattle.definitions.specs.Model.{Plain, Levelled, In}
 use Rattle.definitions.specs.Claim.{MarkedSays, reply-stopped, AllSay, exceeded-among, exceeded, granted, all-granted, Demand3}
+use Rattle.definitions.specs.Claim.{Demand3AtDesk}
+use Rattle.definitions.proofs.Desk.{made-as-read}
 use Rattle.definitions.proofs.Refusal.{not-accepted, all-pass}
 use Rattle.laws.proofs.Options.{no-such}
 use Rattle.laws.proofs.Bools.{both-false}
@@ -180,3 +182,7 @@ demand-3 bytes limit f e level = let m = made-from bytes limit f e in
     → AllSay (In (z .book) level) limit false (calls (sitting z) cs)
     × (exceeded (calls (sitting z) cs) ≤ length (z .book) + clause-count (z .book) + all-granted (calls (sitting z) cs)))
     (m .is) (from-start (m .book) limit level (m .room) (m .good))
+
+-- through the desk: a forest that is made there is one that `make` gives
+pub demand-3-at-desk : Demand3AtDesk
+demand-3-at-desk bytes limit f e = demand-3 bytes limit f (made-as-read bytes limit f e)

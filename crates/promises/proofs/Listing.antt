@@ -9,13 +9,15 @@ use mathlib.Core.List.{List, [], _∷_, _++_, append-nil}
 use lib.ListN.{length}
 use Rattle.definitions.specs.Refusal.{Refusable, refused, accepted}
 use Rattle.definitions.specs.Stop.{stop, go}
-use Rattle.definitions.specs.Book.{Book, read}
+use Rattle.definitions.specs.Book.{Book}
+use Rattle.definitions.specs.Desk.{desk, make-at-desk}
 use Rattle.definitions.specs.Tables.{Forest}
 use Rattle.definitions.specs.Turn.{Ending, found, fail, cut, stopped}
-use Rattle.definitions.specs.Forest.{make, Opened, is-invalid, Peeked, peek-rounds}
+use Rattle.definitions.specs.Forest.{make-of, Opened, is-invalid, Peeked, peek-rounds}
 use Rattle.definitions.specs.Listing.{listing-rounds, listing-turns, listing-clock, Line, line, Next, next-index, next-goal, the-end, next}
 use Rattle.definitions.specs.Listing.{Listed, list-from, list-goal, list-goals, lines}
 use Rattle.definitions.specs.Model.{Each}
+use Rattle.definitions.proofs.Desk.{made-as-read}
 use Rattle.laws.proofs.Bools.{case-bool}
 use Rattle.asserts.proofs.Safe.{case-safe}
 use Rattle.asserts.proofs.Sound.{Reached, SoundForest}
@@ -185,13 +187,14 @@ goals-listed n (suc left) goal f e s =
     goal-and-rest n goal here x rest (rw q y) (y .may-stand))
 
 pub listing-whole : ListingWhole
-listing-whole bytes = on (read bytes) refl
+listing-whole bytes = on (desk bytes) refl
   where
     made-of : Book → Forest
     made-of book = record { book = book; clock-limit = listing-clock; mark = 0; tables = []; clock = 0 }
 
-    on : (r : Refusable Book) → read bytes ≡ r → ListedAs r (lines bytes)
-    on (refused n) e = rw (e, lines, make)
+    on : (r : Refusable Book) → desk bytes ≡ r → ListedAs r (lines bytes)
+    on (refused n) e = rw (e, lines, make-at-desk, make-of)
     on (accepted book) e =
-        let sound = made-sound bytes listing-clock (made-of book) (rw (e, make)) in
-        rw (e, lines, make) (goals-listed (length book) (length book) 0 (made-of book) (omega arith) sound)
+        let made = made-as-read bytes listing-clock (made-of book) (rw (e, make-at-desk, make-of)) in
+        let sound = made-sound bytes listing-clock (made-of book) made in
+        rw (e, lines, make-at-desk, make-of) (goals-listed (length book) (length book) 0 (made-of book) (omega arith) sound)

@@ -1,4 +1,4 @@
--- The listing is whole (document 01, "The listing program"): for every byte string it is refused as reading refuses it, or its lines are
+-- The listing is whole (document 01, "The listing program"): for every byte string it is refused as the desk refuses it, or its lines are
 -- those of the book's goals, one after the other and each to its end. No line says stop 0, so that no bound ran out, and none says
 -- "invalid". `Listing` of proofs/ has the proof.
 use Prim.Native.Nat.{ℕ, suc, _<_}
@@ -6,7 +6,8 @@ use mathlib.Core.Path.{_≡_}
 use mathlib.Core.List.{List, [], _∷_}
 use lib.ListN.{length}
 use Rattle.definitions.specs.Refusal.{Refusable, refused, accepted}
-use Rattle.definitions.specs.Book.{Book, read}
+use Rattle.definitions.specs.Book.{Book}
+use Rattle.definitions.specs.Desk.{desk}
 use Rattle.definitions.specs.Logic.{InvalidAnswer}
 use Rattle.definitions.specs.Turn.{fail, stopped}
 use Rattle.definitions.specs.Listing.{Line, Next, next-index, next-goal, the-end, next, lines}
@@ -41,11 +42,11 @@ pub record Whole (goals goal : ℕ) (ls : List Line) : Type 0 where
   pub in-order : InOrder goals ls
   pub may-stand : Each MayStand ls
 
--- what is read, and what is listed
+-- what the desk takes, and what is listed
 abbrev pub ListedAs : Refusable Book → Refusable (List Line) → Type 0
 ListedAs (refused n) r = r ≡ refused n
 ListedAs (accepted book) (refused n) = ⊥
 ListedAs (accepted book) (accepted ls) = Whole (length book) 0 ls
 
 abbrev pub ListingWhole : Type 0
-ListingWhole = (bytes : List ℕ) → ListedAs (read bytes) (lines bytes)
+ListingWhole = (bytes : List ℕ) → ListedAs (desk bytes) (lines bytes)
