@@ -1,4 +1,4 @@
--- The ways out of `make`, over variables.
+-- The ways out of `make_of`, over variables, and the two ways in.
 use Prim.Native.Nat.{ℕ, _≤_, _<_}
 use native.Mathlib.Omega.{arith}
 use mathlib.Core.Bool.{Bool, false, _||_}
@@ -8,9 +8,11 @@ use lib.Dec.{eqb, leb}
 use borrow.Author.Tests.{le-leb, lt-leb, eq-eqb, ne-eqb}
 use Rattle.definitions.specs.{MAX}
 use Rattle.definitions.specs.Book as said-book
+use Rattle.definitions.specs.Desk.{desk}
 use Rattle.definitions.specs.Forest as said
 use Rattle.definitions.specs.Refusal.{Refusable, refused, accepted, _refuses_, unless}
 use Rattle.definitions.specs.Tables as tables
+use Rattle.definitions.proofs.Desk.{desk-reads}
 use Rattle.laws.proofs.Spans.{length-span}
 use Rattle.asserts.proofs.Reading.{made-sound}
 use Rattle.asserts.proofs.Sound.{SoundForest}
@@ -33,7 +35,7 @@ use Rattle.forest.specs.declared.Forest.{Forest}
 use Rattle.forest.specs.declared.make.Made.{Made}
 use Rattle.forest.specs.declared.make.Making.{Making}
 use Rattle.forest.specs.declared.make.Making.the-variants as makings
-use Rattle.forest.specs.Make.{forest-with, bare, refused-with, MakeSays}
+use Rattle.forest.specs.Make.{forest-with, bare, refused-with, MadeSays, MakeSays, MakeAtDeskSays, Stems, MakeOfSays}
 use Rattle.forest.specs.View.{stores-in, view, Sound}
 
 -- which way it went
@@ -67,74 +69,102 @@ bare-sounds b limit mark = record {
   made = λ i h. absurd (omega (arith, h));
 }
 
-module _ (bytes : List ℕ) (limit : ℕ) where
+refused-says : (what : Refusable tables.Forest) (n : ℕ) (b : Book) → refused n ≡ what → MadeSays what (refused-with n b)
+refused-says what n b e = record {
+  says = e;
+  sound = λ never. absurd (subst WasMade (sym never) tt);
+  marked = λ m same. (b, ap (bare b 0) (ap number-in same));
+}
+
+-- OF A READING
+
+module _ (limit : ℕ) where
   abbrev begun : said-book.Book → tables.Forest
   begun book = record { book = book; clock-limit = limit; mark = 0; tables = []; clock = 0 }
 
   abbrev limited : (zero large : Bool) → said-book.Book → Refusable tables.Forest
   limited zero large book = unless ((zero || large) refuses 13 ∷ []) (begun book)
 
-  abbrev make-of : Refusable said-book.Book → Refusable tables.Forest
-  make-of r = elim r [
-    | refused n ↦ refused n
-    | accepted book ↦ unless
-        ((eqb limit 0 || leb MAX limit) refuses 13
-        ∷ [])
-        (record { book = book; clock-limit = limit; mark = 0; tables = []; clock = 0 })
-  ]
+  module _ (r : Reading) where
+    abbrev what : Refusable tables.Forest
+    what = said.make-of (books.seen r) limit
 
-  refused-says : (n : ℕ) (b : Book) → refused n ≡ said.make bytes limit → MakeSays bytes limit (refused-with n b)
-  refused-says n b e = record {
-    says = e;
-    sound = λ never. absurd (subst WasMade (sym never) tt);
-    marked = λ m same. (b, ap (bare b 0) (ap number-in same));
-  }
-
-  module _ (r : Reading) (h : books.Read bytes r) where
     -- the book's number
-    pub says-unread : 0 < r .number → (m : Made) → m ≡ refused-with (r .number) (r .book) → MakeSays bytes limit m
-    says-unread some m is = subst (MakeSays bytes limit) (sym is) (refused-says (r .number) (r .book)
-        (ap make-of (sym (ap (λ (b : Bool). books.seen-by b r) (ne-eqb (r .number) 0 (λ e. omega (arith, e, some)))) ∙ h .means)))
+    pub says-unread : 0 < r .number → (m : Made) → m ≡ refused-with (r .number) (r .book) → MakeOfSays r limit m
+    says-unread some m is = subst (MadeSays what) (sym is) (refused-says what (r .number) (r .book)
+        (sym (ap (λ (b : Bool). said.make-of (books.seen-by b r) limit) (ne-eqb (r .number) 0 (λ e. omega (arith, e, some))))))
 
     module _ (read : r .number ≤ 0) where
-      read-as : accepted (books.view (r .book)) ≡ said-book.read bytes
-      read-as = sym (ap (λ (b : Bool). books.seen-by b r) (eq-eqb (r .number) 0 (omega (arith, read)))) ∙ h .means
-
-      make-is : limited (eqb limit 0) (leb MAX limit) (books.view (r .book)) ≡ said.make bytes limit
-      make-is = ap make-of read-as
+      make-is : limited (eqb limit 0) (leb MAX limit) (books.view (r .book)) ≡ what
+      make-is = sym (ap (λ (b : Bool). said.make-of (books.seen-by b r) limit) (eq-eqb (r .number) 0 (omega (arith, read))))
 
       -- the limit's number
-      pub says-zero : limit ≡ 0 → (m : Made) → m ≡ refused-with 13 (r .book) → MakeSays bytes limit m
-      says-zero e m is = subst (MakeSays bytes limit) (sym is) (refused-says 13 (r .book)
+      pub says-zero : limit ≡ 0 → (m : Made) → m ≡ refused-with 13 (r .book) → MakeOfSays r limit m
+      says-zero e m is = subst (MadeSays what) (sym is) (refused-says what 13 (r .book)
           (sym (ap (λ (b : Bool). limited b (leb MAX limit) (books.view (r .book))) (eq-eqb limit 0 e)) ∙ make-is))
 
       module _ (some : limit ≡ 0 → ⊥) where
-        above : limited false (leb MAX limit) (books.view (r .book)) ≡ said.make bytes limit
-        above = sym (ap (λ (b : Bool). limited b (leb MAX limit) (books.view (r .book))) (ne-eqb limit 0 some)) ∙ make-is
+        above : limited false (leb MAX limit) (books.view (r .book)) ≡ limited (eqb limit 0) (leb MAX limit) (books.view (r .book))
+        above = sym (ap (λ (b : Bool). limited b (leb MAX limit) (books.view (r .book))) (ne-eqb limit 0 some))
 
-        pub says-large : MAX ≤ limit → (m : Made) → m ≡ refused-with 13 (r .book) → MakeSays bytes limit m
-        says-large large m is = subst (MakeSays bytes limit) (sym is) (refused-says 13 (r .book)
-            (sym (ap (λ (b : Bool). limited false b (books.view (r .book))) (le-leb MAX limit large)) ∙ above))
+        pub says-large : MAX ≤ limit → (m : Made) → m ≡ refused-with 13 (r .book) → MakeOfSays r limit m
+        says-large large m is = subst (MadeSays what) (sym is) (refused-says what 13 (r .book)
+            (sym (ap (λ (b : Bool). limited false b (books.view (r .book))) (le-leb MAX limit large)) ∙ above ∙ make-is))
 
         -- made
         module _ (low : limit < MAX) where
-          is-made : accepted (view (bare (r .book) limit 0)) ≡ said.make bytes limit
+          is-made : accepted (view (bare (r .book) limit 0)) ≡ limited (eqb limit 0) (leb MAX limit) (books.view (r .book))
           is-made = sym (ap (λ (b : Bool). limited false b (books.view (r .book))) (lt-leb MAX limit low)) ∙ above
 
-          rests : Sound (bare (r .book) limit 0)
-          rests = record {
-            book = h .sound (omega (arith, read));
-            sounds = bare-sounds (r .book) limit 0;
-            empty = refl;
-            forest = subst (λ (n : ℕ). SoundForest n (view (bare (r .book) limit 0)))
-                (length-span (books.goal-viewed (r .book)) 0 (r .book .goals))
-                (made-sound bytes limit (view (bare (r .book) limit 0)) (sym is-made));
-          }
+          module _ (h : Stems r) where
+            rests : Sound (bare (r .book) limit 0)
+            rests =
+                let from = h .from (omega (arith, read)) in
+                record {
+                  book = h .sound (omega (arith, read));
+                  sounds = bare-sounds (r .book) limit 0;
+                  empty = refl;
+                  forest = subst (λ (n : ℕ). SoundForest n (view (bare (r .book) limit 0)))
+                      (length-span (books.goal-viewed (r .book)) 0 (r .book .goals))
+                      (made-sound (from .0) limit (view (bare (r .book) limit 0))
+                      (ap (λ (o : Refusable said-book.Book). said.make-of o limit) (from .1) ∙ sym is-made));
+                }
 
-          pub says-made : (f : Forest) → f ≡ bare (r .book) limit 0
-              → MakeSays bytes limit (record { making = makings.Made; forest = f })
-          says-made f is = record {
-            says = ap (λ (g : Forest). accepted (view g)) is ∙ is-made;
-            sound = λ _. subst Sound (sym is) rests;
-            marked = λ n never. absurd (subst WasMade never tt);
-          }
+            pub says-made : (f : Forest) → f ≡ bare (r .book) limit 0
+                → MakeOfSays r limit (record { making = makings.Made; forest = f })
+            says-made f is = record {
+              says = ap (λ (g : Forest). accepted (view g)) is ∙ is-made ∙ make-is;
+              sound = λ _. subst Sound (sym is) rests;
+              marked = λ n never. absurd (subst WasMade never tt);
+            }
+
+-- THE WAYS IN
+
+module _ (bytes : List ℕ) (r : Reading) where
+  -- of a reading that gives a book only if `read` does
+  gives-stems : (given : Refusable said-book.Book) → books.Gives given r
+      → ((b : said-book.Book) → given ≡ accepted b → said-book.read bytes ≡ accepted b) → Stems r
+  gives-stems given h as-read = record {
+    sound = h .sound;
+    from = λ e. (
+      bytes,
+      as-read (books.view (r .book)) (sym (h .means) ∙ ap (λ (b : Bool). books.seen-by b r) (eq-eqb (r .number) 0 e)),
+    );
+  }
+
+  gives-says : (given : Refusable said-book.Book) → books.Gives given r → (limit : ℕ) (m : Made) → MakeOfSays r limit m
+      → MadeSays (said.make-of given limit) m
+  gives-says given h limit m says =
+      subst (λ (o : Refusable said-book.Book). MadeSays (said.make-of o limit) m) (h .means) says
+
+  pub read-stems : books.Read bytes r → Stems r
+  read-stems h = gives-stems (said-book.read bytes) h (λ b e. e)
+
+  pub says-read : books.Read bytes r → (limit : ℕ) (m : Made) → MakeOfSays r limit m → MakeSays bytes limit m
+  says-read h limit m says = gives-says (said-book.read bytes) h limit m says
+
+  pub taken-stems : books.Taken bytes r → Stems r
+  taken-stems h = gives-stems (desk bytes) h (λ b e. desk-reads bytes b e .0)
+
+  pub says-taken : books.Taken bytes r → (limit : ℕ) (m : Made) → MakeOfSays r limit m → MakeAtDeskSays bytes limit m
+  says-taken h limit m says = gives-says (desk bytes) h limit m says

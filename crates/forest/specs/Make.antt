@@ -2,10 +2,14 @@
 use Prim.Native.Nat.{ℕ}
 use mathlib.Core.List.{List}
 use mathlib.Core.Path.{_≡_}
+use Rattle.definitions.specs.Book as said-book
+use Rattle.definitions.specs.Desk.{make-at-desk}
 use Rattle.definitions.specs.Forest as said
 use Rattle.definitions.specs.Refusal.{Refusable, refused, accepted}
 use Rattle.definitions.specs.Tables as tables
+use Rattle.book.specs.View as books
 use Rattle.book.specs.declared.Book.{Book}
+use Rattle.book.specs.declared.Reading.{Reading}
 use Rattle.stores.specs.declared.queue.Strands.{Strands}
 use Rattle.stores.specs.declared.table.Answers.{Answers}
 use Rattle.stores.specs.declared.tables.Tables.{Tables}
@@ -39,9 +43,26 @@ made-by makings.Made f = accepted f
 abbrev pub made-means : Made → Refusable tables.Forest
 made-means r = made-by (r .making) (view (r .forest))
 
--- THE CONTRACT, for every byte string and every limit: the result is the definitions', a forest that was made is sound, and one that
--- was not has nothing in it and is marked with the number, so that every later open, search and peek is refused.
-pub record MakeSays (bytes : List ℕ) (limit : ℕ) (r : Made) : Type 0 where
-  pub says : made-means r ≡ said.make bytes limit
+-- THE CONTRACT, of a way in and for every byte string and every limit: the result is the definitions', a forest that was made is sound,
+-- and one that was not has nothing in it and is marked with the number, so that every later open, search and peek is refused.
+pub record MadeSays (what : Refusable tables.Forest) (r : Made) : Type 0 where
+  pub says : made-means r ≡ what
   pub sound : r .making ≡ makings.Made → Sound (r .forest)
   pub marked : (n : ℕ) → r .making ≡ makings.Refused n → (b : Book) × (r .forest ≡ bare b 0 n)
+
+-- `make`
+abbrev pub MakeSays : (bytes : List ℕ) → (limit : ℕ) → Made → Type 0
+MakeSays bytes limit r = MadeSays (said.make bytes limit) r
+
+-- `make_at_desk`
+abbrev pub MakeAtDeskSays : (bytes : List ℕ) → (limit : ℕ) → Made → Type 0
+MakeAtDeskSays bytes limit r = MadeSays (make-at-desk bytes limit) r
+
+-- A reading that stems from bytes: a book that it holds is sound, and one that `read` gives. Both entries leave such.
+pub record Stems (r : Reading) : Type 0 where
+  pub sound : r .number ≡ 0 → books.Sound (r .book)
+  pub from : r .number ≡ 0 → (bytes : List ℕ) × (said-book.read bytes ≡ accepted (books.view (r .book)))
+
+-- what is made of a reading: the two ways in differ in the reading alone
+abbrev pub MakeOfSays : Reading → (limit : ℕ) → Made → Type 0
+MakeOfSays r limit m = MadeSays (said.make-of (books.seen r) limit) m

@@ -1,13 +1,14 @@
 // `Forest::new` over a book: the bytes are read, and the clock has a limit.
 use crate::Forest;
 use book::Book;
+use book::Reading;
 use book::read;
 use stores::queue::blank_strands;
 use stores::table::blank_answers;
 use stores::tables::blank_tables;
 use strands::times::TimeStamp;
 ghost use mathlib.Core.Path.{_≡_};
-ghost use Rattle.forest.specs.Make.{bare, refused-with, MakeSays};
+ghost use Rattle.forest.specs.Make.{bare, refused-with, MakeSays, Stems, MakeOfSays};
 
 pub enum Making {
     Refused(u8),
@@ -108,11 +109,11 @@ fn refused(number: u8, b: Book) -> Made
     Made { making, forest }
 }
 
-// Refused by the book's numbers, then with 13 where the clock's limit is 0 or the largest number.
-pub fn make(bytes: &[u8], clock_limit: u64) -> Made
-    ensures { λ r. ⌜ MakeSays (now (bytes .entry)) «clock_limit» r ⌝ }
+// What both ways in do behind the reading: refused by its number, then with 13 where the clock's limit is 0 or the largest number.
+fn make_of(r: Reading, clock_limit: u64) -> Made
+    requires { ⌜ Stems r ⌝ }
+    ensures { λ m. ⌜ MakeOfSays r «clock_limit» m ⌝ }
 {
-    let r = read(bytes);
     let b = r.book;
     if r.number > 0 {
         return refused(r.number, b);
@@ -126,4 +127,12 @@ pub fn make(bytes: &[u8], clock_limit: u64) -> Made
     let making = Making::Made;
     let forest = bare_forest(b, clock_limit, 0);
     Made { making, forest }
+}
+
+// By the old entry, which takes a clause as often as it stands in a goal.
+pub fn make(bytes: &[u8], clock_limit: u64) -> Made
+    ensures { λ r. ⌜ MakeSays (now (bytes .entry)) «clock_limit» r ⌝ }
+{
+    let r = read(bytes);
+    make_of(r, clock_limit)
 }
