@@ -19,6 +19,7 @@ use Rattle.definitions.specs.Refusal.{Refusable, refused, accepted, _refuses_, 
 use Rattle.definitions.specs.Stop.{go}
 use Rattle.definitions.specs.Tables as tables
 use Rattle.definitions.specs.Turn as turns
+use Rattle.definitions.proofs.Desk.{made-as-read}
 use Rattle.definitions.proofs.Refusal.{same-accepted, not-accepted, all-pass}
 use Rattle.asserts.proofs.Safe.{stop-go}
 use Rattle.promises.proofs.Demand as promised
@@ -35,7 +36,7 @@ use Rattle.forest.specs.declared.open.Opening.the-variants as openings
 use Rattle.forest.specs.declared.searches.Outcome.{Outcome}
 use Rattle.forest.specs.declared.searches.Outcome.the-variants as outcomes
 use Rattle.forest.specs.declared.searches.Peeked.{Peeked}
-use Rattle.forest.specs.Make.{MakeSays, made-by}
+use Rattle.forest.specs.Make.{MakeSays, MakeAtDeskSays, made-by, made-means}
 use Rattle.forest.specs.Open.{OpenSays, opened-by}
 use Rattle.forest.specs.Searches.{PeekSays, reply-by}
 use Rattle.forest.specs.View.{view, Sound}
@@ -44,6 +45,7 @@ use Rattle.forest.proofs.Serving.{left-sound}
 use Rattle.sittings.specs.Sittings.{opening-reply, outcome-reply, future-reply, reply}
 use Rattle.sittings.specs.Claim.{Names, Named, MarkedSays, is-stopped, opening-stopped, stops, OpeningSays, OutcomeSays}
 use Rattle.sittings.specs.Claim.{UnmarkedSays, TellSays, AllTell, exceeded-by, exceeded-in, exceeded, granted, all-granted, Demand3}
+use Rattle.sittings.specs.Claim.{Demand3AtDesk}
 use Rattle.sittings.proofs.Calls.{at, told-call, told-calls, sits-calls}
 
 -- A GOAL THAT IS NAMED. An open of the definitions that gives a table is one of the code that gives it, and the other way round.
@@ -335,3 +337,17 @@ demand-3 bytes limit m says e book k level plain levelled ts g =
       within (exceeded ts) (claim.exceeded told-as) (length book + clause-count book) (claim.all-granted told-as) (all-granted ts)
           (y .1) (x .1) (all-grants ts (m .forest)),
     )
+
+-- Through the desk: a forest that is made there is the one that `make` makes.
+
+as-made : (bytes : List ℕ) (limit : ℕ) (m : Made) → MakeAtDeskSays bytes limit m → m .making ≡ makings.Made → MakeSays bytes limit m
+as-made bytes limit m says e =
+    let is : made-means m ≡ accepted (view (m .forest)) = ap (λ (z : Making). made-by z (view (m .forest))) e in
+    record {
+      says = is ∙ sym (made-as-read bytes limit (view (m .forest)) (sym (says .says) ∙ is));
+      sound = says .sound;
+      marked = says .marked;
+    }
+
+pub demand-3-at-desk : Demand3AtDesk
+demand-3-at-desk bytes limit m says e = demand-3 bytes limit m (as-made bytes limit m says e) e

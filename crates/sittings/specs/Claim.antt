@@ -18,7 +18,7 @@ use Rattle.forest.specs.declared.open.Opening.{Opening}
 use Rattle.forest.specs.declared.open.Opening.the-variants as openings
 use Rattle.forest.specs.declared.searches.Outcome.{Outcome}
 use Rattle.forest.specs.declared.searches.Outcome.the-variants as outcomes
-use Rattle.forest.specs.Make.{MakeSays}
+use Rattle.forest.specs.Make.{MakeSays, MakeAtDeskSays}
 use Rattle.forest.specs.Open.{OpenSays}
 use Rattle.forest.specs.Sittings.{Told, opens, searches, peeks, asks-future, left, Sits}
 
@@ -132,13 +132,22 @@ abbrev pub all-granted : List Told → ℕ
 all-granted [] = 0
 all-granted (t ∷ ts) = granted t + all-granted ts
 
--- DEMAND 3 OF THE CODE: for every byte string and clock limit for which `make` made a forest, every levelling of its book and every sitting
-abbrev pub Demand3 : Type 0
-Demand3 =
-    (bytes : List ℕ) (clock-limit : ℕ) (m : Made) → MakeSays bytes clock-limit m → m .making ≡ makings.Made →
+-- DEMAND 3 OF THE CODE, of a way in: for every byte string and clock limit for which it made a forest, every levelling of its book and
+-- every sitting
+abbrev pub Demand3Of : ((bytes : List ℕ) → (clock-limit : ℕ) → Made → Type 0) → Type 0
+Demand3Of Says =
+    (bytes : List ℕ) (clock-limit : ℕ) (m : Made) → Says bytes clock-limit m → m .making ≡ makings.Made →
     (book : books.Book) → books.read bytes ≡ accepted book → (level : ℕ → ℕ) → Plain book → Levelled book level →
     (ts : List Told) → Sits (m .forest) ts →
     AllTell (In book level) clock-limit false ts × (exceeded ts ≤ length book + clause-count book + all-granted ts)
+
+-- by `make`
+abbrev pub Demand3 : Type 0
+Demand3 = Demand3Of MakeSays
+
+-- by `make_at_desk`
+abbrev pub Demand3AtDesk : Type 0
+Demand3AtDesk = Demand3Of MakeAtDeskSays
 
 -- NO ASSERT, for every byte string, clock limit and sitting: whatever stops has a number of document 01
 abbrev pub NoAssert : Told → Type 0
