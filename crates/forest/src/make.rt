@@ -1,14 +1,15 @@
-// `Forest::new` over a book: the bytes are read, and the clock has a limit.
+// `Forest::new` over a book: the bytes are read, by the old entry or at the exam desk, and the clock has a limit.
 use crate::Forest;
 use book::Book;
 use book::Reading;
+use book::desk::desk;
 use book::read;
 use stores::queue::blank_strands;
 use stores::table::blank_answers;
 use stores::tables::blank_tables;
 use strands::times::TimeStamp;
 ghost use mathlib.Core.Path.{_≡_};
-ghost use Rattle.forest.specs.Make.{bare, refused-with, MakeSays, Stems, MakeOfSays};
+ghost use Rattle.forest.specs.Make.{bare, refused-with, MakeSays, MakeAtDeskSays, Stems, MakeOfSays};
 
 pub enum Making {
     Refused(u8),
@@ -135,4 +136,12 @@ pub fn make(bytes: &[u8], clock_limit: u64) -> Made
 {
     let r = read(bytes);
     make_of(r, clock_limit)
+}
+
+// As the exam desk takes a book: 36, where a goal has the same clause twice, comes before 13.
+pub fn make_at_desk(bytes: &[u8], clock_limit: u64) -> Made
+    ensures { λ r. ⌜ MakeAtDeskSays (now (bytes .entry)) «clock_limit» r ⌝ }
+{
+    let taken = desk(bytes);
+    make_of(taken, clock_limit)
 }
