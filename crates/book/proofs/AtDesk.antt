@@ -10,12 +10,12 @@ use Rattle.laws.proofs.Options.{no-such}
 use Rattle.definitions.specs.Refusal.{Refusable, refused, accepted, _refuses_, unless}
 use Rattle.definitions.specs.Book as said
 use Rattle.definitions.specs.Desk as desks
-use Rattle.definitions.specs.Desk.{first-repeat, at-desk}
+use Rattle.definitions.specs.Desk.{first-repeat, repeat-of, at-desk}
 use Rattle.book.specs.declared.Reading.{Reading}
 use Rattle.book.specs.declared.Repeat.{Repeat}
 use Rattle.book.specs.declared.Looked.{Looked}
 use Rattle.book.specs.View.{view, blank, seen, seen-by, Read, Taken}
-use Rattle.book.specs.Repeats.{no-repeat, repeat-by, repeat-seen, repeat-of, Looks}
+use Rattle.book.specs.Repeats.{no-repeat, repeat-by, repeat-seen, Looks}
 
 -- `look`
 

@@ -6,11 +6,10 @@ use mathlib.Core.Option.{Option, none, some}
 use mathlib.Core.List.{List, [], _∷_}
 use lib.ListN.{getD}
 use Rattle.laws.specs.Spans.{span}
-use Rattle.definitions.specs.Refusal.{Refusable, refused, accepted}
 use Rattle.definitions.specs.Book as said
 use Rattle.definitions.specs.Book.{Want, any, exactly, between, Positive, Negative, Clause, bit0, bit1, flag}
 use Rattle.definitions.specs.Desk as desks
-use Rattle.definitions.specs.Desk.{same-clause, first-repeat}
+use Rattle.definitions.specs.Desk.{same-clause, repeat-of}
 use Rattle.book.specs.declared.Repeat.{Repeat}
 use Rattle.book.specs.declared.Looked.{Looked}
 use Rattle.book.specs.Access.{entry, literal-read}
@@ -94,10 +93,7 @@ repeat-by false r = none
 abbrev pub repeat-seen : Repeat → Option desks.Repeat
 repeat-seen r = repeat-by (r .found) r
 
--- of what was read; a book that is refused has none
-abbrev pub repeat-of : Refusable said.Book → Option desks.Repeat
-repeat-of r = elim r [ refused n ↦ none | accepted book ↦ first-repeat book ]
-
+-- what `look` is to give
 pub record Looks (bytes : List ℕ) (r : Looked) : Type 0 where
   pub reads : Read bytes (r .reading)
   pub repeats : repeat-seen (r .repeat) ≡ repeat-of (said.read bytes)

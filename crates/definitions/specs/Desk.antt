@@ -74,6 +74,10 @@ repeat-from g (h ∷ hs) = elim (repeat-behind g [] (h .clauses)) [ some r ↦ s
 abbrev pub first-repeat : Book → Option Repeat
 first-repeat book = repeat-from 0 book
 
+-- of what `read` gave: a book that it refuses has none
+abbrev pub repeat-of : Refusable Book → Option Repeat
+repeat-of r = elim r [ refused n ↦ none | accepted book ↦ first-repeat book ]
+
 abbrev pub repeats : Book → Bool
 repeats book = elim (first-repeat book) [ none ↦ false | some r ↦ true ]
 

@@ -9,7 +9,7 @@ use Rattle.definitions.specs.Ascii.{ascii}
 use Rattle.definitions.specs.Refusal.{Refusable, refused, accepted}
 use Rattle.definitions.specs.Lists.{push}
 use Rattle.definitions.specs.Book.{any, exactly, Positive, Clause, Book, read, write}
-use Rattle.definitions.specs.Desk.{Repeat, first-repeat, desk}
+use Rattle.definitions.specs.Desk.{Repeat, repeat-of, desk}
 use Rattle.definitions.specs.Listing.{listing}
 use Rattle.definitions.specs.Cases.{pos, neg, rule, fact, unproved, one-rule, inductive}
 use Rattle.definitions.specs.RangeCases.{range}
@@ -30,15 +30,11 @@ abbrev pub number : Refusable Book → ℕ
 number (refused n) = n
 number (accepted book) = 0
 
-abbrev pub repeat-read : Refusable Book → Option Repeat
-repeat-read (refused n) = none
-repeat-read (accepted book) = first-repeat book
-
 abbrev pub told : List ℕ → Tells
 told bytes = record {
   by-read = number (read bytes);
   by-desk = number (desk bytes);
-  repeat = repeat-read (read bytes);
+  repeat = repeat-of (read bytes);
   prints = listing bytes;
 }
 

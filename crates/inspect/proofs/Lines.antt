@@ -10,7 +10,8 @@ use lib.ListN.{getD}
 use borrow.Author.Tests.{eq-eqb, ne-eqb}
 use Rattle.definitions.specs.Ascii.{ascii}
 use Rattle.definitions.specs.Listing.{decimal}
-use Rattle.definitions.specs.Desk as Repeats
+use Rattle.definitions.specs.Desk as Desk
+use Rattle.definitions.specs.Desk.{repeat-of}
 use Rattle.definitions.specs.Refusal.{Refusable}
 use Rattle.definitions.specs.Book as Said
 use Rattle.definitions.specs.Book.{Literal, Clause, Goal, bit0, bit1}
@@ -22,7 +23,7 @@ use Rattle.book.specs.declared.Book.{Book}
 use Rattle.book.specs.declared.Reading.{Reading}
 use Rattle.book.specs.declared.Repeat.{Repeat}
 use Rattle.book.specs.declared.Looked.{Looked}
-use Rattle.book.specs.Repeats.{repeat-seen, repeat-of, Looks}
+use Rattle.book.specs.Repeats.{repeat-seen, Looks}
 use Rattle.book.specs.View.{Sound, clause-made, view, seen, seen-by}
 use Rattle.book.proofs.Held.{goal-within}
 use Rattle.inspect.specs.Words.{before, literal-words, body-words, head-words, clause-words, clauses-words, goal-line, goal-words}
@@ -218,4 +219,4 @@ pub paper-said : (bytes : List ℕ) (l : Looked) (p q s : Pen) → Looks bytes l
 paper-said bytes l p q s x e f =
     put-two (book-words (Said.read bytes)) (desk-words (repeat-of (Said.read bytes))) p q s
     (e ∙ ap (λ (b : Refusable Said.Book). put-all (book-words b) p) (x .reads .means))
-    (f ∙ ap (λ (o : Option Repeats.Repeat). put-all (desk-words o) q) (x .repeats))
+    (f ∙ ap (λ (o : Option Desk.Repeat). put-all (desk-words o) q) (x .repeats))

@@ -8,8 +8,7 @@ use Rattle.definitions.specs.Ascii.{ascii}
 use Rattle.definitions.specs.Listing.{decimal}
 use Rattle.definitions.specs.Refusal.{Refusable, refused, accepted}
 use Rattle.definitions.specs.Book.{Want, any, exactly, between, Literal, Positive, Negative, Clause, Goal, Book}
-use Rattle.definitions.specs.Desk.{Repeat}
-use Rattle.book.specs.Repeats.{repeat-of}
+use Rattle.definitions.specs.Desk.{Repeat, repeat-of}
 
 -- words that stand there only where a flag is set
 abbrev pub mark : Bool → List ℕ → List ℕ
