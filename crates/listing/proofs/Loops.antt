@@ -9,7 +9,8 @@ use lib.ListN.{length, getD}
 use borrow.Author.Tests.{lt-ltb}
 use Rattle.definitions.specs.{MAX}
 use Rattle.definitions.specs.Ascii.{ascii}
-use Rattle.definitions.specs.Book.{Book, read}
+use Rattle.definitions.specs.Book.{Book}
+use Rattle.definitions.specs.Desk.{desk, make-at-desk}
 use Rattle.definitions.specs.Forest as said
 use Rattle.definitions.specs.Listing.{Line, line, Next, next-index, next-goal, the-end, next}
 use Rattle.definitions.specs.Listing.{list-from, list-goals, line-bytes, lines-bytes, decimal, listing, listing-clock}
@@ -27,7 +28,7 @@ use Rattle.forest.specs.declared.make.Making.the-variants as makings
 use Rattle.forest.specs.declared.open.Opened.{Opened}
 use Rattle.forest.specs.declared.open.Opening.{Opening}
 use Rattle.forest.specs.declared.open.Opening.the-variants as openings
-use Rattle.forest.specs.Make.{MakeSays, made-by}
+use Rattle.forest.specs.Make.{MakeAtDeskSays, made-by}
 use Rattle.forest.specs.Open.{OpenSays}
 use Rattle.forest.specs.ServeCalls.{ServeCallsSays}
 use Rattle.forest.specs.View.{view, Sound}
@@ -325,8 +326,8 @@ listing-of m = elim (elim m as (λ _. Refusable (List Line)) [
   | accepted ls ↦ lines-bytes ls
 ]
 
-made-unmarked : (bytes : List ℕ) (limit : ℕ) (f : tables.Forest) → said.make bytes limit ≡ accepted f → f .mark ≡ 0
-made-unmarked bytes limit f e = on (read bytes) (eqb limit 0 || leb MAX limit) e
+made-unmarked : (given : Refusable Book) (limit : ℕ) (f : tables.Forest) → said.make-of given limit ≡ accepted f → f .mark ≡ 0
+made-unmarked given limit f e = on given (eqb limit 0 || leb MAX limit) e
   where
     on : (r : Refusable Book) (b : Bool) → elim r as (λ _. Refusable tables.Forest) [
       | refused n ↦ refused n
@@ -336,15 +337,15 @@ made-unmarked bytes limit f e = on (read bytes) (eqb limit 0 || leb MAX limit) e
     on (accepted book) true k = absurd (not-accepted k)
     on (accepted book) false k = ap (λ (g : tables.Forest). g .mark) (sym (same-accepted k))
 
-module _ (bytes : List ℕ) (r : Made) (says : MakeSays bytes listing-clock r) (p q : Pen) where
+module _ (bytes : List ℕ) (r : Made) (says : MakeAtDeskSays bytes listing-clock r) (p q : Pen) where
   pub made-ready : r .making ≡ makings.Made → Ready (r .forest)
   made-ready e = record {
     sound = says .sound e;
     unmarked = unmarked-by (sym (says .says) ∙ ap (λ (m : Making). made-by m (view (r .forest))) e);
   }
     where
-      unmarked-by : said.make bytes listing-clock ≡ accepted (view (r .forest)) → view (r .forest) .mark ≡ 0
-      unmarked-by k = made-unmarked bytes listing-clock (view (r .forest)) k
+      unmarked-by : make-at-desk bytes listing-clock ≡ accepted (view (r .forest)) → view (r .forest) .mark ≡ 0
+      unmarked-by k = made-unmarked (desk bytes) listing-clock (view (r .forest)) k
 
   pub listing-made : r .making ≡ makings.Made → q ≡ put-all (lines-bytes (rest-lines 0 (r .forest))) p → q ≡ put-all (listing bytes) p
   listing-made e put =

@@ -4,7 +4,7 @@ use crate::lines::refusal;
 use batch::calls::NUMBERS;
 use forest::Forest;
 use forest::make::Making;
-use forest::make::make;
+use forest::make::make_at_desk;
 use forest::open::Opening;
 use forest::open::open;
 use forest::serve_calls::serve_calls;
@@ -151,11 +151,11 @@ fn list_goals(out: &mut [u8], f: Forest, shown: bool) -> usize
     }
 }
 
-// The listing of a byte string, put down from the start of the buffer on.
+// The listing of a byte string, whose book is taken as the desk takes it, put down from the start of the buffer on.
 pub(crate) fn list(out: &mut [u8], bytes: &[u8], shown: bool) -> usize
     ensures { λ r. ⌜ pen (now (out .exit)) r ≡ put-all (listing (now (bytes .entry))) (pen (now (out .entry)) 0) ⌝ }
 {
-    let m = make(bytes, CLOCK);
+    let m = make_at_desk(bytes, CLOCK);
     let making = m.making;
     let forest = m.forest;
     match making {

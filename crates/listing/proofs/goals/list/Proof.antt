@@ -1,11 +1,11 @@
--- `list`: by whether the book was accepted.
+-- `list`: by whether the desk took the book.
 use Rattle.listing.proofs.Loops.{made-ready, listing-made, listing-refused}
 use borrow.Author.Needs.{needs}
 use Rattle.listing.proofs.goals.list.Statement.{statement}
 use Rattle.listing.proofs.goals.list.Tie as tie
 
-make-requires : tie.Need-make-requires
-make-requires c κs = search needs
+make-at-desk-requires : tie.Need-make-at-desk-requires
+make-at-desk-requires c κs = search needs
 
 enum-known-making : tie.Need-enum-known-making
 enum-known-making c = search needs
@@ -35,7 +35,7 @@ pub list-spec : {M : Type 1} → statement M
 list-spec =
     tie.close
     (tie.spec
-    make-requires
+    make-at-desk-requires
     enum-known-making
     refusal-requires
     enum-told
