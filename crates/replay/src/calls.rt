@@ -3,7 +3,9 @@ use crate::line::Line;
 use crate::words::Reply;
 use forest::Forest;
 use forest::any_future_answer::any_future_answer;
+use forest::make::Made;
 use forest::make::make;
+use forest::make::make_at_desk;
 use forest::open::Opened;
 use forest::open::open;
 use forest::searches::Peeked;
@@ -20,6 +22,14 @@ pub(crate) struct Called {
 pub(crate) fn no_forest() -> Forest {
     let m = make(b"", 0);
     m.forest
+}
+
+// A book's forest, by the old entry or as the desk takes it.
+pub(crate) fn take_book(bytes: &[u8], clock_limit: u64, desk: bool) -> Made {
+    if desk {
+        return make_at_desk(bytes, clock_limit);
+    }
+    make(bytes, clock_limit)
 }
 
 fn opened(r: Opened) -> Called {

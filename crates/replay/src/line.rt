@@ -4,7 +4,8 @@
 use crate::utf8;
 
 // `phase` is what the next word has to be: 0 the call's name, 1 a number of a call, 2 bytes of a book or the word "clock", 3 the clock's
-// limit, 4 nothing. `call` is 1 book, 2 open, 3 search, 4 peek, 5 future; `count` how many numbers it has so far, and a, b, c, d those.
+// limit, 4 nothing. `call` is 1 book, 2 open, 3 search, 4 peek, 5 future, and `desk` whether a book is taken as the desk takes it; `count`
+// is how many numbers it has so far, and a, b, c, d those.
 // Of the word so far: its first characters in base 256 behind a 1, so that 1 is no word and no longer word has the number of a name; its
 // value, if it is a decimal number; whether a book's bytes are all hex digits, and the high half of a byte (16: none).
 pub(crate) struct Line {
@@ -15,6 +16,7 @@ pub(crate) struct Line {
     pub utf8: u8,
     pub phase: u8,
     pub call: u8,
+    pub desk: bool,
     pub count: u8,
     pub a: u64,
     pub b: u64,
@@ -37,6 +39,7 @@ fn blank(number: u64) -> Line {
         utf8: 0,
         phase: 0,
         call: 0,
+        desk: false,
         count: 0,
         a: 0,
         b: 0,
@@ -104,11 +107,18 @@ fn named(l: Line, call: u8, phase: u8) -> Line {
     Line { call, phase, ..l }
 }
 
+// A book, in all but how it is taken.
+fn at_desk(l: Line) -> Line {
+    let b = named(l, 1, 2);
+    Line { desk: true, ..b }
+}
+
 // The first word.
 fn first(l: Line) -> Line {
     let k = l.name;
     match k {
         0x1626f6f6b => named(l, 1, 2),
+        0x16465736b => at_desk(l),
         0x16f70656e => named(l, 2, 1),
         0x1736561726368 => named(l, 3, 1),
         0x17065656b => named(l, 4, 1),

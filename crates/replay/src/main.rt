@@ -18,7 +18,6 @@ mod words;
 use batch::calls::NUMBERS;
 use forest::dump::LONGEST_DUMP;
 use forest::dump::dump;
-use forest::make::make;
 use forest::serve_calls::serve_calls;
 use steps::Step;
 
@@ -36,7 +35,7 @@ fn all(out: &mut [u8], input: &mut [u8], bytes: &mut [u8], room: &mut [u8]) -> u
         match step {
             Step::Book => {
                 let n = steps::least(m.line.bytes, bytes.len());
-                let made = make(&bytes[..n], m.line.a);
+                let made = calls::take_book(&bytes[..n], m.line.a, m.line.desk);
                 let making = made.making;
                 forest = made.forest;
                 m = steps::booked(out, m, making);

@@ -31,17 +31,17 @@ enum-told c = search needs
 least-requires : tie.Need-least-requires Inv-loop μ-loop
 least-requires c κs = search needs
 
-slice-reshare-prefix-make : tie.Need-slice-reshare-prefix-make Inv-loop μ-loop
-slice-reshare-prefix-make c = search needs
+slice-reshare-prefix-take-book : tie.Need-slice-reshare-prefix-take-book Inv-loop μ-loop
+slice-reshare-prefix-take-book c = search needs
 
-slice-aggregate-make : tie.Need-slice-aggregate-make Inv-loop μ-loop
-slice-aggregate-make c =
+slice-aggregate-take-book : tie.Need-slice-aggregate-take-book Inv-loop μ-loop
+slice-aggregate-take-book c =
     let call = c .before .least in
     let l = c .before .before .before .before .before .before .before .loop in
     sym (length-take-le (call .result) (l .bytes) (call .ensures))
 
-make-requires : tie.Need-make-requires Inv-loop μ-loop
-make-requires c κs = search needs
+take-book-requires : tie.Need-take-book-requires Inv-loop μ-loop
+take-book-requires c κs = search needs
 
 booked-requires : tie.Need-booked-requires Inv-loop μ-loop
 booked-requires c κs = search needs
@@ -152,9 +152,9 @@ all-spec =
     sub-turns
     enum-told
     least-requires
-    slice-reshare-prefix-make
-    slice-aggregate-make
-    make-requires
+    slice-reshare-prefix-take-book
+    slice-aggregate-take-book
+    take-book-requires
     booked-requires
     loop-less
     loop-again
