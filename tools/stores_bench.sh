@@ -1,5 +1,5 @@
 #!/usr/bin/env bash
-# ns an operation of the stores, by the difference of two clocks. Usage: tools/stores_bench.sh, after `rt check stores_bench`.
+# ns an operation of the stores, and the reading of a book, by the difference of two clocks. Usage: tools/stores_bench.sh, after `rt check stores_bench`.
 set -euo pipefail
 cd "$(dirname "$0")/.."
 bench=target/bin/stores_bench
@@ -20,11 +20,11 @@ if ! [ -x "$bench" ]; then
 fi
 
 # The program picks what it runs by the number of its arguments.
-run() { # label, arguments, turns
+run() { # label, arguments, turns, and a book where one is read
     local words=() began ended
     for ((i = 0; i < $2; i++)); do words+=(x); done
     began=$(date +%s%N)
-    "$bench" "${words[@]}" >/dev/null
+    "$bench" "${words[@]}" >/dev/null <"${4:-/dev/null}"
     ended=$(date +%s%N)
     awk -v l="$1" -v t=$((ended - began)) -v n="$3" 'BEGIN { printf "%-52s %8.1f ns\n", l, t / n }'
 }
@@ -41,3 +41,7 @@ run 'answer looked up at index 15 of 16' 9 10000000
 run 'answer looked up at index 255 of 256' 10 1000000
 run 'answer pushed again, the last of 16' 11 1000000
 run 'answer pushed again, the last of 256' 12 1000000
+for book in clauses-256-alike clauses-256-twice largest p1; do
+    run "$book read" 13 20000 "papers/$book.book"
+    run "$book read at the desk" 14 20000 "papers/$book.book"
+done

@@ -1,4 +1,10 @@
-// Runs one operation of the stores many times, for a clock outside: how many arguments there are names it. With none it only says so.
+// Runs one operation of the stores, or the reading of a book, many times, for a clock outside: how many arguments there are names it. With
+// none it only says so.
+use book::Book;
+use book::Reading;
+use book::desk::desk;
+use book::read;
+use intake::input;
 use rings::ring_at;
 use rings::ring_enqueue;
 use stores::places::Places;
@@ -230,6 +236,48 @@ fn following(n: u16, live: u16) -> u16 {
     if n < live { n + 1 } else { n }
 }
 
+// Of each array of a book one number, so that none of what was read goes unused.
+fn of_literals(b: Book, k: usize) -> usize {
+    let i = k % 2048;
+    b.literal_kind[i] as usize ^ b.literal_goal[i] as usize ^ b.literal_want[i] as usize
+}
+
+fn of_clauses(b: Book, k: usize) -> usize {
+    let c = k % 256;
+    b.clause_variant[c] as usize ^ b.clause_flags[c] as usize ^ b.clause_len[c] as usize
+}
+
+fn of_goals(b: Book, k: usize) -> usize {
+    let g = k % 64;
+    b.goal_first[g] as usize ^ b.goal_len[g] as usize ^ b.goal_flags[g] as usize
+}
+
+fn tally(r: Reading, k: usize) -> usize {
+    let b = r.book;
+    of_literals(b, k) ^ of_clauses(b, k) ^ of_goals(b, k) ^ r.number as usize
+}
+
+fn reading(bytes: &[u8], at_desk: bool) -> Reading {
+    if at_desk {
+        return desk(bytes);
+    }
+    read(bytes)
+}
+
+// The book of standard input is read, by the old entry or at the desk.
+fn readings(at_desk: bool, turns: usize) -> usize {
+    let mut bytes = [0u8; 20480];
+    let got = input(&mut bytes);
+    let n = got.count;
+    let mut last: usize = 0;
+    let mut i: usize = 0;
+    while i < turns {
+        last = tally(reading(&bytes[..n], at_desk), last);
+        i = i + 1;
+    }
+    last
+}
+
 fn run(k: usize) -> usize {
     match k {
         2 => places(16, 100000000),
@@ -244,6 +292,8 @@ fn run(k: usize) -> usize {
         11 => lookup(256, 255, 1000000),
         12 => pushes(15, 1000000),
         13 => pushes(255, 1000000),
+        14 => readings(false, 20000),
+        15 => readings(true, 20000),
         _ => 0,
     }
 }
@@ -253,7 +303,7 @@ fn main() {
     if k < 2 {
         io::write_all(
             1,
-            b"name an operation by the number of arguments: 1 to 12\n",
+            b"name an operation by the number of arguments: 1 to 14\n",
         );
         return;
     }
