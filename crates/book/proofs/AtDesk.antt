@@ -14,7 +14,7 @@ use Rattle.definitions.specs.Desk.{first-repeat, repeat-of, at-desk}
 use Rattle.book.specs.declared.Reading.{Reading}
 use Rattle.book.specs.declared.Repeat.{Repeat}
 use Rattle.book.specs.declared.Looked.{Looked}
-use Rattle.book.specs.View.{view, blank, seen, seen-by, Read, Taken}
+use Rattle.book.specs.View.{view, blank, seen-by, Read, Taken}
 use Rattle.book.specs.Repeats.{no-repeat, repeat-by, repeat-seen, Looks}
 
 -- `look`

@@ -3,14 +3,15 @@
 use Prim.Native.Nat.{ℕ, zero, suc, _+_, _*_, _-_, _%_, _≤_, _<_}
 use native.Mathlib.Omega.{arith}
 use mathlib.Core.Path.{_≡_, refl, sym, ap, ap₂, subst, _∙_}
-use mathlib.Core.Bool.{Bool, true, false, not, _&&_, true≢false}
+use mathlib.Core.Bool.{Bool, true, false, not, _&&_}
 use mathlib.Core.Option.{Option, none, some}
-use mathlib.Core.List.{List, [], _∷_, _++_}
+use mathlib.Core.List.{List, [], _∷_}
 use lib.ListN.{length, getD, set, length-set}
 use lib.Seq.{getD-set-same, getD-set-other}
 use lib.Dec.{eqb, ltb}
 use borrow.Author.Tests.{eq-eqb, ne-eqb, eqb-true, eqb-false, ltb-true, ltb-false}
 use Rattle.laws.specs.Spans.{span}
+use Rattle.laws.proofs.Bools.{was-true, was-false}
 use Rattle.laws.proofs.Spans.{length-span, span-snoc, span-left, span-done}
 use Rattle.definitions.specs.Book as said
 use Rattle.definitions.specs.Book.{Clause, Goal, want-of, bit0, bit1, flag}
@@ -18,19 +19,12 @@ use Rattle.definitions.specs.Desk as desks
 use Rattle.definitions.specs.Desk.{same-flag, same-want, same-literal, same-literals, same-clause, repeat-behind, repeat-from}
 use Rattle.definitions.specs.Lists.{push, position}
 use Rattle.definitions.proofs.Desk.{same-clause-is}
+use Rattle.definitions.proofs.Lists.{position-missed, position-found}
 use Rattle.book.specs.declared.Literal.{Literal}
 use Rattle.book.specs.View.{wanted, bit2, meant}
 use Rattle.book.specs.Access.{entry, literal-read}
 use Rattle.book.specs.Repeats.{Lent, lent, Keys, literals-read, clause-read, literal-number, wanted-number, want-number}
 use Rattle.book.specs.Repeats.{mix, mix-literal, literals-key, head-number, clause-key, Earlier}
-
-was-true : (b : Bool) → not b ≡ false → b ≡ true
-was-true true e = refl
-was-true false e = absurd (true≢false e)
-
-was-false : (b : Bool) → not b ≡ true → b ≡ false
-was-false true e = absurd (true≢false (sym e))
-was-false false e = refl
 
 -- Two literals.
 
@@ -361,27 +355,6 @@ module _ (clause : ℕ → Clause) (first c : ℕ) where
           none-before = λ i a b. x .none-before i a (omega arith);
           found = λ h. absurd (omega arith);
         }
-
--- The first place that passes a test.
-
-module _ {A : Type 0} (test : A → Bool) (f : ℕ → A) where
-  position-missed : (s n : ℕ) → ((i : ℕ) → s ≤ i → i < s + n → test (f i) ≡ false) → position test (span f s n) ≡ none
-  position-missed s zero h = refl
-  position-missed s (suc n) h =
-      rw (h s (omega arith) (omega arith), position-missed (suc s) n (λ i a b. h i (omega arith) (omega arith))) refl
-
-  position-found : (s n k : ℕ) → k < n → ((i : ℕ) → s ≤ i → i < s + k → test (f i) ≡ false) → test (f (s + k)) ≡ true
-      → position test (span f s n) ≡ some k
-  position-found s zero k lt h e = absurd (omega arith)
-  position-found s (suc n) zero lt h e =
-      let z : s + 0 ≡ s = omega arith in
-      rw (subst (λ (i : ℕ). test (f i) ≡ true) z e) refl
-  position-found s (suc n) (suc k) lt h e =
-      let z : s + suc k ≡ suc s + k = omega arith in
-      rw (
-        h s (omega arith) (omega arith),
-        position-found (suc s) n k (omega arith) (λ i a b. h i (omega arith) (omega arith)) (subst (λ (i : ℕ). test (f i) ≡ true) z e),
-      ) refl
 
 -- One goal: those behind place k decide, as long as none before it is the same as an earlier one.
 

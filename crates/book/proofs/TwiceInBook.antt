@@ -3,14 +3,12 @@ use Prim.Native.Nat.{ℕ, _+_, _*_, _-_, _≤_, _<_}
 use native.Mathlib.Omega.{arith}
 use mathlib.Core.Path.{_≡_, sym, ap, ap₂, _∙_}
 use mathlib.Core.Bool.{Bool, true, false}
-use mathlib.Core.Option.{Option, none, some}
+use mathlib.Core.Option.{some}
 use mathlib.Core.List.{List, []}
 use lib.ListN.{getD}
 use Rattle.laws.specs.Spans.{span}
 use Rattle.laws.proofs.Spans.{getD-span, span-ext, span-moved}
 use Rattle.definitions.specs.Book as said
-use Rattle.definitions.specs.Book.{Clause, Goal}
-use Rattle.definitions.specs.Desk as desks
 use Rattle.definitions.specs.Desk.{repeat-behind, repeat-from, first-repeat}
 use Rattle.book.specs.declared.Book.{Book}
 use Rattle.book.specs.declared.Repeat.{Repeat}

@@ -18,7 +18,6 @@ ghost use mathlib.Core.Bool.{_&&_};
 ghost use mathlib.Core.List.{[]};
 ghost use Prim.Native.Nat.{_+_, _*_, _<_, _≤_};
 ghost use lib.Dec.{eqb};
-ghost use lib.ListN.{getD};
 ghost use Rattle.definitions.specs.Book.{bit0, flag};
 ghost use Rattle.definitions.specs.Desk.{same-flag, same-want, same-literal, same-literals, same-clause, repeat-behind, first-repeat};
 ghost use Rattle.laws.specs.Spans.{span};

@@ -1,6 +1,6 @@
 -- The desk: two clauses pass its test exactly if they are the same one; a book that it takes is the one that `read` gives, and no goal of
 -- it has the same clause twice; a book that it turns down with 36 has two at the place that is told.
-use Prim.Native.Nat.{ℕ, zero, suc, _+_, _<_}
+use Prim.Native.Nat.{ℕ, zero, suc, _+_}
 use native.Mathlib.Omega.{arith}
 use mathlib.Core.Path.{_≡_, refl, sym, ap, ap₂, subst, _∙_}
 use mathlib.Core.Bool.{Bool, true, false, _&&_, true≢false, false≢true}

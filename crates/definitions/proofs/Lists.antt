@@ -9,6 +9,7 @@ use mathlib.Core.List.{List, [], _∷_, _++_, append-nil}
 use lib.ListN.{length, getElem?, set, take, drop, length-append, length-take, length-drop, drop-of-length-le}
 use lib.Seq.{take-append-seam}
 use lib.Dec.{eqb, eqb·suc-zero}
+use Rattle.laws.specs.Spans.{span}
 use Rattle.laws.proofs.Options.{no-such, same-some}
 use Rattle.laws.proofs.Bools.{case-bool}
 use Rattle.laws.proofs.Lists.{last-place, last-one, snoc}
@@ -145,6 +146,26 @@ module _ {A : Type 0} where
       at true q e h i k = absurd (no-such (sym e))
       at false q e h zero k = ap test (sym (same-some k)) ∙ q
       at false q e h (suc i) k = h (later (position test l) e) i a k
+
+module _ {A : Type 0} (test : A → Bool) (f : ℕ → A) where
+  -- of what a function gives at places side by side
+  pub position-missed : (s n : ℕ) → ((i : ℕ) → s ≤ i → i < s + n → test (f i) ≡ false) → position test (span f s n) ≡ none
+  position-missed s zero h = refl
+  position-missed s (suc n) h =
+      rw (h s (omega arith) (omega arith), position-missed (suc s) n (λ i a b. h i (omega arith) (omega arith))) refl
+
+  pub position-found : (s n k : ℕ) → k < n → ((i : ℕ) → s ≤ i → i < s + k → test (f i) ≡ false) → test (f (s + k)) ≡ true
+      → position test (span f s n) ≡ some k
+  position-found s zero k lt h e = absurd (omega arith)
+  position-found s (suc n) zero lt h e =
+      let z : s + 0 ≡ s = omega arith in
+      rw (subst (λ (i : ℕ). test (f i) ≡ true) z e) refl
+  position-found s (suc n) (suc k) lt h e =
+      let z : s + suc k ≡ suc s + k = omega arith in
+      rw (
+        h s (omega arith) (omega arith),
+        position-found (suc s) n k (omega arith) (λ i a b. h i (omega arith) (omega arith)) (subst (λ (i : ℕ). test (f i) ≡ true) z e),
+      ) refl
 
 -- What holds of each one.
 

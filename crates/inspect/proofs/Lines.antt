@@ -2,9 +2,9 @@
 -- each turn. Assumes nothing.
 use Prim.Native.Nat.{ℕ, suc, _+_, _-_, _*_, _<_, _≤_}
 use native.Mathlib.Omega.{arith}
-use mathlib.Core.Bool.{Bool, true, false, not, true≢false}
+use mathlib.Core.Bool.{Bool, true, false, not}
 use mathlib.Core.Option.{Option}
-use mathlib.Core.Path.{_≡_, refl, sym, ap, _∙_}
+use mathlib.Core.Path.{_≡_, sym, ap, _∙_}
 use mathlib.Core.List.{List, [], _∷_, _++_}
 use lib.ListN.{getD}
 use borrow.Author.Tests.{eq-eqb, ne-eqb}
@@ -17,6 +17,7 @@ use Rattle.definitions.specs.Book as Said
 use Rattle.definitions.specs.Book.{Literal, Clause, Goal, bit0, bit1}
 use Rattle.pen.specs.Pen.{Pen, put, put-all}
 use Rattle.laws.specs.Spans.{span}
+use Rattle.laws.proofs.Bools.{was-true, was-false}
 use Rattle.laws.proofs.Spans.{span-left, span-done}
 use Rattle.pen.proofs.Putting.{put-two, put-one, put-nothing, put-all-append}
 use Rattle.book.specs.declared.Book.{Book}
@@ -193,26 +194,18 @@ refused-said r p q e f = f ∙ ap (λ (b : Bool). put-all (book-words (seen-by b
 
 pub no-repeat-said : (r : Repeat) (p : Pen) → not (r .found) ≡ true → p ≡ put-all (desk-words (repeat-seen r)) p
 unfolding desk-words
-no-repeat-said r p e = on (r .found) refl
-  where
-    on : (b : Bool) → r .found ≡ b → p ≡ put-all (desk-words (repeat-seen r)) p
-    on true f = absurd (true≢false (sym e ∙ ap not f))
-    on false f = rw f (sym (put-nothing p))
+no-repeat-said r p e = rw (was-false (r .found) e) (sym (put-nothing p))
 
 pub repeat-said : (r : Repeat) (p q s t u : Pen) → not (r .found) ≡ false
     → q ≡ put-all (ascii "desk refused 36\ngoal " ++ decimal (r .goal)) p → s ≡ put-all (ascii ", clause " ++ decimal (r .clause)) q
     → t ≡ put-all (ascii ": the same as clause " ++ decimal (r .earlier)) s → u ≡ put-all (ascii "\n") t
     → u ≡ put-all (desk-words (repeat-seen r)) p
 unfolding desk-words
-repeat-said r p q s t u e a b c d = on (r .found) refl
-  where
-    on : (y : Bool) → r .found ≡ y → u ≡ put-all (desk-words (repeat-seen r)) p
-    on false k = absurd (true≢false (sym (ap not k) ∙ e))
-    on true k =
-        rw k
-        (put-two (ascii "desk refused 36\ngoal " ++ decimal (r .goal)) _ p q u a
-        (put-two (ascii ", clause " ++ decimal (r .clause)) _ q s u b
-        (put-two (ascii ": the same as clause " ++ decimal (r .earlier)) (ascii "\n") s t u c d)))
+repeat-said r p q s t u e a b c d =
+    rw (was-true (r .found) e)
+    (put-two (ascii "desk refused 36\ngoal " ++ decimal (r .goal)) _ p q u a
+    (put-two (ascii ", clause " ++ decimal (r .clause)) _ q s u b
+    (put-two (ascii ": the same as clause " ++ decimal (r .earlier)) (ascii "\n") s t u c d)))
 
 pub paper-said : (bytes : List ℕ) (l : Looked) (p q s : Pen) → Looks bytes l → q ≡ put-all (book-words (seen (l .reading))) p
     → s ≡ put-all (desk-words (repeat-seen (l .repeat))) q → s ≡ put-all (reading-words (Said.read bytes)) p

@@ -2,7 +2,7 @@
 use Prim.Native.Nat.{ℕ, zero, suc, _<_}
 use native.Mathlib.Omega.{arith}
 use mathlib.Core.Path.{_≡_, refl}
-use mathlib.Core.Bool.{Bool, true, false, _||_, true≢false, false≢true}
+use mathlib.Core.Bool.{Bool, true, false, not, _||_, true≢false, false≢true}
 use lib.Dec.{eqb}
 
 -- one test after another: the second is asked where the first is passed
@@ -31,6 +31,14 @@ both-true false b e = absurd (false≢true e)
 pub both-false : (a b : Bool) → (a || b) ≡ false → (a ≡ false) × (b ≡ false)
 both-false true b e = absurd (true≢false e)
 both-false false b e = (refl, e)
+
+pub was-true : (b : Bool) → not b ≡ false → b ≡ true
+was-true true e = refl
+was-true false e = absurd (true≢false e)
+
+pub was-false : (b : Bool) → not b ≡ true → b ≡ false
+was-false true e = absurd (false≢true e)
+was-false false e = refl
 
 -- what holds at each end of a test
 module _ {B : Type 0} (P : B → Type 0) where
