@@ -3,14 +3,12 @@ use Prim.Native.Nat.{ℕ}
 use native.Mathlib.Omega.{arith}
 use mathlib.Core.Path.{_≡_, sym, ap, _∙_}
 use mathlib.Core.Bool.{Bool, true, false}
-use mathlib.Core.Option.{Option, none, some}
-use mathlib.Core.List.{List, [], _∷_}
+use mathlib.Core.List.{List}
 use borrow.Author.Tests.{eq-eqb, ne-eqb}
-use Rattle.laws.proofs.Options.{no-such}
-use Rattle.definitions.specs.Refusal.{Refusable, refused, accepted, _refuses_, unless}
+use Rattle.definitions.specs.Refusal.{refused}
 use Rattle.definitions.specs.Book as said
-use Rattle.definitions.specs.Desk as desks
-use Rattle.definitions.specs.Desk.{first-repeat, repeat-of, at-desk}
+use Rattle.definitions.specs.Desk.{first-repeat, repeat-of}
+use Rattle.definitions.proofs.Desk.{desk-stops, desk-passes}
 use Rattle.book.specs.declared.Reading.{Reading}
 use Rattle.book.specs.declared.Repeat.{Repeat}
 use Rattle.book.specs.declared.Looked.{Looked}
@@ -35,17 +33,6 @@ module _ (bytes : List ℕ) (r : Reading) (h : Read bytes r) (p : Repeat) where
   }
 
 -- `desk`
-
-abbrev told-by : Option desks.Repeat → Bool
-told-by o = elim o [ none ↦ false | some r ↦ true ]
-
-desk-stops : (r : Refusable said.Book) (p : desks.Repeat) → repeat-of r ≡ some p → at-desk r ≡ refused 36
-desk-stops (refused n) p e = absurd (no-such e)
-desk-stops (accepted book) p e = ap (λ (o : Option desks.Repeat). unless (told-by o refuses 36 ∷ []) book) e
-
-desk-passes : (r : Refusable said.Book) → repeat-of r ≡ none → at-desk r ≡ r
-desk-passes (refused n) e = λ i. refused n
-desk-passes (accepted book) e = ap (λ (o : Option desks.Repeat). unless (told-by o refuses 36 ∷ []) book) e
 
 module _ (bytes : List ℕ) (l : Looked) (x : Looks bytes l) where
   pub turned-down : l .repeat .found ≡ true → (q : Reading) → q .number ≡ 36 → q .book ≡ blank → Taken bytes q

@@ -16,7 +16,8 @@ use Rattle.definitions.specs.Refusal.{Refusable, refused, accepted, _ref
 use Rattle.definitions.specs.Lists.{push, position}
 use Rattle.definitions.specs.Book.{Want, any, exactly, between, Literal, Positive, Negative, Clause, Goal, Book, read, read-ahead}
 use Rattle.definitions.specs.Desk.{same-flag, same-want, same-literal, same-literals, same-clause, Repeat, repeat-behind, repeat-from}
-use Rattle.definitions.specs.Desk.{first-repeat, repeats, at-desk, desk, make-at-desk, AllDiffer, NoRepeats, RepeatIn, RepeatAt}
+use Rattle.definitions.specs.Desk.{first-repeat, repeat-of, is-found, repeats, at-desk, desk, make-at-desk}
+use Rattle.definitions.specs.Desk.{AllDiffer, NoRepeats, RepeatIn, RepeatAt}
 use Rattle.definitions.specs.Tables.{Forest}
 use Rattle.definitions.specs.Forest.{make-of, make}
 use Rattle.definitions.proofs.Lists.{position-at, position-none}
@@ -230,15 +231,17 @@ none-found book apart = on (first-repeat book) refl
 -- The desk.
 
 -- by what `read` gave
-abbrev told-by : Option Repeat → Bool
-told-by o = elim o [ none ↦ false | some r ↦ true ]
+pub desk-stops : (r : Refusable Book) (p : Repeat) → repeat-of r ≡ some p → at-desk r ≡ refused 36
+desk-stops (refused n) p e = absurd (no-such e)
+desk-stops (accepted book) p e = ap (λ (o : Option Repeat). unless (is-found o refuses 36 ∷ []) book) e
 
-taken : (book : Book) → repeats book ≡ false → first-repeat book ≡ none
-taken book e = on (first-repeat book) refl e
-  where
-    on : (o : Option Repeat) → first-repeat book ≡ o → told-by o ≡ false → first-repeat book ≡ none
-    on none k x = k
-    on (some r) k x = absurd (true≢false x)
+pub desk-passes : (r : Refusable Book) → repeat-of r ≡ none → at-desk r ≡ r
+desk-passes (refused n) e = refl
+desk-passes (accepted book) e = ap (λ (o : Option Repeat). unless (is-found o refuses 36 ∷ []) book) e
+
+not-found : (o : Option Repeat) → is-found o ≡ false → o ≡ none
+not-found none e = refl
+not-found (some r) e = absurd (true≢false e)
 
 pub desk-reads : (bytes : List ℕ) (book : Book) → desk bytes ≡ accepted book → (read bytes ≡ accepted book) × NoRepeats book
 desk-reads bytes book e = on (read bytes) refl e
@@ -247,20 +250,15 @@ desk-reads bytes book e = on (read bytes) refl e
     on (refused n) k x = absurd (not-accepted x)
     on (accepted b) k x =
         let a = all-pass (repeats b refuses 36 ∷ []) b book x in
-        let apart : NoRepeats b = from-none 0 b (taken b (a .0 .0)) in
+        let apart : NoRepeats b = from-none 0 b (not-found (first-repeat b) (a .0 .0)) in
         (k ∙ ap accepted (a .1), subst NoRepeats (a .1) apart)
 
 pub desk-takes : (bytes : List ℕ) (book : Book) → read bytes ≡ accepted book → NoRepeats book → desk bytes ≡ accepted book
-desk-takes bytes book e apart =
-    ap at-desk e
-    ∙ ap (λ (o : Option Repeat). unless (told-by o refuses 36 ∷ []) book) (none-found book apart)
+desk-takes bytes book e apart = ap at-desk e ∙ desk-passes (accepted book) (none-found book apart)
 
 pub desk-refuses : (bytes : List ℕ) (book : Book) (r : Repeat) → read bytes ≡ accepted book → first-repeat book ≡ some r
     → (desk bytes ≡ refused 36) × RepeatAt book r
-desk-refuses bytes book r e f = (
-  ap at-desk e ∙ ap (λ (o : Option Repeat). unless (told-by o refuses 36 ∷ []) book) f,
-  repeat-is book r f,
-)
+desk-refuses bytes book r e f = (ap at-desk e ∙ desk-stops (accepted book) r f, repeat-is book r f)
 
 -- what `read` turns down the desk does, with the same number
 pub desk-unread : (bytes : List ℕ) (n : ℕ) → read bytes ≡ refused n → desk bytes ≡ refused n

@@ -78,8 +78,12 @@ first-repeat book = repeat-from 0 book
 abbrev pub repeat-of : Refusable Book → Option Repeat
 repeat-of r = elim r [ refused n ↦ none | accepted book ↦ first-repeat book ]
 
+abbrev pub is-found : Option Repeat → Bool
+is-found none = false
+is-found (some r) = true
+
 abbrev pub repeats : Book → Bool
-repeats book = elim (first-repeat book) [ none ↦ false | some r ↦ true ]
+repeats book = is-found (first-repeat book)
 
 -- what `read` took, with 36 tested after all of its numbers
 abbrev pub at-desk : Refusable Book → Refusable Book
