@@ -10,6 +10,8 @@ pub mod Course
 pub mod Fits
 pub mod Looks
 pub mod Limits
+pub mod SameClauses
+pub mod ClauseKeys
 pub mod Twice
 pub mod TwiceInBook
 pub mod AtDesk

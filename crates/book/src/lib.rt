@@ -5,8 +5,10 @@ mod decode;
 pub mod desk;
 mod faults;
 pub mod fitting;
+mod keys;
 mod reader;
 mod repeats;
+mod same;
 mod widths;
 
 pub use crate::reader::read;

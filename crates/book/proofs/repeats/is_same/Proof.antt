@@ -1,5 +1,5 @@
 -- `is_same`: clauses whose keys differ are not the same.
-use Rattle.book.proofs.Twice.{keys-tell}
+use Rattle.book.proofs.ClauseKeys.{keys-tell}
 use borrow.Author.Needs.{needs}
 use Rattle.book.proofs.repeats.is_same.Statement.{statement}
 use Rattle.book.proofs.repeats.is_same.Tie as tie

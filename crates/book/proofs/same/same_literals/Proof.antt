@@ -4,9 +4,9 @@ use mathlib.Core.Path.{_≡_}
 use borrow.Author.Needs.{needs}
 use Rattle.definitions.specs.Desk.{same-literals}
 use Rattle.book.specs.Repeats.{literals-read}
-use Rattle.book.proofs.Twice.{literals-left, counts-apart, all-left, none-left, more-left, two-differ}
-use Rattle.book.proofs.repeats.same_literals.Statement.{statement}
-use Rattle.book.proofs.repeats.same_literals.Tie as tie
+use Rattle.book.proofs.SameClauses.{literals-left, counts-apart, all-left, none-left, more-left, two-differ}
+use Rattle.book.proofs.same.same_literals.Statement.{statement}
+use Rattle.book.proofs.same.same_literals.Tie as tie
 
 abbrev Inv-loop : tie.InvT-loop
 Inv-loop len kind goal want c d count j₀ j =

@@ -1,8 +1,8 @@
 -- `literal_number`: by the sign.
-use Rattle.book.proofs.Twice.{number-not, number-positive}
+use Rattle.book.proofs.ClauseKeys.{number-not, number-positive}
 use borrow.Author.Needs.{needs}
-use Rattle.book.proofs.repeats.literal_number.Statement.{statement}
-use Rattle.book.proofs.repeats.literal_number.Tie as tie
+use Rattle.book.proofs.keys.literal_number.Statement.{statement}
+use Rattle.book.proofs.keys.literal_number.Tie as tie
 
 cast-n : tie.Need-cast-n
 cast-n c = search needs

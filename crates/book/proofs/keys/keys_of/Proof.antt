@@ -2,9 +2,9 @@
 use Prim.Native.Nat.{_-_}
 use borrow.Author.Needs.{needs}
 use Rattle.book.specs.Repeats.{lent}
-use Rattle.book.proofs.Twice.{KeysSoFar, no-keys, more-keys, all-keys}
-use Rattle.book.proofs.repeats.keys_of.Statement.{statement}
-use Rattle.book.proofs.repeats.keys_of.Tie as tie
+use Rattle.book.proofs.ClauseKeys.{KeysSoFar, no-keys, more-keys, all-keys}
+use Rattle.book.proofs.keys.keys_of.Statement.{statement}
+use Rattle.book.proofs.keys.keys_of.Tie as tie
 
 abbrev Inv-loop : tie.InvT-loop
 Inv-loop variants flags len kind goal want clauses keys₀ c₀ keys c = KeysSoFar (lent variants flags len kind goal want) clauses keys c

@@ -1,8 +1,8 @@
 -- `same_literal`: by the signs, what is wanted, and the goals.
-use Rattle.book.proofs.Twice.{two-nots, not-and-positive, positive-and-not, two-positive, wants-apart}
+use Rattle.book.proofs.SameClauses.{two-nots, not-and-positive, positive-and-not, two-positive, wants-apart}
 use borrow.Author.Needs.{needs}
-use Rattle.book.proofs.repeats.same_literal.Statement.{statement}
-use Rattle.book.proofs.repeats.same_literal.Tie as tie
+use Rattle.book.proofs.same.same_literal.Statement.{statement}
+use Rattle.book.proofs.same.same_literal.Tie as tie
 
 is-negative-requires : tie.Need-is-negative-requires
 is-negative-requires c κs = search needs

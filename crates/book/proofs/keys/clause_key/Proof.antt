@@ -6,9 +6,9 @@ use Rattle.laws.specs.Spans.{span}
 use Rattle.book.specs.Access.{literal-read}
 use Rattle.book.specs.View.{meant}
 use Rattle.book.specs.Repeats.{lent, clause-read, literals-key, clause-key}
-use Rattle.book.proofs.Twice.{key-begun, key-more, key-done}
-use Rattle.book.proofs.repeats.clause_key.Statement.{statement}
-use Rattle.book.proofs.repeats.clause_key.Tie as tie
+use Rattle.book.proofs.ClauseKeys.{key-begun, key-more, key-done}
+use Rattle.book.proofs.keys.clause_key.Statement.{statement}
+use Rattle.book.proofs.keys.clause_key.Tie as tie
 
 abbrev Inv-loop : tie.InvT-loop
 Inv-loop variants flags len kind goal want c count key₀ j₀ key j =

@@ -1,8 +1,8 @@
 -- `same_clause`: by variant, flags and literals, in this order.
-use Rattle.book.proofs.Twice.{variants-apart, weak-apart, outsized-apart, literals-decide}
+use Rattle.book.proofs.SameClauses.{variants-apart, weak-apart, outsized-apart, literals-decide}
 use borrow.Author.Needs.{needs}
-use Rattle.book.proofs.repeats.same_clause.Statement.{statement}
-use Rattle.book.proofs.repeats.same_clause.Tie as tie
+use Rattle.book.proofs.same.same_clause.Statement.{statement}
+use Rattle.book.proofs.same.same_clause.Tie as tie
 
 variant-of-requires : tie.Need-variant-of-requires
 variant-of-requires c κs = search needs

@@ -1,8 +1,8 @@
 -- `same_want`: two ranges, a range and one variant, or two of these.
-use Rattle.book.proofs.Twice.{ends-other, ends-same, range-and-one, one-and-range, two-wants}
+use Rattle.book.proofs.SameClauses.{ends-other, ends-same, range-and-one, one-and-range, two-wants}
 use borrow.Author.Needs.{needs}
-use Rattle.book.proofs.repeats.same_want.Statement.{statement}
-use Rattle.book.proofs.repeats.same_want.Tie as tie
+use Rattle.book.proofs.same.same_want.Statement.{statement}
+use Rattle.book.proofs.same.same_want.Tie as tie
 
 is-ranged-requires : tie.Need-is-ranged-requires
 is-ranged-requires c κs = search needs

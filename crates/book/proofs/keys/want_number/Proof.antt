@@ -1,8 +1,8 @@
 -- `want_number`: of a "not", of a range, of one variant.
-use Rattle.book.proofs.Twice.{wants-nothing, wants-range, wants-one}
+use Rattle.book.proofs.ClauseKeys.{wants-nothing, wants-range, wants-one}
 use borrow.Author.Needs.{needs}
-use Rattle.book.proofs.repeats.want_number.Statement.{statement}
-use Rattle.book.proofs.repeats.want_number.Tie as tie
+use Rattle.book.proofs.keys.want_number.Statement.{statement}
+use Rattle.book.proofs.keys.want_number.Tie as tie
 
 is-negative-requires : tie.Need-is-negative-requires
 is-negative-requires c κs = search needs

@@ -1,8 +1,8 @@
 -- `with_literal`: two numbers are mixed in.
-use Rattle.book.proofs.Twice.{literal-mixed}
+use Rattle.book.proofs.ClauseKeys.{literal-mixed}
 use borrow.Author.Needs.{needs}
-use Rattle.book.proofs.repeats.with_literal.Statement.{statement}
-use Rattle.book.proofs.repeats.with_literal.Tie as tie
+use Rattle.book.proofs.keys.with_literal.Statement.{statement}
+use Rattle.book.proofs.keys.with_literal.Tie as tie
 
 want-number-requires : tie.Need-want-number-requires
 want-number-requires c κs = search needs

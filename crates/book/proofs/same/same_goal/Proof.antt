@@ -1,8 +1,8 @@
 -- `same_goal`: by the goals, and then by the marks.
-use Rattle.book.proofs.Twice.{goal-other, goal-same}
+use Rattle.book.proofs.SameClauses.{goal-other, goal-same}
 use borrow.Author.Needs.{needs}
-use Rattle.book.proofs.repeats.same_goal.Statement.{statement}
-use Rattle.book.proofs.repeats.same_goal.Tie as tie
+use Rattle.book.proofs.same.same_goal.Statement.{statement}
+use Rattle.book.proofs.same.same_goal.Tie as tie
 
 returns : tie.Need-returns
 returns c = search goal-other
