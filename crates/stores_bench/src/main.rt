@@ -18,7 +18,7 @@ use stores::table::number_answer;
 use stores::table::push_answer;
 use strands::Answer;
 use strands::answers::blank_answer;
-ghost use Prim.Native.Nat.{_≤_, _<_};
+ghost use Prim.Native.Nat.{_<_};
 
 fn small(x: usize) -> u8
     ensures { λ r. ⌜ r < 256 ⌝ }
