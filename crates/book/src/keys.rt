@@ -38,7 +38,7 @@ fn want_number(l: Literal) -> u32
     l.want as u32
 }
 
-// The factor is odd, so that keys differ where one number of one literal does.
+// The factor is odd, so that two keys differ where just one number of one literal does.
 fn mixed(key: u32, n: u32) -> u32
     ensures { λ r. ⌜ r ≡ mix key n ⌝ }
 {

@@ -40,7 +40,7 @@ fn is_same(
     same_clause(variants, flags, len, kind, goal, want, c, d)
 }
 
-// The first clause from a place on that is the same as clause c, and c where none before it is.
+// The first clause from `first` on that is the same as clause c; c itself, where none before it is.
 fn earlier(
     keys: &[u32; 256],
     variants: &[u16; 256],
@@ -81,7 +81,7 @@ pub(crate) fn no_repeat() -> Repeat
     }
 }
 
-// Of the clauses of a goal, which are so many from a place on.
+// The first repeat of goal g, whose clauses are so many from `first` on.
 fn goal_repeat(
     keys: &[u32; 256],
     variants: &[u16; 256],
@@ -118,7 +118,8 @@ fn goal_repeat(
     no_repeat()
 }
 
-// Of a book. Its arrays are copied before they are lent: where a struct's own are lent, the compiler copies all of it at each call.
+// The first repeat of a book. Its arrays are copied before they are lent: where a struct's own are lent, the compiler copies all of it at
+// each call.
 pub(crate) fn book_repeat(b: Book) -> Repeat
     requires { ⌜ Sound b ⌝ }
     ensures { λ r. ⌜ repeat-seen r ≡ first-repeat (view b) ⌝ }

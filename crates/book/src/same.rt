@@ -15,7 +15,7 @@ ghost use Rattle.definitions.specs.Desk.{same-flag, same-want, same-literal, sa
 ghost use Rattle.book.specs.View.{meant, wanted, bit2};
 ghost use Rattle.book.specs.Repeats.{lent, literals-read, clause-read};
 
-// No flags, or two of them.
+// Both are set, or neither is.
 fn same_flag(a: bool, b: bool) -> bool
     ensures { λ r. ⌜ r ≡ same-flag a b ⌝ }
 {
@@ -41,6 +41,7 @@ fn same_want(l: Literal, m: Literal) -> bool
     l.want == m.want
 }
 
+// The goals of two literals, and their marks.
 fn same_goal(l: Literal, m: Literal) -> bool
     ensures { λ r. ⌜ r ≡ (eqb (l .goal) (m .goal) && same-flag (bit0 (l .kind)) (bit0 (m .kind))) ⌝ }
 {
