@@ -10,7 +10,6 @@ use borrow.Author.Tests.{lt-ltb}
 use Rattle.definitions.specs.{MAX}
 use Rattle.definitions.specs.Ascii.{ascii}
 use Rattle.definitions.specs.Book.{Book}
-use Rattle.definitions.specs.Desk.{desk, make-at-desk}
 use Rattle.definitions.specs.Forest as said
 use Rattle.definitions.specs.Listing.{Line, line, Next, next-index, next-goal, the-end, next}
 use Rattle.definitions.specs.Listing.{list-from, list-goals, line-bytes, lines-bytes, decimal, listing, listing-clock}
@@ -28,7 +27,7 @@ use Rattle.forest.specs.declared.make.Making.the-variants as makings
 use Rattle.forest.specs.declared.open.Opened.{Opened}
 use Rattle.forest.specs.declared.open.Opening.{Opening}
 use Rattle.forest.specs.declared.open.Opening.the-variants as openings
-use Rattle.forest.specs.Make.{MakeAtDeskSays, made-by}
+use Rattle.forest.specs.Make.{MadeSays, MakeAtDeskSays, made-by}
 use Rattle.forest.specs.Open.{OpenSays}
 use Rattle.forest.specs.ServeCalls.{ServeCallsSays}
 use Rattle.forest.specs.View.{view, Sound}
@@ -337,16 +336,16 @@ made-unmarked given limit f e = on given (eqb limit 0 || leb MAX limit) e
     on (accepted book) true k = absurd (not-accepted k)
     on (accepted book) false k = ap (λ (g : tables.Forest). g .mark) (sym (same-accepted k))
 
-module _ (bytes : List ℕ) (r : Made) (says : MakeAtDeskSays bytes listing-clock r) (p q : Pen) where
-  pub made-ready : r .making ≡ makings.Made → Ready (r .forest)
-  made-ready e = record {
-    sound = says .sound e;
-    unmarked = unmarked-by (sym (says .says) ∙ ap (λ (m : Making). made-by m (view (r .forest))) e);
-  }
-    where
-      unmarked-by : make-at-desk bytes listing-clock ≡ accepted (view (r .forest)) → view (r .forest) .mark ≡ 0
-      unmarked-by k = made-unmarked (desk bytes) listing-clock (view (r .forest)) k
+-- by either entry
+pub made-ready : (given : Refusable Book) (r : Made) → MadeSays (said.make-of given listing-clock) r → r .making ≡ makings.Made
+    → Ready (r .forest)
+made-ready given r says e = record {
+  sound = says .sound e;
+  unmarked = made-unmarked given listing-clock (view (r .forest))
+      (sym (says .says) ∙ ap (λ (m : Making). made-by m (view (r .forest))) e);
+}
 
+module _ (bytes : List ℕ) (r : Made) (says : MakeAtDeskSays bytes listing-clock r) (p q : Pen) where
   pub listing-made : r .making ≡ makings.Made → q ≡ put-all (lines-bytes (rest-lines 0 (r .forest))) p → q ≡ put-all (listing bytes) p
   listing-made e put =
       put ∙ ap (λ (n : ℕ). put-all (lines-bytes (list-goals n 0 (view (r .forest)))) p) (all-of (goal-count (r .forest)))

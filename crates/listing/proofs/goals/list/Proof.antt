@@ -1,4 +1,5 @@
 -- `list`: by whether the desk took the book.
+use Rattle.definitions.specs.Desk.{desk}
 use Rattle.listing.proofs.Loops.{made-ready, listing-made, listing-refused}
 use borrow.Author.Needs.{needs}
 use Rattle.listing.proofs.goals.list.Statement.{statement}
@@ -17,7 +18,9 @@ enum-told : tie.Need-enum-told
 enum-told c = search needs
 
 list-goals-requires : tie.Need-list-goals-requires
-list-goals-requires c κs = search made-ready
+list-goals-requires c κs =
+    let m = c .before .before .before .before in
+    made-ready (desk (m .before .before .before .args .bytes .now)) _ (m .make-at-desk .ensures) (search needs)
 
 same-length : tie.Need-same-length
 same-length c = search needs
