@@ -1,5 +1,5 @@
--- What the proofs of `keys` cite, over variables. Two clauses whose keys differ are not the same, since the key is a function of the clause;
--- nothing more is asked of it.
+-- What the proofs of `keys` cite, over variables. Two clauses whose keys differ are not the same, since the key is a function of the
+-- clause; nothing more is asked of it.
 use Prim.Native.Nat.{ℕ, zero, suc, _+_, _*_, _-_, _%_, _≤_, _<_}
 use native.Mathlib.Omega.{arith}
 use mathlib.Core.Path.{_≡_, refl, sym, ap, ap₂, _∙_}

@@ -109,49 +109,45 @@ module _ (f h : ℕ → said.Literal) (j n : ℕ) (X : Bool) (left : same-litera
 
 -- the literals of two clauses that are read
 module _ (len kind goal want : List ℕ) (c d : ℕ) where
+  abbrev of-c : ℕ → said.Literal
+  of-c i = meant (literal-read kind goal want c i)
+
+  abbrev of-d : ℕ → said.Literal
+  of-d i = meant (literal-read kind goal want d i)
+
   abbrev pub literals-left : (count j : ℕ) → Bool
-  literals-left count j =
-      same-literals (span (λ i. meant (literal-read kind goal want c i)) j (count - j))
-      (span (λ i. meant (literal-read kind goal want d i)) j (count - j))
+  literals-left count j = same-literals (span of-c j (count - j)) (span of-d j (count - j))
 
   abbrev pub LiteralsSame : Bool → Type 0
   LiteralsSame b = b ≡ same-literals (literals-read len kind goal want c) (literals-read len kind goal want d)
 
   module _ (count other : ℕ) (own : count ≡ entry 256 len c) (its : other ≡ entry 256 len d) where
     pub counts-apart : (other ≡ count → ⊥) → LiteralsSame false
-    counts-apart apart =
-        lengths-apart (λ i. meant (literal-read kind goal want c i)) (λ i. meant (literal-read kind goal want d i)) 0 0 (entry 256 len c)
-        (entry 256 len d) (λ e. apart (its ∙ e ∙ sym own))
+    counts-apart apart = lengths-apart of-c of-d 0 0 (entry 256 len c) (entry 256 len d) (λ e. apart (its ∙ e ∙ sym own))
 
     pub all-left : other ≡ count
         → literals-left count 0 ≡ same-literals (literals-read len kind goal want c) (literals-read len kind goal want d)
     all-left e =
         let z : count - 0 ≡ count = omega arith in
-        ap₂ (λ (m n : ℕ). same-literals (span (λ i. meant (literal-read kind goal want c i)) 0 m)
-        (span (λ i. meant (literal-read kind goal want d i)) 0 n)) (z ∙ own) (z ∙ sym e ∙ its)
+        ap₂ (λ (m n : ℕ). same-literals (span of-c 0 m) (span of-d 0 n)) (z ∙ own) (z ∙ sym e ∙ its)
 
   module _ (count j : ℕ)
       (left : literals-left count j ≡ same-literals (literals-read len kind goal want c) (literals-read len kind goal want d)) where
     pub none-left : count ≤ j → LiteralsSame true
-    none-left ge =
-        literals-same (λ i. meant (literal-read kind goal want c i)) (λ i. meant (literal-read kind goal want d i)) j count _ left ge
+    none-left ge = literals-same of-c of-d j count _ left ge
 
     module _ (l m : Literal) (s : Bool) (lt : j < count) (own : l ≡ literal-read kind goal want c j)
         (its : m ≡ literal-read kind goal want d j)
         (says : s ≡ same-literal (meant l) (meant m)) where
-      told : same-literal (meant (literal-read kind goal want c j)) (meant (literal-read kind goal want d j)) ≡ s
+      told : same-literal (of-c j) (of-d j) ≡ s
       told = ap₂ (λ (x y : Literal). same-literal (meant x) (meant y)) (sym own) (sym its) ∙ sym says
 
       pub more-left : not s ≡ false
           → literals-left count (j + 1) ≡ same-literals (literals-read len kind goal want c) (literals-read len kind goal want d)
-      more-left e =
-          literals-again (λ i. meant (literal-read kind goal want c i)) (λ i. meant (literal-read kind goal want d i)) j count _ left lt
-          (told ∙ was-true s e)
+      more-left e = literals-again of-c of-d j count _ left lt (told ∙ was-true s e)
 
       pub two-differ : not s ≡ true → LiteralsSame false
-      two-differ e =
-          literals-differ (λ i. meant (literal-read kind goal want c i)) (λ i. meant (literal-read kind goal want d i)) j count _ left lt
-          (told ∙ was-false s e)
+      two-differ e = literals-differ of-c of-d j count _ left lt (told ∙ was-false s e)
 
 -- Two clauses that are read: by variant, flags and literals, in this order.
 
