@@ -14,7 +14,6 @@ sees that each script finds the fault of the definitions beside it. Books are in
 """
 import argparse
 import os
-import subprocess
 import sys
 
 import papers
@@ -189,14 +188,7 @@ def read_so(oracle, some):
 
 def listed_so(who, words, some):
     """Where a program lists otherwise."""
-    wrong = []
-    for one in some:
-        run = subprocess.run(words, input=one.data, capture_output=True)
-        said = run.stdout.decode(errors="replace")
-        if run.returncode != 0 or not one.listed_as(said):
-            wrong.append("%s, %s\nmust be listed as:\n%s\n%s (status %d):\n%s" % (
-                one.title, one.data.hex()[:200], one.listing or one.made("desk"), who, run.returncode, said[:400]))
-    return wrong
+    return sides.listed_otherwise(who, words, [(one.title, one.data, one.listing or one.made("desk"), one.listed_as) for one in some])
 
 
 def told(who, some, wrong):

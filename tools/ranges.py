@@ -12,10 +12,10 @@ as a file, is in no script: the largest ones are more than the definitions are c
 """
 import argparse
 import os
-import subprocess
 import sys
 
 import papers
+import sides
 import tree
 from limits import hexed, lines
 
@@ -123,16 +123,16 @@ def files():
     return {name + ".script": script(about, books) for name, (about, books) in BOOKS.items()}
 
 
+def listed_as(listing):
+    """The test of what is listed; where no listing stands here, that the book is read."""
+    return lambda said: said.startswith("0 ") if listing is None else said == listing
+
+
 def held(who, words):
     """Whether a program lists each book so; tells where it doesn't."""
-    all_books, wrong = list(cases()), []
-    for title, data, listing in all_books:
-        run = subprocess.run(words, input=data, capture_output=True)
-        said = run.stdout.decode(errors="replace")
-        right = said.startswith("0 ") if listing is None else said == listing
-        if run.returncode != 0 or not right:
-            wrong.append("%s, %s\nmust be listed as:\n%s%s (status %d):\n%s" % (
-                title, data.hex()[:200], listing or "a book that is read\n", who, run.returncode, said[:400]))
+    all_books = list(cases())
+    wrong = sides.listed_otherwise(who, words, [
+        (title, data, listing or "a book that is read", listed_as(listing)) for title, data, listing in all_books])
     print("\n".join(wrong + ["ranges: %d books, %d of which %s lists otherwise" % (len(all_books), len(wrong), who)]))
     return not wrong
 

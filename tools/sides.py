@@ -31,6 +31,18 @@ def said(words, script, seconds=None):
     return run.stdout
 
 
+def listed_otherwise(who, words, books):
+    """Where a program lists a book otherwise than it must. A book: its title and bytes, what must be listed, and a test of what is."""
+    wrong = []
+    for title, data, listing, right in books:
+        run = subprocess.run(words, input=data, capture_output=True)
+        listed = run.stdout.decode(errors="replace")
+        if run.returncode != 0 or not right(listed):
+            wrong.append("%s, %s\nmust be listed as:\n%s\n%s (status %d):\n%s" % (
+                title, data.hex()[:200], listing.rstrip("\n"), who, run.returncode, listed[:400]))
+    return wrong
+
+
 def is_skipped(line):
     """A line of spaces, or a comment; one that is no text is malformed, however it begins."""
     if not line.startswith(b"#"):
