@@ -27,6 +27,7 @@ pub mod MoreCases
 pub mod RangeCases
 pub mod DeskCases
 pub mod Model
+pub mod Levels
 pub mod Claim
 pub mod Instances
 
