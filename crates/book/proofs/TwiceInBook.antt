@@ -31,7 +31,7 @@ from-first b =
     ap (λ (n : ℕ). repeat-from 0 (span (goal-viewed b) 0 n)) z
 
 module _ (b : Book) (s : Sound b) where
-  clause-shown : (c : ℕ) → c < b .clauses → clause-read (lent-by b) c ≡ clause-viewed b c
+  pub clause-shown : (c : ℕ) → c < b .clauses → clause-read (lent-by b) c ≡ clause-viewed b c
   clause-shown c h =
       let v = variant-is b s c h in
       let x = cannot-prove-is b s c h in
@@ -76,7 +76,7 @@ module _ (b : Book) (s : Sound b) where
     pub goal-keys : (keys : List ℕ) → Keys (lent-by b) keys (b .clauses) → Keys (lent-by b) keys (first + count)
     goal-keys keys known c l = known c (omega (arith, goal-inside))
 
-    goal-shown : span (clause-read (lent-by b)) first count ≡ goal-viewed b g .clauses
+    pub goal-shown : span (clause-read (lent-by b)) first count ≡ goal-viewed b g .clauses
     goal-shown =
         span-ext (clause-read (lent-by b)) (clause-viewed b) first count (λ i x y. clause-shown i (omega (arith, goal-inside)))
         ∙ ap₂ (λ (m n : ℕ). span (clause-viewed b) m n) first-there count-there
