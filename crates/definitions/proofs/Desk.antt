@@ -26,11 +26,11 @@ use Rattle.definitions.proofs.Prefix.{read-take}
 
 -- The same clause.
 
-and-both : (a b : Bool) → (a && b) ≡ true → (a ≡ true) × (b ≡ true)
+pub and-both : (a b : Bool) → (a && b) ≡ true → (a ≡ true) × (b ≡ true)
 and-both true b e = (refl, e)
 and-both false b e = absurd (false≢true e)
 
-both-and : {a b : Bool} → a ≡ true → b ≡ true → (a && b) ≡ true
+pub both-and : {a b : Bool} → a ≡ true → b ≡ true → (a && b) ≡ true
 both-and p q = ap₂ _&&_ p q
 
 flag-is : (a b : Bool) → same-flag a b ≡ true → a ≡ b

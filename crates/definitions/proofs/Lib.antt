@@ -7,3 +7,7 @@ pub mod Prefix
 pub mod Fitting
 pub mod Largest
 pub mod Desk
+pub mod PlainTest
+pub mod Passes
+pub mod Trails
+pub mod Levels
