@@ -1,1 +1,2 @@
 pub mod Profile
+pub mod Asks
