@@ -1,3 +1,5 @@
 pub mod Asking
 pub mod Tested
 pub mod Settling
+pub mod Raising
+pub mod Closing

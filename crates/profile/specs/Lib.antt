@@ -1,2 +1,3 @@
 pub mod Profile
 pub mod Asks
+pub mod Reach

@@ -3,6 +3,8 @@
 mod asks;
 mod plain;
 mod settle;
+mod closure;
+mod matrix;
 
 // What the check gives. Number 0: levels[g] is the least level of goal g, for each of so many goals. Another number: the paper is refused
 // by it, and there are no levels; with 38 on_cycle[g] is 1 for each goal g that is on a cycle through "not". All else is 0.
