@@ -3,3 +3,5 @@ pub mod Tested
 pub mod Settling
 pub mod Raising
 pub mod Closing
+pub mod Members
+pub mod Leading

@@ -31,21 +31,21 @@ Here i j most v x y = (x ≡ i) × (y ≡ j) × (v ≤ most)
 abbrev pub Names : Literal → (v j : ℕ) → Type 0
 Names l v j = (goal-of l ≡ j) × (v ≤ suc (is-not l))
 
-module _ (lens kinds goals wants : List ℕ) where
-  -- literal k of clause c
-  abbrev pub said-literal : (c k : ℕ) → Literal
-  said-literal c k = meant (literal-read kinds goals wants c k)
+-- literal k of clause c, by the arrays of a book
+abbrev pub said-literal : (kinds goals wants : List ℕ) → (c k : ℕ) → Literal
+said-literal kinds goals wants c k = meant (literal-read kinds goals wants c k)
 
+module _ (lens kinds goals wants : List ℕ) where
   -- its literals name goals that the matrix has a row for
   abbrev pub NamesFew : (c : ℕ) → Type 0
   NamesFew c = (k : ℕ) → k < entry 256 lens c → literal-read kinds goals wants c k .goal < 64
 
   abbrev pub ClauseLeads : (c v j : ℕ) → Type 0
-  ClauseLeads c v j = (k : ℕ) × (k < entry 256 lens c) × Names (said-literal c k) v j
+  ClauseLeads c v j = (k : ℕ) × (k < entry 256 lens c) × Names (said-literal kinds goals wants c k) v j
 
-  -- a goal leads to itself, and by each of its clauses, so many from `first` on
-  abbrev pub GoalLeads : (g first count v j : ℕ) → Type 0
-  GoalLeads g first count v j = Here g g 1 v g j ⊎ ((d : ℕ) × (d < count) × ClauseLeads (first + d) v j)
+  -- by so many clauses from `first` on
+  abbrev pub GoalLeads : (first count v j : ℕ) → Type 0
+  GoalLeads first count v j = (d : ℕ) × (d < count) × ClauseLeads (first + d) v j
 
 abbrev pub Leads : Book → (from to : ℕ) → Type 0
 Leads book from to = (n : ℕ) × Walk book from to n

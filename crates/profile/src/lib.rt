@@ -4,6 +4,7 @@ mod asks;
 mod plain;
 mod settle;
 mod closure;
+mod edges;
 mod matrix;
 
 // What the check gives. Number 0: levels[g] is the least level of goal g, for each of so many goals. Another number: the paper is refused
