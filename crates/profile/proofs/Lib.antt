@@ -5,3 +5,4 @@ pub mod Raising
 pub mod Closing
 pub mod Members
 pub mod Leading
+pub mod Ending

@@ -34,14 +34,14 @@ module _ {A : Type 0} (f : ℕ → A) where
       let lt = r .1 in let z : suc s + r .0 ≡ s + suc (r .0) = omega arith in (suc (r .0), omega arith, r .2 ∙ ap f z))
       (List·Memᴰ·cases-cons m)
 
-clauses-in : (f : ℕ → Goal) (s n g : ℕ) → g < n → clauses-of (span f s n) g ≡ f (s + g) .clauses
+pub clauses-in : (f : ℕ → Goal) (s n g : ℕ) → g < n → clauses-of (span f s n) g ≡ f (s + g) .clauses
 clauses-in f s zero g h = absurd (omega arith)
 clauses-in f s (suc n) zero h = let e : s ≡ s + 0 = omega arith in ap (λ (i : ℕ). f i .clauses) e
 clauses-in f s (suc n) (suc g) h =
     let e : suc s + g ≡ s + suc g = omega arith in
     clauses-in f (suc s) n g (omega arith) ∙ ap (λ (i : ℕ). f i .clauses) e
 
-clauses-past : (f : ℕ → Goal) (s n g : ℕ) → n ≤ g → clauses-of (span f s n) g ≡ []
+pub clauses-past : (f : ℕ → Goal) (s n g : ℕ) → n ≤ g → clauses-of (span f s n) g ≡ []
 clauses-past f s zero g h = refl
 clauses-past f s (suc n) zero h = absurd (omega arith)
 clauses-past f s (suc n) (suc g) h = clauses-past f (suc s) n g (omega arith)

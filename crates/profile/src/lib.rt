@@ -1,11 +1,11 @@
 // The levelled profile (change request 12): whether a paper is plain and levelled, so that what is promised of such books holds of it, and
 // the least level of each of its goals.
 mod asks;
-mod plain;
-mod settle;
 mod closure;
 mod edges;
 mod matrix;
+mod plain;
+mod settle;
 
 // What the check gives. Number 0: levels[g] is the least level of goal g, for each of so many goals. Another number: the paper is refused
 // by it, and there are no levels; with 38 on_cycle[g] is 1 for each goal g that is on a cycle through "not". All else is 0.
