@@ -10,7 +10,7 @@ use Rattle.definitions.specs.{TableIndex}
 use Rattle.definitions.specs.Refusal.{Refusable, accepted}
 use Rattle.definitions.specs.Stop.{Stops, stop, go}
 use Rattle.definitions.specs.Lists.{push}
-use Rattle.definitions.specs.Book.{clause-count}
+use Rattle.definitions.specs.Book.{Book, clause-count}
 use Rattle.definitions.specs.Tables.{Forest}
 use Rattle.definitions.specs.Logic.{NoMoreSolutions, Floundered, QuantumExceeded, NegativeCycle, InvalidAnswer}
 use Rattle.definitions.specs.Turn.{Ending, found, fail, cut, stopped}
@@ -19,6 +19,7 @@ use Rattle.definitions.specs.Desk.{make-at-desk}
 use Rattle.definitions.specs.Calls.{Call, opens, searches, peeks, asks-future, Reply, refusal, table, searched, peeked, future}
 use Rattle.definitions.specs.Calls.{Sitting, sitting, searches-made, Called, calls}
 use Rattle.definitions.specs.Model.{Plain, Levelled, In}
+use Rattle.definitions.specs.Levels.{level-in, check-levels}
 
 -- "An answer or 'no more solutions' of a search or peek names the goal whose open, right after that call, would give the same table."
 abbrev pub Names : Forest → TableIndex → (goal : ℕ) → Type 0
@@ -151,15 +152,20 @@ abbrev pub all-granted : List Called → ℕ
 all-granted [] = 0
 all-granted (c ∷ cs) = granted (c .reply) + all-granted cs
 
--- Demand 3 of a way in: for every byte string that makes a forest by it with this clock limit, every levelling of its book and every list
--- of calls. Goals and clauses are those in the book's bytes.
+-- A forest just made with this clock limit is as promised, by the levels of its book and for every list of calls. Goals and clauses are
+-- those in the book's bytes.
+abbrev pub AsPromised : Forest → (clock-limit : ℕ) → (level : ℕ → ℕ) → Type 0
+AsPromised f clock-limit level =
+    (cs : List Call) →
+    AllSay (In (f .book) level) clock-limit false (calls (sitting f) cs)
+    × (exceeded (calls (sitting f) cs) ≤ length (f .book) + clause-count (f .book) + all-granted (calls (sitting f) cs))
+
+-- Demand 3 of a way in: for every byte string that makes a forest by it, and every levelling of its book.
 abbrev pub Demand3Of : ((bytes : List ℕ) → (clock-limit : ℕ) → Refusable Forest) → Type 0
 Demand3Of making =
     (bytes : List ℕ) (clock-limit : ℕ) (f : Forest) → making bytes clock-limit ≡ accepted f →
     (level : ℕ → ℕ) → Plain (f .book) → Levelled (f .book) level →
-    (cs : List Call) →
-    AllSay (In (f .book) level) clock-limit false (calls (sitting f) cs)
-    × (exceeded (calls (sitting f) cs) ≤ length (f .book) + clause-count (f .book) + all-granted (calls (sitting f) cs))
+    AsPromised f clock-limit level
 
 abbrev pub Demand3 : Type 0
 Demand3 = Demand3Of make
@@ -167,3 +173,17 @@ Demand3 = Demand3Of make
 -- through the desk
 abbrev pub Demand3AtDesk : Type 0
 Demand3AtDesk = Demand3Of make-at-desk
+
+-- What the check of a paper says beforehand (change request 12): a forest that is made at the desk of a paper which it accepts is as
+-- promised, by the levels that it gives.
+abbrev pub AcceptedAsPromised : Type 0
+AcceptedAsPromised =
+    (bytes : List ℕ) (ls : List ℕ) → check-levels bytes ≡ accepted ls →
+    (clock-limit : ℕ) (f : Forest) → make-at-desk bytes clock-limit ≡ accepted f →
+    AsPromised f clock-limit (level-in ls)
+
+-- The model: which levels of a plain book are taken doesn't matter.
+abbrev pub OneModel : Type 0
+OneModel =
+    (book : Book) → Plain book → (k l : ℕ → ℕ) → Levelled book k → Levelled book l →
+    (goal : ℕ) → (In book k goal → In book l goal) × (In book l goal → In book k goal)

@@ -19,7 +19,7 @@ use Rattle.definitions.specs.Calls.{Sitting, sitting, Call, opens, searches, pe
 use Rattle.definitions.specs.Calls.{searches-made, calls}
 use Rattle.definitions.specs.Model.{Plain, Levelled, In}
 use Rattle.definitions.specs.Claim.{MarkedSays, reply-stopped, AllSay, exceeded-among, exceeded, granted, all-granted, Demand3}
-use Rattle.definitions.specs.Claim.{Demand3AtDesk}
+use Rattle.definitions.specs.Claim.{AsPromised, Demand3AtDesk}
 use Rattle.definitions.proofs.Desk.{made-as-read}
 use Rattle.definitions.proofs.Refusal.{not-accepted, all-pass}
 use Rattle.laws.proofs.Options.{no-such}
@@ -131,10 +131,8 @@ start book = record {
   unmade = λ g n. (refl, refl, refl);
 }
 
-from-start : (book : Book) (limit : ℕ) (level : ℕ → ℕ) → limit ≤ MAX → Good book → Plain book → Levelled book level → (cs : List Call)
-    → AllSay (In book level) limit false (calls (sitting (forest-of book limit 0 [] 0)) cs)
-    × (exceeded (calls (sitting (forest-of book limit 0 [] 0)) cs)
-    ≤ length book + clause-count book + all-granted (calls (sitting (forest-of book limit 0 [] 0)) cs))
+from-start : (book : Book) (limit : ℕ) (level : ℕ → ℕ) → limit ≤ MAX → Good book → Plain book → Levelled book level
+    → AsPromised (forest-of book limit 0 [] 0) limit level
 from-start book limit level room good plain levelled cs =
     let sums = clauses-total book in
     let G : Premises = record {
@@ -178,9 +176,7 @@ made-from bytes limit f e = go (read bytes) refl e
 
 pub demand-3 : Demand3
 demand-3 bytes limit f e level = let m = made-from bytes limit f e in
-    subst (λ (z : Forest). Plain (z .book) → Levelled (z .book) level → (cs : List Call)
-    → AllSay (In (z .book) level) limit false (calls (sitting z) cs)
-    × (exceeded (calls (sitting z) cs) ≤ length (z .book) + clause-count (z .book) + all-granted (calls (sitting z) cs)))
+    subst (λ (z : Forest). Plain (z .book) → Levelled (z .book) level → AsPromised z limit level)
     (m .is) (from-start (m .book) limit level (m .room) (m .good))
 
 -- through the desk: a forest that is made there is one that `make` gives

@@ -3,6 +3,7 @@
 pub mod Plain
 pub mod Link
 pub mod Demand
+pub mod Profile
 pub mod Consequences
 pub mod Before
 pub mod ListingStored

@@ -55,10 +55,10 @@ module _ (G : Premises) where
   ending-says found-is a ready t g i at x = (
     refl,
     named G a ready t g at (D.In (G .book) (G .level))
-        (in-from (G .book) (G .level) (G .sound) g x),
+        (in-from (G .book) (G .level) (G .sound .plain) g x),
   )
   ending-says none-is a ready t g i at x = λ z. named G a ready t g at (λ h. D.In (G .book) (G .level) h → ⊥)
-      (λ y. x z (in-to (G .book) (G .level) (G .sound) g y))
+      (λ y. x z (in-to (G .book) (G .level) (G .sound .plain) g y))
   ending-says again-is a ready t g i at x = tt
   ending-says cut-is a ready t g i at x = tt
   ending-says (stopped-is o) a ready t g i at x = (refl, let y = ready .bound in omega arith)

@@ -10,7 +10,7 @@ use mathlib.Core.List.{List, [], _∷_, _++_, List·Memᴰ, List·Memᴰ·head, 
 use lib.ListN.{length, getElem?}
 use Rattle.definitions.specs.Book.{any, Book, Goal, Clause, Literal, Positive, Negative, clause-count}
 use Rattle.definitions.specs.Model as D
-use Rattle.definitions.specs.Model.{Each, PlainClause, clauses-of, LevelLiteral, Holds, holds-end, holds-below, holds-here, holds-not}
+use Rattle.definitions.specs.Model.{Each, PlainClause, PlainGoal, clauses-of, LevelLiteral, Holds, holds-end, holds-below, holds-here, holds-not}
 use Rattle.laws.proofs.Sums.{sum, sum-shift}
 use Rattle.laws.proofs.Lists.{place-under}
 use Rattle.promises.proofs.Plain.Model as P
@@ -20,7 +20,7 @@ use Rattle.promises.proofs.Plain.Claim.{Inside}
 use Rattle.promises.proofs.Plain.Machine as M
 use Rattle.promises.proofs.Link.View.{literals}
 use Rattle.promises.proofs.Link.Tables.{lit, body-of, bodies, book-of}
-use Rattle.promises.proofs.Link.Making.{Sound, literals-back}
+use Rattle.promises.proofs.Link.Making.{literals-back}
 
 -- Clauses and bodies.
 
@@ -37,12 +37,16 @@ each-mem : {A : Type 0} (Q : A → Type 0) (l : List A) → Each Q l → (a : A)
 each-mem Q [] e a m = absurd (List·Memᴰ·not-nil m)
 each-mem Q (x ∷ l) e a m = either (λ k. subst Q (sym k) (e .0)) (λ k. each-mem Q l (e .1) a k) (List·Memᴰ·cases-cons m)
 
-pub plain-clause : (book : Book) → Sound book → (g : ℕ) (c : Clause) → List·Memᴰ c (clauses-of book g) → PlainClause c
-plain-clause book sound g c m = go (getElem? book g) refl m
+-- every goal of the book is plain
+abbrev pub PlainAt : Book → Type 0
+PlainAt book = (g : ℕ) (G : Goal) → getElem? book g ≡ some G → PlainGoal G
+
+pub plain-clause : (book : Book) → PlainAt book → (g : ℕ) (c : Clause) → List·Memᴰ c (clauses-of book g) → PlainClause c
+plain-clause book plain g c m = go (getElem? book g) refl m
   where
     go : (o : Option Goal) → getElem? book g ≡ o → List·Memᴰ c (elim o [ none ↦ [] | some G ↦ G .clauses ]) → PlainClause c
     go none e x = absurd (List·Memᴰ·not-nil x)
-    go (some G) e x = each-mem PlainClause (G .clauses) (sound .plain g G e .clauses-plain) c x
+    go (some G) e x = each-mem PlainClause (G .clauses) (plain g G e .clauses-plain) c x
 
 -- Levels.
 
@@ -98,7 +102,7 @@ module _ (book : Book) (level : ℕ → ℕ) (n : ℕ) where
   holds-append Q l k (holds-here {ls = ls} c e m x r) y = holds-here c e m x (holds-append Q ls k r y)
   holds-append Q l k (holds-not {ls = ls} x r) y = holds-not x (holds-append Q ls k r y)
 
-  module _ (sound : Sound book) (Q R : ℕ → Type 0) (to : (h : ℕ) → Q h → R h) (from : (h : ℕ) → R h → Q h) where
+  module _ (plain : PlainAt book) (Q R : ℕ → Type 0) (to : (h : ℕ) → Q h → R h) (from : (h : ℕ) → R h → Q h) where
     holds-derived : {ls : List Literal} → Holds book level n Q ls → Derived (book-of book) level n R (body-of ls)
     holds-derived holds-end = done
     holds-derived (holds-below {goal = g} {ls = ls} x r) =
@@ -114,7 +118,7 @@ module _ (book : Book) (level : ℕ → ℕ) (n : ℕ) where
     clause-holds g b m x =
         let r = bodies-mem (clauses-of book g) b m in
         let e : literals b ≡ r .0 .literals = ap literals (r .2)
-        ∙ literals-back (r .0 .literals) (plain-clause book sound g (r .0) (r .1) .literals-plain) in
+        ∙ literals-back (r .0 .literals) (plain-clause book plain g (r .0) (r .1) .literals-plain) in
         (r .0, r .1, subst (Holds book level n Q) e x)
 
     derived-holds : {b : Body} → Derived (book-of book) level n R b → Holds book level n Q (literals b)
@@ -127,7 +131,7 @@ module _ (book : Book) (level : ℕ → ℕ) (n : ℕ) where
     derived-holds (absent {h = g} {b = b} x r) = holds-append Q (literals b) (Negative g false ∷ []) (derived-holds r)
         (holds-not (λ y. x (to g y)) holds-end)
 
-module _ (book : Book) (level : ℕ → ℕ) (sound : Sound book) where
+module _ (book : Book) (level : ℕ → ℕ) (plain : PlainAt book) where
   abbrev Both : ℕ → Type 0
   Both n = (h : ℕ) → (D.Below book level n h → P.Below (book-of book) level n h)
       × (P.Below (book-of book) level n h → D.Below book level n h)
@@ -139,7 +143,7 @@ module _ (book : Book) (level : ℕ → ℕ) (sound : Sound book) where
       to (inl x) = inl (both h .0 x)
       to (inr (e, x)) = inr (
         e,
-        holds-derived book level n sound (D.Below book level n) (P.Below (book-of book) level n) (λ g. both g .0)
+        holds-derived book level n plain (D.Below book level n) (P.Below (book-of book) level n) (λ g. both g .0)
             (λ g. both g .1) x,
       )
 
@@ -147,7 +151,7 @@ module _ (book : Book) (level : ℕ → ℕ) (sound : Sound book) where
       from (inl x) = inl (both h .1 x)
       from (inr (e, x)) = inr (
         e,
-        derived-holds book level n sound (D.Below book level n) (P.Below (book-of book) level n) (λ g. both g .0)
+        derived-holds book level n plain (D.Below book level n) (P.Below (book-of book) level n) (λ g. both g .0)
             (λ g. both g .1) x,
       )
 
@@ -156,10 +160,10 @@ module _ (book : Book) (level : ℕ → ℕ) (sound : Sound book) where
   below-both (suc n) = below-next n (below-both n)
 
   pub in-to : (h : ℕ) → D.In book level h → P.In (book-of book) level h
-  in-to h x = let both = below-both (level h) in holds-derived book level (level h) sound (D.Below book level (level h))
+  in-to h x = let both = below-both (level h) in holds-derived book level (level h) plain (D.Below book level (level h))
       (P.Below (book-of book) level (level h)) (λ g. both g .0) (λ g. both g .1) x
 
   pub in-from : (h : ℕ) → P.In (book-of book) level h → D.In book level h
   in-from h x = let both = below-both (level h) in
-      derived-holds book level (level h) sound (D.Below book level (level h)) (P.Below (book-of book) level (level h)) (λ g. both g .0)
+      derived-holds book level (level h) plain (D.Below book level (level h)) (P.Below (book-of book) level (level h)) (λ g. both g .0)
       (λ g. both g .1) x

@@ -46,7 +46,7 @@ goals-names n (H ∷ gs) e zero G k = subst (λ (z : Goal). Each (λ c. Names n 
     (clauses-names n (H .clauses) (both-true (clauses-name n (H .clauses)) (goals-name n gs) e .0))
 goals-names n (H ∷ gs) e (suc g) G k = goals-names n gs (both-true (clauses-name n (H .clauses)) (goals-name n gs) e .1) g G k
 
-plain-at : (book : Book) → Plain book → (g : ℕ) (G : Goal) → getElem? book g ≡ some G → PlainGoal G
+pub plain-at : (book : Book) → Plain book → (g : ℕ) (G : Goal) → getElem? book g ≡ some G → PlainGoal G
 plain-at [] p g G k = absurd (no-such k)
 plain-at (H ∷ book) p zero G k = subst PlainGoal (same-some k) (p .0)
 plain-at (H ∷ book) p (suc g) G k = plain-at book (p .1) g G k

@@ -70,17 +70,17 @@ abbrev pub Blocked : (I U : ℕ → Type 0) → Body → Type 0
 Blocked I U b = FalseBody I b ⊎ ((h : ℕ) × List·Memᴰ (pos h) b × U h)
 
 module _ (book : Book) (level : ℕ → ℕ) where
-  below-in : (n h : ℕ) → Below book level n h → In book level h
+  pub below-in : (n h : ℕ) → Below book level n h → In book level h
   below-in zero h b = absurd b
   below-in (suc n) h (inl b) = below-in n h b
   below-in (suc n) h (inr p) = subst (λ m. Derived book level m (Below book level m) (pos h ∷ [])) (sym (p .0)) (p .1)
 
-  below-lt : (n h : ℕ) → Below book level n h → level h < n
+  pub below-lt : (n h : ℕ) → Below book level n h → level h < n
   below-lt zero h b = absurd b
   below-lt (suc n) h (inl b) = let i = below-lt n h b in omega arith
   below-lt (suc n) h (inr p) = let i = p .0 in omega arith
 
-  in-below : (n h : ℕ) → In book level h → level h < n → Below book level n h
+  pub in-below : (n h : ℕ) → In book level h → level h < n → Below book level n h
   in-below zero h i lt = absurd (omega arith)
   in-below (suc n) h i lt = go (in-below n h i) (decLt (level h) n)
     where
