@@ -1,14 +1,14 @@
 -- Warshall's method, step by step: a row joined to another, all rows joined to row k, and what is closed then.
 use Prim.Native.Nat.{ℕ, _+_, _≤_, _<_}
 use native.Mathlib.Omega.{arith}
-use mathlib.Core.Path.{_≡_, refl, sym, ap, subst, _∙_}
+use mathlib.Core.Path.{_≡_, refl, sym, subst, _∙_}
 use mathlib.Core.Bool.{Bool, true, false}
 use mathlib.Core.Logic.{_⊎_, inl, inr, ⊎-elim}
 use mathlib.Core.List.{List}
 use lib.Dec.{eqb}
 use borrow.Author.Tests.{eqb-true, eqb-false}
-use Rattle.profile.specs.Reach.{cell, Raised, Here, Way, straight, over, Row, Rows, Closed}
-use Rattle.profile.proofs.Raising.{Steps, raised-as, raised-none, raised-more}
+use Rattle.profile.specs.Reach.{cell, Raised, Here, straight, over, Row, Rows, Closed}
+use Rattle.profile.proofs.Raising.{Steps, raised-as, raised-more}
 
 -- A row.
 

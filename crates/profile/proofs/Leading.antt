@@ -8,19 +8,20 @@ use mathlib.Core.List.{List, List·Memᴰ}
 use lib.ListN.{length, getD, replicate, length-replicate}
 use Rattle.laws.proofs.Spans.{length-span}
 use Rattle.definitions.specs.Book as said
-use Rattle.definitions.specs.Book.{Clause, Positive, Negative, goal-of, bit1}
+use Rattle.definitions.specs.Book.{Clause, goal-of, bit1}
 use Rattle.definitions.specs.Model.{clauses-of}
 use Rattle.definitions.specs.Levels.{Walk, is-not}
 use Rattle.definitions.specs.Levels.Walk.{stays, goes}
 use Rattle.book.specs.declared.Book.{Book}
 use Rattle.book.specs.declared.Literal.{Literal}
 use Rattle.book.specs.Access.{entry, literal-read}
-use Rattle.book.specs.View.{signed, meant, goal-viewed, view, Sound}
+use Rattle.book.specs.View.{meant, goal-viewed, view, Sound}
 use Rattle.book.specs.Repeats.{clause-read}
 use Rattle.book.proofs.TwiceInBook.{lent-by}
 use Rattle.profile.specs.Reach.{cell, Raised, Here, Names, said-literal, NamesFew, ClauseLeads, GoalLeads, Leads, NotStep, Edges}
 use Rattle.profile.proofs.Raising.{Steps, raised-as, raised-more, raised-then}
-use Rattle.profile.proofs.Members.{has-clause, clause-placed, placed-clause, literal-placed, placed-literal}
+use Rattle.profile.proofs.Walks.{is-not-most}
+use Rattle.profile.proofs.Members.{goal-of-meant, has-clause, clause-placed, placed-clause, literal-placed, placed-literal}
 
 zeros-at : (n p : ℕ) → _≡_ {A = ℕ} (getD (replicate n 0) p 0) 0
 zeros-at zero p = refl
@@ -32,23 +33,12 @@ zeros-whole r = r .whole ∙ length-replicate {A = ℕ} 4096 0
 
 -- A literal.
 
-goal-of-signed : (negative : Bool) (g : ℕ) (w : said.Want) (outsized : Bool) → goal-of (signed negative g w outsized) ≡ g
-goal-of-signed true g w outsized = refl
-goal-of-signed false g w outsized = refl
-
-goal-of-meant : (l : Literal) → goal-of (meant l) ≡ l .goal
-goal-of-meant l = goal-of-signed (bit1 (l .kind)) _ _ _
-
 module _ (l : Literal) (p : Bool) (lp : p ≡ bit1 (l .kind)) where
   pub edge-of-not : p ≡ true → 2 ≡ suc (is-not (meant l))
   edge-of-not e = rw (sym lp ∙ e) refl
 
   pub edge-of-positive : p ≡ false → 1 ≡ suc (is-not (meant l))
   edge-of-positive e = rw (sym lp ∙ e) refl
-
-is-not-most : (l : said.Literal) → is-not l ≤ 1
-is-not-most (Positive g w outsized) = omega arith
-is-not-most (Negative g outsized) = omega arith
 
 -- A clause.
 

@@ -4,19 +4,27 @@ use native.Mathlib.Omega.{arith}
 use mathlib.Core.Path.{_≡_, refl, sym, ap, subst, _∙_}
 use mathlib.Core.Bool.{Bool, true, false}
 use mathlib.Core.Logic.{⊎-elim}
-use mathlib.Core.List.{List, [], List·Memᴰ, List·Memᴰ·head, List·Memᴰ·tail, List·Memᴰ·not-nil, List·Memᴰ·cases-cons}
+use mathlib.Core.List.{[], List·Memᴰ, List·Memᴰ·head, List·Memᴰ·tail, List·Memᴰ·not-nil, List·Memᴰ·cases-cons}
 use lib.Dec.{ltb}
 use borrow.Author.Tests.{ltb-true, ltb-false}
 use Rattle.laws.specs.Spans.{span}
-use Rattle.definitions.specs.Book.{Literal, Clause, Goal}
+use Rattle.definitions.specs.Book.{Want, Literal, Clause, Goal, goal-of, bit1}
 use Rattle.definitions.specs.Model.{clauses-of}
 use Rattle.book.specs.declared.Book.{Book}
+use Rattle.book.specs.declared.Literal as kept
 use Rattle.book.specs.Access.{entry, literal-read}
-use Rattle.book.specs.View.{meant, goal-viewed, view, Sound}
+use Rattle.book.specs.View.{signed, meant, goal-viewed, view, Sound}
 use Rattle.book.specs.Repeats.{clause-read}
 use Rattle.book.proofs.Looks.{entry-in, literal-names}
 use Rattle.book.proofs.TwiceInBook.{lent-by, goal-inside, goal-shown}
 use Rattle.profile.specs.Reach.{said-literal, NamesFew}
+
+goal-of-signed : (negative : Bool) (g : ℕ) (w : Want) (outsized : Bool) → goal-of (signed negative g w outsized) ≡ g
+goal-of-signed true g w outsized = refl
+goal-of-signed false g w outsized = refl
+
+pub goal-of-meant : (l : kept.Literal) → goal-of (meant l) ≡ l .goal
+goal-of-meant l = goal-of-signed (bit1 (l .kind)) _ _ _
 
 module _ {A : Type 0} (f : ℕ → A) where
   pub mem-span : (s n k : ℕ) → k < n → List·Memᴰ (f (s + k)) (span f s n)
@@ -79,14 +87,18 @@ module _ (b : Book) where
         (mem-span (clause-read (lent-by b)) first count d l)
 
   -- the literals of a goal's clauses name goals of the book
-  pub names-few : (s : Sound b) (g first count : ℕ) → g < b .goals → first ≡ entry 64 (b .«goal_first») g
-      → count ≡ entry 64 (b .«goal_len») g → (d : ℕ) → d < count
-      → NamesFew (b .«clause_len») (b .«literal_kind») (b .«literal_goal») (b .«literal_want») (first + d)
-  names-few s g first count h hf hc d l k lt =
-      let inside = goal-inside b s g first count h hf hc in
-      let c : first + d < b .clauses = omega arith in
-      let e = entry-in 256 (b .«clause_len») (first + d) (omega (arith, s .few-clauses)) in
-      omega (arith, literal-names b s (first + d) c k (omega arith), s .few-goals)
+  module _ (s : Sound b) (g first count : ℕ) (h : g < b .goals) (hf : first ≡ entry 64 (b .«goal_first») g)
+      (hc : count ≡ entry 64 (b .«goal_len») g) (d : ℕ) (l : d < count) where
+    names-goal : (k : ℕ) → k < entry 256 (b .«clause_len») (first + d)
+        → literal-read (b .«literal_kind») (b .«literal_goal») (b .«literal_want») (first + d) k .goal < b .goals
+    names-goal k lt =
+        let inside = goal-inside b s g first count h hf hc in
+        let c : first + d < b .clauses = omega arith in
+        let e = entry-in 256 (b .«clause_len») (first + d) (omega (arith, s .few-clauses)) in
+        literal-names b s (first + d) c k (omega arith)
+
+    pub names-few : NamesFew (b .«clause_len») (b .«literal_kind») (b .«literal_goal») (b .«literal_want») (first + d)
+    names-few k lt = omega (arith, names-goal k lt, s .few-goals)
 
   module _ (c : ℕ) where
     abbrev literal : ℕ → Literal
@@ -104,3 +116,13 @@ module _ (b : Book) where
         let z : 0 + k ≡ k = omega arith in
         subst (λ (i : ℕ). List·Memᴰ (literal i) (clause-read (lent-by b) c .literals)) z
         (mem-span literal 0 (entry 256 (b .«clause_len») c) k h)
+
+  pub names-inside : (s : Sound b) (g : ℕ) (c : Clause) (l : Literal) → List·Memᴰ c (clauses-of (view b) g) → List·Memᴰ l (c .literals)
+      → goal-of l < b .goals
+  names-inside s g c l mc ml =
+      let h = has-clause g c mc in
+      let x = clause-placed s g h c mc in
+      let at = first s g h + x .0 in
+      let y = literal-placed at l (subst (λ (k : Clause). List·Memᴰ l (k .literals)) (x .2) ml) in
+      let e = ap goal-of (y .2) ∙ goal-of-meant (literal-read (b .«literal_kind») (b .«literal_goal») (b .«literal_want») at (y .0)) in
+      omega (arith, names-goal s g (first s g h) (count s g h) h refl refl (x .0) (x .1) (y .0) (y .1))

@@ -2,6 +2,7 @@
 // the least level of each of its goals.
 mod asks;
 mod closure;
+mod cycles;
 mod edges;
 mod matrix;
 mod plain;

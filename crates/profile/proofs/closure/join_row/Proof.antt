@@ -27,7 +27,9 @@ returns : tie.Need-returns Inv-loop μ-loop
 returns c = search not-joined
 
 loop-holds : tie.Need-loop-holds Inv-loop μ-loop
-loop-holds c = (omega arith, raised-none (Joint (c .before .before .args .m .now) (c .before .before .args .k) (c .before .before .args .i)) _)
+loop-holds c =
+    let a = c .before .before .args in
+    (omega arith, raised-none (Joint (a .m .now) (a .k) (a .i)) _)
 
 mul-x : tie.Need-mul-x Inv-loop μ-loop
 mul-x c = search needs
