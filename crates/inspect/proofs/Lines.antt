@@ -19,7 +19,7 @@ use Rattle.pen.specs.Pen.{Pen, put, put-all}
 use Rattle.laws.specs.Spans.{span}
 use Rattle.laws.proofs.Bools.{was-true, was-false}
 use Rattle.laws.proofs.Spans.{span-left, span-done}
-use Rattle.pen.proofs.Putting.{put-two, put-one, put-nothing, put-all-append}
+use Rattle.pen.proofs.Putting.{put-two, put-one, put-nothing, put-all-append, put-left, put-ended}
 use Rattle.book.specs.declared.Book.{Book}
 use Rattle.book.specs.declared.Reading.{Reading}
 use Rattle.book.specs.declared.Repeat.{Repeat}
@@ -57,13 +57,6 @@ module _ {A : Type 0} (f : ℕ → A) where
 put-three : (a b d : List ℕ) (p q r : Pen) → q ≡ put-all a p → r ≡ put-all b q → put-all d r ≡ put-all (a ++ (b ++ d)) p
 put-three a b d p q r e f =
     ap (put-all d) (f ∙ ap (put-all b) e) ∙ sym (put-all-append b d (put-all a p)) ∙ sym (put-all-append a (b ++ d) p)
-
--- a text, and what is left; and nothing left
-left-over : (a d : List ℕ) (p q : Pen) → q ≡ put-all a p → put-all d q ≡ put-all (a ++ d) p
-left-over a d p q e = ap (put-all d) e ∙ sym (put-all-append a d p)
-
-all-said : (a d : List ℕ) (p q : Pen) → a ≡ [] → put-all a q ≡ put-all d p → q ≡ put-all d p
-all-said a d p q e f = sym (put-nothing q) ∙ ap (λ (w : List ℕ). put-all w q) (sym e) ∙ f
 
 -- Literals.
 
@@ -124,14 +117,14 @@ pub clauses-step : (goal : ℕ) (f : ℕ → Clause) (s n k : ℕ) (p q start : 
     → q ≡ put-all (clause-words goal (f (s + k))) p
     → put-all (clauses-left goal f s n (k + 1)) q ≡ put-all (clauses-left goal f s n 0) start
 clauses-step goal f s n k p q start h i e =
-    left-over (clause-words goal (f (s + k))) (clauses-left goal f s n (k + 1)) p q e
+    put-left (clause-words goal (f (s + k))) (clauses-left goal f s n (k + 1)) p q e
     ∙ ap (λ (w : List ℕ). put-all w p) (sym (clauses-next goal f s n k h)) ∙ i
 
 pub clauses-said : (goal : ℕ) (f : ℕ → Clause) (s t n m k : ℕ) (p q : Pen) → n ≤ k → s ≡ t → n ≡ m
     → put-all (clauses-left goal f s n k) q ≡ put-all (clauses-left goal f s n 0) p
     → q ≡ put-all (clauses-words goal (span f t m)) p
 clauses-said goal f s t n m k p q h e g i =
-    all-said (clauses-left goal f s n k) (clauses-left goal f s n 0) p q (clauses-end goal f s n k h) i
+    put-ended (clauses-left goal f s n k) (clauses-left goal f s n 0) p q (clauses-end goal f s n k h) i
     ∙ ap (λ (l : List Clause). put-all (clauses-words goal l) p) (from-start f s n)
     ∙ ap (λ (x : ℕ). put-all (clauses-words goal (span f x n)) p) e
     ∙ ap (λ (x : ℕ). put-all (clauses-words goal (span f t x)) p) g
@@ -162,12 +155,12 @@ pub goals-step : (f : ℕ → Goal) (n g : ℕ) (p q start : Pen) → g < n
     → put-all (goals-left f n g) p ≡ put-all (goals-left f n 0) start → q ≡ put-all (goal-words g (f g)) p
     → put-all (goals-left f n (g + 1)) q ≡ put-all (goals-left f n 0) start
 goals-step f n g p q start h i e =
-    left-over (goal-words g (f g)) (goals-left f n (g + 1)) p q e ∙ ap (λ (w : List ℕ). put-all w p) (sym (goals-next f n g h)) ∙ i
+    put-left (goal-words g (f g)) (goals-left f n (g + 1)) p q e ∙ ap (λ (w : List ℕ). put-all w p) (sym (goals-next f n g h)) ∙ i
 
 pub goals-said : (f : ℕ → Goal) (n g : ℕ) (p q : Pen) → n ≤ g
     → put-all (goals-left f n g) q ≡ put-all (goals-left f n 0) p → q ≡ put-all (goals-words 0 (span f 0 n)) p
 goals-said f n g p q h i =
-    all-said (goals-left f n g) (goals-left f n 0) p q (goals-end f n g h) i
+    put-ended (goals-left f n g) (goals-left f n 0) p q (goals-end f n g h) i
     ∙ ap (λ (l : List Goal). put-all (goals-words 0 l) p) (from-start f 0 n)
 
 pub goal-all : (g : ℕ) (h : Goal) (p q r : Pen) → q ≡ put-all (goal-line g (h .coinductive) (h .floundered)) p

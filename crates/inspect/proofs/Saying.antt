@@ -4,17 +4,16 @@ use Prim.Native.Nat.{ℕ, zero, suc, _/_, _%_}
 use mathlib.Core.Bool.{Bool, true, false}
 use mathlib.Core.Path.{_≡_, refl, sym, ap, _∙_}
 use mathlib.Core.List.{List, _++_, append-nil}
-use lib.ListN.{getD, drop}
-use lib.Dec.{eqb}
 use borrow.Author.Tests.{eq-eqb, ne-eqb}
 use Rattle.definitions.specs.Ascii.{ascii}
 use Rattle.definitions.specs.Listing.{decimal}
 use Rattle.definitions.specs.Book.{Want, want-of, bit0, bit1}
 use Rattle.book.specs.View.{wanted, bit2, signed, kept}
 use Rattle.pen.specs.Pen.{Pen, put-all}
+use Rattle.pen.specs.Refusals.{refusal-lines}
 use Rattle.pen.proofs.Putting.{put-two, put-nothing}
 use Rattle.inspect.specs.Words.{mark, slashed, ranged, want-words, name-words, literal-words, before, head-words, goal-line}
-use Rattle.inspect.specs.Words.{sentences, sentence-in, sentence, refusal-words}
+use Rattle.inspect.specs.Words.{refusal-words}
 
 pub mark-on : (on : Bool) (w : List ℕ) (p q : Pen) → on ≡ true → q ≡ put-all w p → q ≡ put-all (mark on w) p
 mark-on on w p q e f = rw e f
@@ -105,32 +104,7 @@ goal-said goal flags a b p q r s t u e f g h i j k =
     (put-two (decimal goal) _ q r u h
     (put-two (mark a (ascii " [coinductive]")) _ r s u i (put-two (mark b (ascii " [floundered]")) (ascii "\n") s t u j k))))
 
-pub refusal-said : (n : ℕ) (p q r s t : Pen) → q ≡ put-all (ascii "refused " ++ decimal n) p → r ≡ put-all (ascii "\n") q
-    → s ≡ put-all (sentence n) r → t ≡ put-all (ascii "neither entry takes it\n") s → t ≡ put-all (refusal-words n) p
+pub refusal-said : (n : ℕ) (p q r : Pen) → q ≡ put-all (refusal-lines n) p → r ≡ put-all (ascii "neither entry takes it\n") q
+    → r ≡ put-all (refusal-words n) p
 unfolding refusal-words
-refusal-said n p q r s t e f g h =
-    put-two (ascii "refused " ++ decimal n) _ p q t e
-    (put-two (ascii "\n") _ q r t f (put-two (sentence n) (ascii "neither entry takes it\n") r s t g h))
-
-pub sentence-is : (n k : ℕ) (p q : Pen) → n ≡ k → q ≡ put-all (sentence k) p → q ≡ put-all (sentence n) p
-sentence-is n k p q e f = rw e f
-
--- past the numbers that the program tells apart the sentence is that of 8
-other-sentence : (n : ℕ) → (n ≡ 1 → ⊥) → (n ≡ 2 → ⊥) → (n ≡ 3 → ⊥) → (n ≡ 4 → ⊥) → (n ≡ 5 → ⊥) → (n ≡ 6 → ⊥) → (n ≡ 7 → ⊥) → (n ≡ 32 → ⊥)
-    → sentence n ≡ ascii "no goal\n"
-unfolding sentence
-other-sentence n a b c d e f g h =
-    past 0 1 a ∙ past 1 2 b ∙ past 2 3 c ∙ past 3 4 d ∙ past 4 5 e ∙ past 5 6 f ∙ past 6 7 g ∙ past 7 32 h
-  where
-    -- the sentence at a place of the table is passed over
-    past : (i k : ℕ) → (n ≡ k → ⊥)
-        → elim (eqb n k) [ true ↦ getD sentences i (0, ascii "") .1 | false ↦ sentence-in (drop (suc i) sentences) n ]
-        ≡ sentence-in (drop (suc i) sentences) n
-    past i k h = ap (λ (t : Bool). elim t [
-      | true ↦ getD sentences i (0, ascii "") .1
-      | false ↦ sentence-in (drop (suc i) sentences) n
-    ]) (ne-eqb n k h)
-
-pub sentence-other : (n : ℕ) (p q : Pen) → (n ≡ 1 → ⊥) → (n ≡ 2 → ⊥) → (n ≡ 3 → ⊥) → (n ≡ 4 → ⊥) → (n ≡ 5 → ⊥) → (n ≡ 6 → ⊥) → (n ≡ 7 → ⊥)
-    → (n ≡ 32 → ⊥) → q ≡ put-all (ascii "no goal\n") p → q ≡ put-all (sentence n) p
-sentence-other n p q a b c d e f g h i = i ∙ ap (λ (w : List ℕ). put-all w p) (sym (other-sentence n a b c d e f g h))
+refusal-said n p q r e f = put-two (refusal-lines n) (ascii "neither entry takes it\n") p q r e f

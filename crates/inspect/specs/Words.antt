@@ -9,6 +9,7 @@ use Rattle.definitions.specs.Listing.{decimal}
 use Rattle.definitions.specs.Refusal.{Refusable, refused, accepted}
 use Rattle.definitions.specs.Book.{Want, any, exactly, between, Literal, Positive, Negative, Clause, Goal, Book}
 use Rattle.definitions.specs.Desk.{Repeat, repeat-of}
+use Rattle.pen.specs.Refusals.{refusal-lines}
 
 -- words that stand there only where a flag is set
 abbrev pub mark : Bool → List ℕ → List ℕ
@@ -76,29 +77,9 @@ unfoldable pub goals-words : ℕ → List Goal → List ℕ
 goals-words g [] = []
 goals-words g (h ∷ hs) = goal-words g h ++ goals-words (suc g) hs
 
--- the sentences of the refusals, by their numbers; no other number but 8 comes
-abbrev pub sentences : List (ℕ × List ℕ)
-sentences =
-    (1, ascii "a command, an operand or the end is missing\n")
-    ∷ (2, ascii "unknown command\n")
-    ∷ (3, ascii "a clause before a goal, or a literal before a clause\n")
-    ∷ (4, ascii "unknown flag bit\n")
-    ∷ (5, ascii "a 65th goal, a 257th clause or a 9th literal of a clause\n")
-    ∷ (6, ascii "a literal names no goal\n")
-    ∷ (7, ascii "bytes after the end\n")
-    ∷ (32, ascii "a range with its low end above its high end\n")
-    ∷ []
-
-abbrev pub sentence-in : List (ℕ × List ℕ) → ℕ → List ℕ
-sentence-in [] n = ascii "no goal\n"
-sentence-in (s ∷ ss) n = elim (eqb n (s .0)) [ true ↦ s .1 | false ↦ sentence-in ss n ]
-
-unfoldable pub sentence : ℕ → List ℕ
-sentence n = sentence-in sentences n
-
 -- what the old entry turns down the desk does too
 unfoldable pub refusal-words : ℕ → List ℕ
-refusal-words n = (ascii "refused " ++ decimal n) ++ (ascii "\n" ++ (sentence n ++ ascii "neither entry takes it\n"))
+refusal-words n = refusal-lines n ++ ascii "neither entry takes it\n"
 
 -- what reading gave
 abbrev pub book-words : Refusable Book → List ℕ

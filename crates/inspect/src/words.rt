@@ -16,6 +16,7 @@ use book::Reading;
 use book::Repeat;
 use book::access::high_end;
 use book::access::low_end;
+use pen::refusals;
 ghost use mathlib.Core.Path.{_≡_};
 ghost use Prim.Native.Nat.{_<_, _/_, _%_};
 ghost use Rattle.definitions.specs.Book.{bit0 as bit0Of, bit1 as bit1Of, read as readBook};
@@ -24,7 +25,7 @@ ghost use Rattle.book.specs.Repeats.{repeat-seen};
 ghost use Rattle.book.specs.View.{Sound, wanted, bit2 as bit2Of, kept, clause-viewed, goal-viewed, view, seen};
 ghost use Rattle.inspect.specs.Words.{mark as markOf, slashed as slashedOf, ranged as rangedOf, want-words, name-words, literal-words, before, head-words};
 ghost use Rattle.inspect.specs.Words.{clause-words, clauses-words, goal-line as goalLine, goal-words, goals-words};
-ghost use Rattle.inspect.specs.Words.{sentence as sentenceOf, refusal-words, book-words, desk-words, reading-words};
+ghost use Rattle.inspect.specs.Words.{refusal-words, book-words, desk-words, reading-words};
 
 fn wide(n: u16) -> usize
     ensures { λ r. ⌜ (r ≡ n) × (r < 65536) ⌝ }
@@ -211,37 +212,10 @@ fn goals(out: &mut [u8], at: usize, book: Book) -> usize
     used
 }
 
-// The sentences of the refusals.
-fn sentence(out: &mut [u8], at: usize, number: u8) -> usize
-    ensures { λ r. ⌜ pen (now (out .exit)) r ≡ put-all (sentenceOf number) (pen (now (out .entry)) at) ⌝ }
-{
-    match number {
-        1 => pen::text(out, at, b"a command, an operand or the end is missing\n"),
-        2 => pen::text(out, at, b"unknown command\n"),
-        3 => pen::text(
-            out,
-            at,
-            b"a clause before a goal, or a literal before a clause\n",
-        ),
-        4 => pen::text(out, at, b"unknown flag bit\n"),
-        5 => pen::text(
-            out,
-            at,
-            b"a 65th goal, a 257th clause or a 9th literal of a clause\n",
-        ),
-        6 => pen::text(out, at, b"a literal names no goal\n"),
-        7 => pen::text(out, at, b"bytes after the end\n"),
-        32 => pen::text(out, at, b"a range with its low end above its high end\n"),
-        _ => pen::text(out, at, b"no goal\n"),
-    }
-}
-
 fn refusal(out: &mut [u8], at: usize, number: u8) -> usize
     ensures { λ r. ⌜ pen (now (out .exit)) r ≡ put-all (refusal-words number) (pen (now (out .entry)) at) ⌝ }
 {
-    let named = pen::counted(out, at, b"refused ", number as u64);
-    let line = pen::text(out, named, b"\n");
-    let said = sentence(out, line, number);
+    let said = refusals::refusal(out, at, number);
     pen::text(out, said, b"neither entry takes it\n")
 }
 

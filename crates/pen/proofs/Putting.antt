@@ -49,3 +49,10 @@ put-nothing p = refl
 pub put-one : (b : ℕ) (p q : Pen) → q ≡ put b p → q ≡ put-all (b ∷ []) p
 unfolding put-all
 put-one b p q e = e
+
+-- a text, and what is left to say; and nothing left
+pub put-left : (a d : List ℕ) (p q : Pen) → q ≡ put-all a p → put-all d q ≡ put-all (a ++ d) p
+put-left a d p q e = ap (put-all d) e ∙ sym (put-all-append a d p)
+
+pub put-ended : (a d : List ℕ) (p q : Pen) → a ≡ [] → put-all a q ≡ put-all d p → q ≡ put-all d p
+put-ended a d p q e f = sym (put-nothing q) ∙ ap (λ (w : List ℕ). put-all w q) (sym e) ∙ f

@@ -1,9 +1,9 @@
 -- `sentence`: each number by its arm; any other has the sentence of 8.
-use Rattle.inspect.specs.Words.{sentence}
-use Rattle.inspect.proofs.Saying.{sentence-is, sentence-other}
+use Rattle.pen.specs.Refusals.{sentence}
+use Rattle.pen.proofs.Sentences.{sentence-is, sentence-other}
 use borrow.Author.Needs.{needs}
-use Rattle.inspect.proofs.words.sentence.Statement.{statement}
-use Rattle.inspect.proofs.words.sentence.Tie as tie
+use Rattle.pen.proofs.refusals.sentence.Statement.{statement}
+use Rattle.pen.proofs.refusals.sentence.Tie as tie
 
 slice-aggregate-text : tie.Need-slice-aggregate-text
 slice-aggregate-text c = search needs
@@ -58,6 +58,24 @@ slice-aggregate-text-9 c = search needs
 
 text-requires-9 : tie.Need-text-requires-9
 text-requires-9 c κs = search needs
+
+slice-aggregate-text-10 : tie.Need-slice-aggregate-text-10
+slice-aggregate-text-10 c = search needs
+
+text-requires-10 : tie.Need-text-requires-10
+text-requires-10 c κs = search needs
+
+slice-aggregate-text-11 : tie.Need-slice-aggregate-text-11
+slice-aggregate-text-11 c = search needs
+
+text-requires-11 : tie.Need-text-requires-11
+text-requires-11 c κs = search needs
+
+slice-aggregate-text-12 : tie.Need-slice-aggregate-text-12
+slice-aggregate-text-12 c = search needs
+
+text-requires-12 : tie.Need-text-requires-12
+text-requires-12 c κs = search needs
 
 same-length : tie.Need-same-length
 same-length c = search needs
@@ -120,7 +138,28 @@ same-length-9 c = search needs
 
 returns-9 : tie.Need-returns-9
 unfolding sentence
-returns-9 c = search sentence-other
+returns-9 c = search sentence-is
+
+same-length-10 : tie.Need-same-length-10
+same-length-10 c = search needs
+
+returns-10 : tie.Need-returns-10
+unfolding sentence
+returns-10 c = search sentence-is
+
+same-length-11 : tie.Need-same-length-11
+same-length-11 c = search needs
+
+returns-11 : tie.Need-returns-11
+unfolding sentence
+returns-11 c = search sentence-is
+
+same-length-12 : tie.Need-same-length-12
+same-length-12 c = search needs
+
+returns-12 : tie.Need-returns-12
+unfolding sentence
+returns-12 c = search sentence-other
 
 pub sentence-spec : {M : Type 1} → statement M
 sentence-spec =
@@ -144,6 +183,12 @@ sentence-spec =
     text-requires-8
     slice-aggregate-text-9
     text-requires-9
+    slice-aggregate-text-10
+    text-requires-10
+    slice-aggregate-text-11
+    text-requires-11
+    slice-aggregate-text-12
+    text-requires-12
     same-length
     returns
     same-length-2
@@ -161,4 +206,10 @@ sentence-spec =
     same-length-8
     returns-8
     same-length-9
-    returns-9)
+    returns-9
+    same-length-10
+    returns-10
+    same-length-11
+    returns-11
+    same-length-12
+    returns-12)
