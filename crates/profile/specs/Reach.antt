@@ -1,5 +1,5 @@
 -- Which goals of a book lead to which, in a matrix of 64 by 64 numbers, row by row. At (i, j) stands 0 where goal i is not known to lead
--- to goal j, 1 where it does, and 2 where a "not" of one of its clauses names j. Rows only get larger.
+-- to goal j, 1 where it does, and 2 where a "not" of one of its clauses names j. An entry only gets larger.
 use Prim.Native.Nat.{ℕ, suc, _+_, _*_, _≤_, _<_}
 use mathlib.Core.Path.{_≡_}
 use mathlib.Core.Logic.{_⊎_}

@@ -1,4 +1,4 @@
-// The goals that are on a cycle through "not".
+// The goals that are on a cycle through "not": each that leads to a "not", anywhere, from which the way leads back to it.
 use crate::closure::close;
 use crate::edges::edges;
 use book::Book;
@@ -27,7 +27,7 @@ fn leads_round(m: &[u8; 4096], t: usize, p: usize) -> u8
     1
 }
 
-// Some place of the first n is.
+// One of the first n places is such a "not" of goal t.
 fn is_on_cycle(m: &[u8; 4096], n: usize, t: usize) -> u8
     requires { ⌜ n ≤ 4096 ⌝ }
     requires { ⌜ t < 64 ⌝ }
@@ -43,6 +43,7 @@ fn is_on_cycle(m: &[u8; 4096], n: usize, t: usize) -> u8
     0
 }
 
+// 1 for each goal that has one, and 0 for the others.
 fn marks(m: &[u8; 4096], n: usize) -> [u8; 64]
     requires { ⌜ n ≤ 4096 ⌝ }
     ensures { λ r. ⌜ (length r ≡ 64) × ((t : ℕ) → t < 64 → Tells (SomeRound (now (m .entry)) n t) (getD r t 0)) ⌝ }
