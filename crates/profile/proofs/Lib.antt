@@ -12,3 +12,4 @@ pub mod Members
 pub mod Leading
 pub mod Ending
 pub mod Rounds
+pub mod Checked

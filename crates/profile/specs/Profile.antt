@@ -14,6 +14,10 @@ use Rattle.profile.specs.declared.Profile.{Profile}
 abbrev pub zeros : List ℕ
 zeros = replicate 64 0
 
+-- a refusal but for 38
+abbrev pub refused-by : (number : ℕ) → Profile
+refused-by number = record { number = number; goals = 0; levels = zeros; «on_cycle» = zeros }
+
 -- a profile as the definitions have it
 abbrev pub profile-by : Bool → Profile → Refusable (List ℕ)
 profile-by true r = accepted (take (r .goals) (r .levels))

@@ -4,6 +4,7 @@ mod asks;
 mod closure;
 mod cycles;
 mod edges;
+pub mod levels;
 mod matrix;
 mod plain;
 mod settle;

@@ -1,0 +1,98 @@
+-- The check of a byte string, by its parts: what the desk gave, whether the book is plain, what the passes ended in, and the marks.
+use Prim.Native.Nat.{ℕ, _≤_}
+use native.Mathlib.Omega.{arith}
+use mathlib.Core.Path.{_≡_, refl, sym, ap, subst, _∙_}
+use mathlib.Core.Bool.{Bool, true, false, not}
+use mathlib.Core.Option.{Option}
+use mathlib.Core.List.{List}
+use lib.ListN.{length, getD, replicate, length-replicate}
+use lib.Dec.{eqb}
+use borrow.Author.Tests.{eq-eqb, ne-eqb}
+use Rattle.laws.proofs.Bools.{was-true, was-false}
+use Rattle.laws.proofs.Lists.{getD-zeros}
+use Rattle.definitions.specs.Refusal.{Refusable, refused, accepted}
+use Rattle.definitions.specs.Book as said
+use Rattle.definitions.specs.Desk.{desk}
+use Rattle.definitions.specs.Levels.{is-plain, levels, levels-or-38, plain-levels, levels-at-desk, check-levels}
+use Rattle.definitions.proofs.Refusal.{same-accepted, not-accepted}
+use Rattle.book.specs.declared.Reading.{Reading}
+use Rattle.book.specs.View.{view, seen, seen-by, Sound, Taken}
+use Rattle.profile.specs.declared.Profile.{Profile}
+use Rattle.profile.specs.declared.Settled.{Settled}
+use Rattle.profile.specs.Asks.{settled-by, Settles}
+use Rattle.profile.specs.Profile.{zeros, refused-by, profile-by, Marks, Profiles}
+
+-- a refusal but for 38
+bare-refusal : (bytes : List ℕ) (n : ℕ) → (n ≡ 0 → ⊥) → check-levels bytes ≡ refused n
+    → ((book : said.Book) → desk bytes ≡ accepted book → n ≡ 38 → ⊥) → Profiles bytes (refused-by n)
+bare-refusal bytes n some says other = record {
+  means = ap (λ (t : Bool). profile-by t (refused-by n)) (ne-eqb n 0 some) ∙ sym says;
+  few = omega arith;
+  whole = length-replicate {A = ℕ} 64 0;
+  past = λ g h. getD-zeros 64 g;
+  bare = λ z. (refl, refl);
+  cycles = λ book took e. absurd (other book took e);
+  no-cycles = λ z. refl;
+}
+
+module _ (bytes : List ℕ) (reading : Reading) (read : Taken bytes reading) where
+  by-desk : (t : Bool) → eqb (reading .number) 0 ≡ t → desk bytes ≡ seen-by t reading
+  by-desk t e = sym (read .means) ∙ ap (λ (b : Bool). seen-by b reading) e
+
+  -- what the desk refuses
+  pub unread-profiles : (r : Profile) → (reading .number ≡ 0 → ⊥) → r ≡ refused-by (reading .number) → Profiles bytes r
+  unread-profiles r n e =
+      let not-taken : desk bytes ≡ refused (reading .number) = by-desk false (ne-eqb (reading .number) 0 n) in
+      subst (Profiles bytes) (sym e)
+      (bare-refusal bytes (reading .number) n (ap levels-at-desk not-taken) (λ book took z. not-accepted (sym not-taken ∙ took)))
+
+  module _ (z : reading .number ≡ 0) where
+    pub book-sound : Sound (reading .book)
+    book-sound = read .sound z
+
+    taken : desk bytes ≡ accepted (view (reading .book))
+    taken = by-desk true (eq-eqb (reading .number) 0 z)
+
+    module _ (plain : Bool) (told : plain ≡ is-plain (view (reading .book))) where
+      by-plain : (t : Bool) → plain ≡ t
+          → check-levels bytes ≡ elim t [ false ↦ refused 37 | true ↦ levels-or-38 (levels (view (reading .book))) ]
+      by-plain t e =
+          ap levels-at-desk taken
+          ∙ ap (λ (b : Bool). elim b [ false ↦ refused 37 | true ↦ levels-or-38 (levels (view (reading .book))) ]) (sym told ∙ e)
+
+      -- a book that isn't plain
+      pub unplain-profiles : (r : Profile) → not plain ≡ true → r ≡ refused-by 37 → Profiles bytes r
+      unplain-profiles r n e =
+          subst (Profiles bytes) (sym e)
+          (bare-refusal bytes 37 (λ x. omega arith) (by-plain false (was-false plain n)) (λ book took x. omega arith))
+
+      module _ (is-so : not plain ≡ false) (s : Settled) (settles : Settles (levels (view (reading .book))) (reading .book .goals) s) where
+        by-levels : (t : Bool) → s .settled ≡ t → check-levels bytes ≡ levels-or-38 (settled-by t (reading .book .goals) s)
+        by-levels t e =
+            by-plain true (was-true plain is-so) ∙ ap levels-or-38 (sym (settles .means) ∙ ap (λ (b : Bool).
+            settled-by b (reading .book .goals) s) e)
+
+        pub accepted-profiles : s .settled ≡ true
+            → Profiles bytes (record { number = 0; goals = reading .book .goals; levels = s .levels; «on_cycle» = zeros })
+        accepted-profiles t = record {
+          means = sym (by-levels true t);
+          few = book-sound .few-goals;
+          whole = settles .whole;
+          past = settles .past;
+          bare = λ n. absurd (n refl);
+          cycles = λ book took e. absurd (omega arith);
+          no-cycles = λ n. refl;
+        }
+
+        -- a book that isn't levelled
+        pub unlevelled-profiles : (marks : List ℕ) → s .settled ≡ false → Marks (view (reading .book)) marks
+            → Profiles bytes (record { number = 38; goals = 0; levels = zeros; «on_cycle» = marks })
+        unlevelled-profiles marks f are = record {
+          means = sym (by-levels false f);
+          few = omega arith;
+          whole = length-replicate {A = ℕ} 64 0;
+          past = λ g h. getD-zeros 64 g;
+          bare = λ n. (refl, refl);
+          cycles = λ book took e. subst (λ (b : said.Book). Marks b marks) (same-accepted (sym taken ∙ took)) are;
+          no-cycles = λ n. absurd (n refl);
+        }
