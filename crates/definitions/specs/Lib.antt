@@ -28,6 +28,7 @@ pub mod RangeCases
 pub mod DeskCases
 pub mod Model
 pub mod Levels
+pub mod LevelCases
 pub mod Claim
 pub mod Instances
 
