@@ -5,6 +5,8 @@ use book::Reading;
 use book::desk::desk;
 use book::read;
 use intake::input;
+use profile::Profile;
+use profile::levels::levels;
 use rings::ring_at;
 use rings::ring_enqueue;
 use stores::places::Places;
@@ -278,6 +280,25 @@ fn readings(at_desk: bool, turns: usize) -> usize {
     last
 }
 
+fn of_profile(p: Profile, k: usize) -> usize {
+    let g = k % 64;
+    p.levels[g] as usize ^ p.on_cycle[g] as usize ^ p.number as usize ^ p.goals
+}
+
+// The book of standard input is checked: plain, levelled.
+fn profiles(turns: usize) -> usize {
+    let mut bytes = [0u8; 20480];
+    let got = input(&mut bytes);
+    let n = got.count;
+    let mut last: usize = 0;
+    let mut i: usize = 0;
+    while i < turns {
+        last = of_profile(levels(&bytes[..n]), last);
+        i = i + 1;
+    }
+    last
+}
+
 fn run(k: usize) -> usize {
     match k {
         2 => places(16, 100000000),
@@ -294,6 +315,7 @@ fn run(k: usize) -> usize {
         13 => pushes(255, 1000000),
         14 => readings(false, 20000),
         15 => readings(true, 20000),
+        16 => profiles(2000),
         _ => 0,
     }
 }
@@ -303,7 +325,7 @@ fn main() {
     if k < 2 {
         io::write_all(
             1,
-            b"name an operation by the number of arguments: 1 to 14\n",
+            b"name an operation by the number of arguments: 1 to 15\n",
         );
         return;
     }
