@@ -52,6 +52,16 @@ say "damaged books"
 grep -q ' refused 32$' "$work/read"
 grep -q ' accepted, desk refused 36$' "$work/read"
 
+say "levels, beside all numberings of up to five goals"
+for kind in plain few; do
+    "$oracle" books 11 5000 $kind >"$work/books"
+    "$oracle" books 11 5000 $kind | cmp - "$work/books"
+    "$oracle" levels lines <"$work/books" | grep -e '^refused' -e '^0 ' | sed 's/^0 .*/levels/' | sort | uniq -c | tee "$work/levels"
+    grep -q ' levels$' "$work/levels"
+    grep -q ' refused 38$' "$work/levels"
+done
+"$oracle" numberings 11 20000
+
 say "demand 3"
 "$oracle" demand3 11 100000
 

@@ -5,9 +5,11 @@
 
 mod books;
 mod calls;
+mod plain;
 mod rare;
 
 pub use books::{damaged_book, plain_book};
+pub use plain::{few_goals, named_so, nearly_plain};
 
 use crate::book::Entry;
 use crate::rng::Rng;

@@ -6,7 +6,9 @@ mod bounded;
 mod check;
 mod demand3;
 mod gen;
+mod levels;
 mod list;
+mod numberings;
 mod peeks;
 mod rng;
 mod script;
@@ -16,11 +18,15 @@ use std::process::ExitCode;
 
 const USAGE: &str = "usage: oracle list [hex] < BOOK
        oracle lists < LINES OF HEX
+       oracle levels [hex] < BOOK
+       oracle levels lines < LINES OF HEX
+       oracle levels time RUNS < BOOK
+       oracle numberings SEED COUNT
        oracle run [batch] [quiet|bare|counted] < SCRIPT
        oracle searches < SCRIPT
        oracle read < LINES OF HEX
        oracle gen SEED COUNT [mix|plain|tiny|bytes|answers|small|limits|large|lines]
-       oracle books SEED COUNT
+       oracle books SEED COUNT [damaged|plain|few]
        oracle check [CALLS [SEED]]
        oracle demand3 SEED COUNT
        oracle bench [PROGRAM [ARGUMENT..]]
@@ -58,13 +64,13 @@ fn read_books() -> Result<(), String> {
     out.flush().map_err(|e| e.to_string())
 }
 
-/// For each line of hex the listing of that book, and a line of its own to end it.
-fn list_books() -> Result<(), String> {
+/// For each line of hex what is said of that book, its listing or its levels, and a line of its own to end it.
+fn each_book(said: fn(&[u8]) -> Result<String, String>) -> Result<(), String> {
     let mut out = io::BufWriter::new(io::stdout().lock());
     for line in io::stdin().lines() {
         let line = line.map_err(|e| e.to_string())?;
         let bytes = script::hex(&line).ok_or("no hex digits")?;
-        let text = list::list(&bytes)?;
+        let text = said(&bytes)?;
         writeln!(out, "{text}.").map_err(|e| e.to_string())?;
     }
     out.flush().map_err(|e| e.to_string())
@@ -86,11 +92,11 @@ fn generate(seed: u64, count: u64, profile: gen::Profile) -> Result<(), String> 
     stdout.flush().map_err(|e| e.to_string())
 }
 
-/// COUNT books, whole or damaged, as lines of hex.
-fn books(seed: u64, count: u64) -> Result<(), String> {
+/// COUNT books as lines of hex.
+fn books(seed: u64, count: u64, made: fn(&mut rng::Rng) -> Vec<u8>) -> Result<(), String> {
     let mut stdout = io::BufWriter::new(io::stdout().lock());
     for book in 0..count {
-        let bytes = gen::damaged_book(&mut gen::rng_of(seed, book));
+        let bytes = made(&mut gen::rng_of(seed, book));
         writeln!(stdout, "{}", script::to_hex(&bytes)).map_err(|e| e.to_string())?;
     }
     stdout.flush().map_err(|e| e.to_string())
@@ -116,7 +122,24 @@ fn command(words: &[&str]) -> Result<(), String> {
             let text = list::list(&input_book(rest)?)?;
             io::stdout().write_all(text.as_bytes()).map_err(|e| e.to_string())
         }
-        ["lists"] => list_books(),
+        ["lists"] => each_book(list::list),
+        ["levels", "lines"] => each_book(|bytes| Ok(levels::text(bytes))),
+        ["levels", "time", runs] => {
+            print!("{}", levels::timed(&input_book(&[])?, number(runs)?));
+            Ok(())
+        }
+        ["levels", rest @ ..] => {
+            io::stdout().write_all(levels::text(&input_book(rest)?).as_bytes()).map_err(|e| e.to_string())
+        }
+        ["numberings", seed, count] => {
+            let [every, few, larger] = numberings::numberings(number(seed)?, number(count)?)?;
+            println!("every way to name each other, up to three goals: {}", every.told());
+            println!("up to five goals: {}", few.told());
+            let (found, models) = (every.numberings + few.numberings, every.models + few.models);
+            println!("{found} numberings satisfy the rule: the levels are the least of them; by {models} the same model");
+            println!("up to 64 goals, beside levels that are raised: {}", larger.told());
+            Ok(())
+        }
         ["run", words @ ..] => run(words),
         ["searches"] => peeks::searches(io::stdin().lock(), io::BufWriter::new(io::stdout().lock())),
         ["read"] => read_books(),
@@ -125,7 +148,13 @@ fn command(words: &[&str]) -> Result<(), String> {
             let profile = gen::Profile::named(profile).ok_or(USAGE)?;
             generate(number(seed)?, number(count)?, profile)
         }
-        ["books", seed, count] => books(number(seed)?, number(count)?),
+        ["books", seed, count] | ["books", seed, count, "damaged"] => {
+            books(number(seed)?, number(count)?, gen::damaged_book)
+        }
+        ["books", seed, count, "plain"] => books(number(seed)?, number(count)?, gen::nearly_plain),
+        ["books", seed, count, "few"] => {
+            books(number(seed)?, number(count)?, |rng| gen::few_goals(rng).bytes())
+        }
         ["check"] => check::check(check::STANDARD_CALLS, check::STANDARD_SEED),
         ["check", calls] => check::check(number(calls)?, check::STANDARD_SEED),
         ["check", calls, seed] => check::check(number(calls)?, number(seed)?),
