@@ -142,6 +142,19 @@ def alike(lasts):
     return "goal 0\n" + "\n".join("0 :- " + ", ".join(rest + [ranged(0, last, 256)]) for last in lasts)
 
 
+def not_the_next(last):
+    """64 goals, 256 clauses of 8 literals, no two of a goal equal: each goal rests on "not" the next one, on the one behind that, on "not"
+    the third and so on, since every second goal holds, and its clauses have the same literals in another order. The last goal has one
+    clause, with a literal eight times."""
+    out = []
+    for g in range(63):
+        ahead = ["not %d" % n if (n - g) % 2 else str(n) for n in range(g + 1, min(g + 8, 63) + 1)]
+        ahead += ahead[:1] * (8 - len(ahead))
+        out.append("goal %d" % g)
+        out += ["%d :- %s" % (g, ", ".join(ahead[c:] + ahead[:c])) for c in range(5 if g < 6 else 4 if g < 62 else 1)]
+    return "\n".join(out + ["goal 63", "63 :- " + ", ".join([last] * 8)])
+
+
 def three_to_seven():
     variants = (2, 3, 7, 8, 0)
     rest = ["goal %d\n%d :- %s" % (g, g, ranged(g + 5, 3, 7)) for g in range(5)]
@@ -213,6 +226,13 @@ PAPERS = [
     ("range-crossed", "a range from 4 to 3: refused 32", "goal 0\n0 :- 1/4-3\ngoal 1\n1/3"),
     ("equal-clauses", "goal 1 has the same clause twice, with one between: the desk refuses it with 36",
      "goal 0\n0 :- 1/1\ngoal 1\n1/1 :- 2, not 3\n1/2 :- 2\n1/1 :- 2, not 3\ngoal 2\n2\ngoal 3"),
+    ("levels-p1", "p1 without its variants, a plain book: the levels are 1, 0, 0",
+     "goal 0\n0 :- 1, not 2\ngoal 1\n1\ngoal 2\n2 :- 2"),
+    ("levels-not", "a plain book that is not levelled: 1 and 2 are on a cycle through \"not\", 0 leads to it, it leads to 3",
+     "goal 0\n0 :- 1\ngoal 1\n1 :- not 2\ngoal 2\n2 :- 1, not 3\ngoal 3\n3"),
+    ("levels-chain", "the longest chain of \"not\"s, in the largest plain book that has one: the levels are 63 to 0", not_the_next("63")),
+    ("levels-cycle", "the same, and the last goal rests on \"not\" the first: all 64 goals are on a cycle through \"not\"",
+     not_the_next("not 0")),
     ("clauses-256-alike", "256 clauses of one goal, different in the last of 8 ranges alone: the desk takes it", alike(range(256))),
     ("clauses-256-twice", "the same, the last clause equal to the first: the desk refuses it with 36", alike([*range(255), 0])),
     ("largest", "the largest book there can be: 64 goals, 256 clauses of 8 ranges each, with every mark", LARGEST),
@@ -223,10 +243,10 @@ PAPERS = [
 HEADER = """# Sample papers
 
 Each file `NAME.book` holds the bytes of a book. p1 to p9 are the cases of document 01, `release` is a paper as the
-workshop has it; the others are the sizes at the limits and one past them, ranges, the same clause twice, and the largest book. A paper
-that is refused here is refused by both entries, but where the desk is named. `inspect` prints what a book says, `listing` what follows
-from it. `tools/papers.py` makes the files and this page from a notation that can be read;
-`tools/papers.py --check` says whether they are those.
+workshop has it; the others are the sizes at the limits and one past them, ranges, the same clause twice, levels, and the largest
+book. A paper that is refused here is refused by both entries, but where the desk is named. `inspect` prints what a book says, `listing`
+what follows from it, `levels` its levels, where it is plain and has some. `tools/papers.py` makes the files and this page from a notation
+that can be read; `tools/papers.py --check` says whether they are those.
 
 | file | bytes | what it is | in hex |
 |---|---|---|---|
