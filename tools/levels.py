@@ -6,8 +6,8 @@ tools/levels.py --levels [PATH]       target/bin/levels, or a program in its pla
                                       chance: plain ones with few goals, which the Rust holds against all numberings, plain and spoiled
                                       ones with up to 64, damaged ones and those of the scripts of every profile; and on every way in
                                       which two goals can name each other
-tools/levels.py --time [--levels PATH]  whole processes on the worst books, `levels`, the Rust and clingo side by side, and what the Rust
-                                      takes within its process
+tools/levels.py --time                whole processes on the worst books, `levels` (where it is there), the Rust and clingo (Debian's
+                                      package gringo) side by side, and what the Rust takes within its process
 
 Of a book that is accepted a line is written for each goal, `GOAL LEVEL`, with the least levels there are; of one that is refused
 `refused N` and the sentence of N: the desk's numbers, then 37 for a book that is not plain, then 38 for one that is not levelled, with a
@@ -17,7 +17,9 @@ import argparse
 import collections
 import concurrent.futures
 import itertools
+import json
 import os
+import shutil
 import statistics
 import subprocess
 import sys
@@ -26,11 +28,9 @@ import papers
 import sides
 import tree
 from levels_books import CASES, PAPERS, SENTENCES, of_goals
-from rules import clauses_of, for_clingo, timed, took
+from rules import clauses_of, rules, timed
 
 PROFILES = "mix plain tiny answers small limits large".split()
-# Papers that clingo gets at once, to see what one of them takes without the start of the process.
-TOGETHER = 51
 
 
 def text(said):
@@ -96,11 +96,12 @@ def of_chance(oracle, seed, count):
     for kind in ("few", "plain", "damaged"):
         made = sides.said([oracle, "books", str(seed), str(each), kind], b"").decode().splitlines()
         found += [(kind, bytes.fromhex(line)) for line in made]
-    some = []
+    share, some = -(-each // len(PROFILES)), []
     for profile in PROFILES:
-        script = sides.said([oracle, "gen", str(seed), str(-(-each // len(PROFILES))), profile], b"").decode().splitlines()
-        made = [line.split()[1] for line in script if line.startswith("book ")]
-        some += [("of " + profile, bytes.fromhex(digits)) for digits in made[:-(-each // len(PROFILES))]]
+        script = sides.said([oracle, "gen", str(seed), str(share), profile], b"").decode().splitlines()
+        # a book may have no bytes
+        made = [line[5:].partition("clock")[0] for line in script if line.startswith("book ")]
+        some += [("of " + profile, bytes.fromhex(digits)) for digits in made[:share]]
     return found + some[:each]
 
 
@@ -161,24 +162,23 @@ def worst():
 
 
 def of_clingo(folder, data, runs):
-    """A whole process of clingo, of its grounder alone, and what one book of many takes in a process of clingo."""
+    """Whole processes of clingo and of its grounder alone, and the time that clingo tells itself: reading, grounding and solving."""
     path = os.path.join(folder, "book.lp")
-    words = ["clingo", "--outf=3", "-q", "--warn=none", path]
-    tree.write(path, for_clingo([clauses_of(data)]))
-    status = subprocess.run(words, capture_output=True).returncode
-    if status not in (10, 20, 30):
-        sys.exit("levels: clingo ended with %d" % status)
-    one, ground = took(words, b"", runs), timed(["gringo", "--warn=none", path], b"", runs)
-    tree.write(path, for_clingo([clauses_of(data)] * TOGETHER))
-    many = took(words, b"", runs)
-    more = [(f(many) - f(one)) / (TOGETHER - 1) for f in (statistics.median, min)]
-    return ["%.2f ms (%.2f)" % (statistics.median(one), min(one)), ground, "%.3f ms (%.3f)" % tuple(more)]
+    tree.write(path, "\n".join(rules(clauses_of(data), "g", "not %s%d")) + "\n")
+    own = []
+    for _ in range(runs):
+        run = subprocess.run(["clingo", "--outf=2", "-q", "--warn=none", path], capture_output=True, text=True)
+        if run.returncode not in (10, 20, 30):
+            sys.exit("levels: clingo ended with %d: %s" % (run.returncode, run.stderr))
+        own.append(json.loads(run.stdout)["Time"]["Total"] * 1000)
+    whole = [timed(words + ["--warn=none", path], b"", runs) for words in (["clingo", "--outf=3", "-q"], ["gringo"])]
+    return whole + ["%.0f ms (%.0f)" % (statistics.median(own), min(own))]
 
 
 def times(a, oracle, program):
     """Median, and least in brackets."""
     heads = [("levels", [program])] * bool(program) + [("oracle levels", [oracle, "levels"]), ("`true`", ["true"])]
-    names = [name for name, _ in heads] + ["clingo", "gringo", "clingo, a book more"]
+    names = [name for name, _ in heads] + ["clingo", "gringo", "clingo's own time"]
     print("%-26s" % "median (least), processes" + "".join("%-20s" % name for name in names))
     inside = []
     with tree.folder() as folder:
@@ -208,6 +208,9 @@ def main():
     if a.levels is not None:
         program = tree.program(a.levels, "rt check levels") if a.levels else tree.built("levels")
     if a.time:
+        program = program or shutil.which(os.path.join(tree.ROOT, "target", "bin", "levels"))
+        if not shutil.which("clingo"):
+            sys.exit("levels: clingo is not installed (Debian's package gringo)")
         times(a, oracle, program)
         return 0
     good, asked = True, list(cases())

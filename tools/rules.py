@@ -35,17 +35,11 @@ def for_clingo(books):
     return "\n".join("\n".join(rules(goals, "b%dg" % n, "not %s%d")) for n, goals in enumerate(books)) + "\n"
 
 
-def took(words, data, runs):
-    """Milliseconds of a whole process, run by run."""
-    found = []
+def timed(words, data, runs):
+    """Milliseconds of a whole process: the median, and the least."""
+    took = []
     for _ in range(runs):
         began = time.perf_counter()
         subprocess.run(words, input=data, stdout=subprocess.DEVNULL, stderr=subprocess.DEVNULL)
-        found.append((time.perf_counter() - began) * 1000)
-    return found
-
-
-def timed(words, data, runs):
-    """The median, and the least."""
-    found = took(words, data, runs)
-    return "%.2f ms (%.2f)" % (statistics.median(found), min(found))
+        took.append((time.perf_counter() - began) * 1000)
+    return "%.2f ms (%.2f)" % (statistics.median(took), min(took))
