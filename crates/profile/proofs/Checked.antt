@@ -16,7 +16,7 @@ use Rattle.definitions.specs.Desk.{desk}
 use Rattle.definitions.specs.Levels.{is-plain, levels, levels-or-38, plain-levels, levels-at-desk, check-levels}
 use Rattle.definitions.proofs.Refusal.{same-accepted, not-accepted}
 use Rattle.book.specs.declared.Reading.{Reading}
-use Rattle.book.specs.View.{view, seen, seen-by, Sound, Taken}
+use Rattle.book.specs.View.{view, seen-by, Sound, Gives, Taken}
 use Rattle.profile.specs.declared.Profile.{Profile}
 use Rattle.profile.specs.declared.Settled.{Settled}
 use Rattle.profile.specs.Asks.{settled-by, Settles}
@@ -35,23 +35,27 @@ bare-refusal bytes n some says other = record {
   no-cycles = λ z. refl;
 }
 
-module _ (bytes : List ℕ) (reading : Reading) (read : Taken bytes reading) where
-  by-desk : (t : Bool) → eqb (reading .number) 0 ≡ t → desk bytes ≡ seen-by t reading
-  by-desk t e = sym (read .means) ∙ ap (λ (b : Bool). seen-by b reading) e
+-- of what an entry gave
+module _ (bytes : List ℕ) (what : Refusable said.Book) (reading : Reading) (read : Gives what reading) where
+  gave : (t : Bool) → eqb (reading .number) 0 ≡ t → what ≡ seen-by t reading
+  gave t e = sym (read .means) ∙ ap (λ (b : Bool). seen-by b reading) e
 
-  -- what the desk refuses
-  pub unread-profiles : (r : Profile) → (reading .number ≡ 0 → ⊥) → r ≡ refused-by (reading .number) → Profiles bytes r
-  unread-profiles r n e =
-      let not-taken : desk bytes ≡ refused (reading .number) = by-desk false (ne-eqb (reading .number) 0 n) in
+  -- what it refuses, as the desk does
+  pub unread-profiles : ((n : ℕ) → what ≡ refused n → desk bytes ≡ refused n) → (r : Profile) → (reading .number ≡ 0 → ⊥)
+      → r ≡ refused-by (reading .number) → Profiles bytes r
+  unread-profiles as-desk r n e =
+      let not-taken = as-desk (reading .number) (gave false (ne-eqb (reading .number) 0 n)) in
       subst (Profiles bytes) (sym e)
       (bare-refusal bytes (reading .number) n (ap levels-at-desk not-taken) (λ book took z. not-accepted (sym not-taken ∙ took)))
 
-  module _ (z : reading .number ≡ 0) where
-    pub book-sound : Sound (reading .book)
-    book-sound = read .sound z
+  pub book-sound : reading .number ≡ 0 → Sound (reading .book)
+  book-sound z = read .sound z
 
+-- of what the desk gave
+module _ (bytes : List ℕ) (reading : Reading) (read : Taken bytes reading) where
+  module _ (z : reading .number ≡ 0) where
     taken : desk bytes ≡ accepted (view (reading .book))
-    taken = by-desk true (eq-eqb (reading .number) 0 z)
+    taken = gave bytes (desk bytes) reading read true (eq-eqb (reading .number) 0 z)
 
     module _ (plain : Bool) (told : plain ≡ is-plain (view (reading .book))) where
       by-plain : (t : Bool) → plain ≡ t
@@ -76,7 +80,7 @@ module _ (bytes : List ℕ) (reading : Reading) (read : Taken bytes reading) whe
             → Profiles bytes (record { number = 0; goals = reading .book .goals; levels = s .levels; «on_cycle» = zeros })
         accepted-profiles t = record {
           means = sym (by-levels true t);
-          few = book-sound .few-goals;
+          few = read .sound z .few-goals;
           whole = settles .whole;
           past = settles .past;
           bare = λ n. absurd (n refl);
