@@ -1,0 +1,90 @@
+-- How an input is checked is settled by as many of its bytes as how it is read: what `main` reads is enough. And 37 and 38 are the check's
+-- own: the desk's numbers are all below them.
+use Prim.Native.Nat.{ℕ, zero, suc, _<_}
+use native.Mathlib.Omega.{arith}
+use mathlib.Core.Path.{_≡_, ap}
+use mathlib.Core.Bool.{Bool, true, false, not}
+use mathlib.Core.List.{List, [], _∷_}
+use lib.ListN.{length, take}
+use lib.Dec.{eqb, ltb, leb}
+use Rattle.definitions.specs.Refusal.{Refusable, refused, accepted, Test, _refuses_, unless}
+use Rattle.definitions.specs.Book.{Command, goal, clause, positive, ranged, negative, end, unknown, between, Literal, Positive, Negative}
+use Rattle.definitions.specs.Book.{byte, u16, bit0, command, width, is-end, want-of, crossed, goals-name, clause-count, literals-so-far}
+use Rattle.definitions.specs.Book.{most-goals, most-clauses, most-literals, add-literal, literal-command, apply-command, whole-command}
+use Rattle.definitions.specs.Book.{Book, read-from, read, read-ahead}
+use Rattle.definitions.specs.Desk.{repeats, at-desk, desk}
+use Rattle.definitions.specs.Model.{Each}
+use Rattle.definitions.specs.Levels.{levels-at-desk, check-levels}
+use Rattle.definitions.proofs.Desk.{desk-take}
+
+pub levels-take : (bytes : List ℕ) → check-levels (take read-ahead bytes) ≡ check-levels bytes
+levels-take bytes = ap levels-at-desk (desk-take bytes)
+
+-- if it is refused, then by a number below 37
+pub data Below : Refusable Book → Type 0 where
+  by-number : {n : ℕ} → n < 37 → Below (refused n)
+  taken : {book : Book} → Below (accepted book)
+
+by-test : (t : Test) (rest : Refusable Book) (fails : Bool) → t .number < 37 → Below rest
+    → Below (elim fails [ true ↦ refused (t .number) | false ↦ rest ])
+by-test t rest true h r = by-number h
+by-test t rest false h r = r
+
+unless-below : (ts : List Test) (book : Book) → Each (λ t. t .number < 37) ts → Below (unless ts book)
+unless-below [] book e = taken
+unless-below (t ∷ ts) book e = by-test t (unless ts book) (t .fails) (e .0) (unless-below ts book (e .1))
+
+literal-below : (l : Literal) (flags : ℕ) (book : Book) → Below (literal-command l flags book)
+literal-below l flags book =
+    unless-below
+    (eqb (clause-count book) 0 refuses 3
+    ∷ ltb 1 flags refuses 4
+    ∷ crossed l refuses 32
+    ∷ leb most-literals (literals-so-far book) refuses 5
+    ∷ [])
+    (add-literal l book) (omega arith, (omega arith, (omega arith, (omega arith, tt))))
+
+apply-below : (c : Command) (after : List ℕ) (book : Book) → Below (apply-command c after book)
+apply-below goal after book =
+    unless-below (ltb 3 (byte after 0) refuses 4 ∷ leb most-goals (length book) refuses 5 ∷ []) _ (omega arith, (omega arith, tt))
+apply-below clause after book =
+    unless-below
+    (eqb (length book) 0 refuses 3 ∷ ltb 3 (byte after 2) refuses 4 ∷ leb most-clauses (clause-count book) refuses 5 ∷ [])
+    _ (omega arith, (omega arith, (omega arith, tt)))
+apply-below positive after book =
+    literal-below (Positive (u16 after 0) (want-of (u16 after 2)) (bit0 (byte after 4))) (byte after 4) book
+apply-below ranged after book =
+    literal-below (Positive (u16 after 0) (between (u16 after 2) (u16 after 4)) (bit0 (byte after 6))) (byte after 6) book
+apply-below negative after book = literal-below (Negative (u16 after 0) (bit0 (byte after 2))) (byte after 2) book
+apply-below end after book =
+    unless-below
+    (ltb 0 (length after) refuses 7 ∷ eqb (length book) 0 refuses 8 ∷ not (goals-name (length book) book) refuses 6 ∷ [])
+    book (omega arith, (omega arith, (omega arith, tt)))
+apply-below unknown after book = by-number {n = 2} (omega arith)
+
+whole-below : (c : Command) (after : List ℕ) (book : Book) → Below (whole-command c after book)
+whole-below c after book = on (ltb (length after) (width c))
+  where
+    on : (short : Bool) → Below (elim short [ true ↦ refused 1 | false ↦ apply-command c after book ])
+    on true = by-number {n = 1} (omega arith)
+    on false = apply-below c after book
+
+next-below : (r : Refusable Book) (last : Bool) (then : Book → Refusable Book) → Below r → ((next : Book) → Below (then next))
+    → Below (elim r [ refused n ↦ refused n | accepted next ↦ elim last [ true ↦ accepted next | false ↦ then next ] ])
+next-below (refused n) last then h f = h
+next-below (accepted next) true then h f = taken
+next-below (accepted next) false then h f = f next
+
+read-below : (bytes : List ℕ) (skip : ℕ) (book : Book) → Below (read-from bytes skip book)
+read-below [] skip book = by-number {n = 1} (omega arith)
+read-below (b ∷ bs) (suc skip) book = read-below bs skip book
+read-below (b ∷ bs) zero book =
+    next-below (whole-command (command b) bs book) (is-end (command b)) (read-from bs (width (command b)))
+    (whole-below (command b) bs book) (read-below bs (width (command b)))
+
+pub desk-below : (bytes : List ℕ) → Below (desk bytes)
+desk-below bytes = on (read bytes) (read-below bytes 0 [])
+  where
+    on : (r : Refusable Book) → Below r → Below (at-desk r)
+    on (refused n) h = h
+    on (accepted book) h = unless-below (repeats book refuses 36 ∷ []) book (omega arith, tt)

@@ -1,0 +1,3 @@
+pub mod Telling
+pub mod Check
+pub mod Once

@@ -1,0 +1,60 @@
+-- The contract of `say` leaves nothing open: from a buffer and a byte string there is one outcome. For the marks are those of the goals on
+-- a cycle wherever they are told, and a goal is on one or is not.
+use Prim.Native.Nat.{ℕ, _≤_}
+use native.Mathlib.Omega.{arith}
+use native.Mathlib.Decide.{ℕ-discrete}
+use mathlib.Core.Path.{_≡_, refl, sym, ap, _∙_}
+use mathlib.Core.Bool.{Bool}
+use mathlib.Core.List.{List, [], _++_}
+use lib.ListN.{getD}
+use lib.Seq.{ext-getD}
+use borrow.Author.Tests.{ne-eqb}
+use Rattle.definitions.specs.Refusal.{Refusable, refused, accepted}
+use Rattle.definitions.specs.Book.{Book}
+use Rattle.definitions.specs.Desk.{desk}
+use Rattle.definitions.specs.Levels.{levels-at-desk, check-levels}
+use Rattle.profile.specs.Profile.{Marks}
+use Rattle.pen.specs.Pen.{Pen, put-all}
+use Rattle.pen.specs.Refusals.{refusal-lines}
+use Rattle.levels.specs.Words.{reason-words, refused-words, level-words, Tells}
+use Rattle.levels.proofs.Check.{Below, by-number, taken, desk-below}
+use Rattle.levels.proofs.Telling.{same-refused}
+
+marks-once : (book : Book) (a b : List ℕ) → Marks book a → Marks book b → a ≡ b
+marks-once book a b x y =
+    ext-getD 0 a b (x .whole ∙ sym (y .whole)) (λ g h. on g (ℕ-discrete (getD a g 0) 0) (ℕ-discrete (getD b g 0) 0))
+  where
+    one : (n : ℕ) → n ≤ 1 → (n ≡ 0 → ⊥) → n ≡ 1
+    one n h o = omega arith
+
+    on : (g : ℕ) → Dec (getD a g 0 ≡ 0) → Dec (getD b g 0 ≡ 0) → getD a g 0 ≡ getD b g 0
+    on g (yes d) (yes e) = d ∙ sym e
+    on g (yes d) (no o) = absurd (x .off-cycle g d (y .on-cycle g (one (getD b g 0) (y .bits g) o)))
+    on g (no o) (yes e) = absurd (y .off-cycle g e (x .on-cycle g (one (getD a g 0) (x .bits g) o)))
+    on g (no o) (no u) = one (getD a g 0) (x .bits g) o ∙ sym (one (getD b g 0) (y .bits g) u)
+
+-- the marks are in the words of 38 alone
+words-once : (c : Refusable (List ℕ)) (a b : List ℕ) → (c ≡ refused 38 → a ≡ b) → level-words c a ≡ level-words c b
+unfolding refused-words
+words-once (accepted levels) a b e = refl
+words-once (refused n) a b e = on (ℕ-discrete n 38)
+  where
+    plain : (marks : List ℕ) → (n ≡ 38 → ⊥) → refused-words n marks ≡ refusal-lines n ++ []
+    plain marks o = ap (λ (t : Bool). refusal-lines n ++ reason-words t marks) (ne-eqb n 38 o)
+
+    on : Dec (n ≡ 38) → refused-words n a ≡ refused-words n b
+    on (yes k) = ap (refused-words n) (e (ap refused k))
+    on (no o) = plain a o ∙ sym (plain b o)
+
+told-marks-once : (bytes : List ℕ) (p q r : Pen) (x : Tells bytes p q) (y : Tells bytes p r) → check-levels bytes ≡ refused 38
+    → x .marks ≡ y .marks
+told-marks-once bytes p q r x y e = on (desk bytes) refl (desk-below bytes)
+  where
+    on : (d : Refusable Book) → desk bytes ≡ d → Below d → x .marks ≡ y .marks
+    on (refused n) k (by-number h) = absurd (omega (arith, same-refused (sym (ap levels-at-desk k) ∙ e)))
+    on (accepted book) k taken = marks-once book (x .marks) (y .marks) (x .marked book k e) (y .marked book k e)
+
+pub told-once : (bytes : List ℕ) (p q r : Pen) → Tells bytes p q → Tells bytes p r → q ≡ r
+told-once bytes p q r x y =
+    x .told ∙ ap (λ (w : List ℕ). put-all w p) (words-once (check-levels bytes) (x .marks) (y .marks) (told-marks-once bytes p q r x y))
+    ∙ sym (y .told)

@@ -1,0 +1,121 @@
+-- What the proofs of the lines cite: what is left to say of the goals, put down from where the pen is, is the same at each turn; texts put
+-- down one after the other; and what a profile says of the check. Assumes nothing.
+use Prim.Native.Nat.{ℕ, _+_, _<_, _≤_}
+use native.Mathlib.Omega.{arith}
+use native.Mathlib.Numerals.{add-one}
+use mathlib.Core.Bool.{Bool, true, false}
+use mathlib.Core.Path.{_≡_, sym, ap, _∙_}
+use mathlib.Core.List.{List, [], _++_}
+use lib.ListN.{length, getD, take, drop, drop-of-length-le}
+use lib.Seq.{drop-cons, length-take-le}
+use lib.Dec.{eqb}
+use borrow.Author.Tests.{eq-eqb, ne-eqb}
+use Rattle.definitions.specs.Ascii.{ascii}
+use Rattle.definitions.specs.Listing.{decimal}
+use Rattle.definitions.specs.Refusal.{Refusable, refused}
+use Rattle.definitions.proofs.Refusal.{not-accepted}
+use Rattle.pen.specs.Pen.{Pen, put-all}
+use Rattle.pen.specs.Refusals.{refusal-lines}
+use Rattle.pen.proofs.Putting.{put-two, put-nothing, put-left, put-ended}
+use Rattle.profile.specs.declared.Profile.{Profile}
+use Rattle.profile.specs.Profile.{profile-by, profile-seen, Profiles}
+use Rattle.levels.specs.Words.{words-from, level-line, level-lines, marked-by, marked-words, cycle-words, reason-words, refused-words}
+use Rattle.levels.specs.Words.{level-words, Tells}
+
+-- The goals one after the other.
+
+module _ (words : (goal number : ℕ) → List ℕ) (l : List ℕ) where
+  -- what is left to say at the goal g
+  abbrev pub words-left : ℕ → List ℕ
+  words-left g = words-from words g (drop g l)
+
+  words-next : (g : ℕ) → g < length l → words-left g ≡ words g (getD l g 0) ++ words-left (g + 1)
+  unfolding words-from
+  words-next g h =
+      ap (words-from words g) (drop-cons l g 0 h)
+      ∙ ap (λ (t : ℕ). words g (getD l g 0) ++ words-from words t (drop t l)) (sym (add-one g))
+
+  words-end : (g : ℕ) → length l ≤ g → words-left g ≡ []
+  unfolding words-from
+  words-end g h = ap (words-from words g) (drop-of-length-le l {i = g} h)
+
+  pub words-step : (g : ℕ) (p q start : Pen) → g < length l → put-all (words-left g) p ≡ put-all (words-left 0) start
+      → q ≡ put-all (words g (getD l g 0)) p → put-all (words-left (g + 1)) q ≡ put-all (words-left 0) start
+  words-step g p q start h i e =
+      put-left (words g (getD l g 0)) (words-left (g + 1)) p q e ∙ ap (λ (w : List ℕ). put-all w p) (sym (words-next g h)) ∙ i
+
+  pub words-said : (g : ℕ) (p q : Pen) → length l ≤ g → put-all (words-left g) q ≡ put-all (words-left 0) p
+      → q ≡ put-all (words-from words 0 l) p
+  words-said g p q h i = put-ended (words-left g) (words-left 0) p q (words-end g h) i
+
+-- A line, a goal, and the goals on a cycle.
+
+pub level-said : (goal level : ℕ) (p q r s : Pen) → q ≡ put-all (decimal goal) p → r ≡ put-all (ascii " " ++ decimal level) q
+    → s ≡ put-all (ascii "\n") r → s ≡ put-all (level-line goal level) p
+unfolding level-line
+level-said goal level p q r s e f g =
+    put-two (decimal goal) _ p q s e (put-two (ascii " " ++ decimal level) (ascii "\n") q r s f g)
+
+pub marked-said : (goal mark : ℕ) (p q : Pen) → mark ≡ 1 → q ≡ put-all (ascii " " ++ decimal goal) p
+    → q ≡ put-all (marked-words goal mark) p
+unfolding marked-words
+marked-said goal mark p q e f = f ∙ ap (λ (b : Bool). put-all (marked-by b goal) p) (sym (eq-eqb mark 1 e))
+
+pub unmarked-said : (goal mark : ℕ) (p : Pen) → (mark ≡ 1 → ⊥) → p ≡ put-all (marked-words goal mark) p
+unfolding marked-words
+unmarked-said goal mark p e = sym (put-nothing p) ∙ ap (λ (b : Bool). put-all (marked-by b goal) p) (sym (ne-eqb mark 1 e))
+
+pub cycle-said : (marks : List ℕ) (p q r s : Pen) → q ≡ put-all (ascii "goals on a cycle through \"not\":") p
+    → r ≡ put-all (words-from marked-words 0 marks) q → s ≡ put-all (ascii "\n") r → s ≡ put-all (cycle-words marks) p
+unfolding cycle-words
+cycle-said marks p q r s e f g =
+    put-two (ascii "goals on a cycle through \"not\":") _ p q s e (put-two (words-from marked-words 0 marks) (ascii "\n") q r s f g)
+
+-- A refusal, by whether its number is 38.
+
+reason-said : (n : ℕ) (b : Bool) (marks : List ℕ) (p q r : Pen) → eqb n 38 ≡ b → q ≡ put-all (refusal-lines n) p
+    → r ≡ put-all (reason-words b marks) q → r ≡ put-all (refused-words n marks) p
+unfolding refused-words
+reason-said n b marks p q r e f g =
+    put-two (refusal-lines n) (reason-words b marks) p q r f g
+    ∙ ap (λ (c : Bool). put-all (refusal-lines n ++ reason-words c marks) p) (sym e)
+
+pub refused-38-said : (n : ℕ) (marks : List ℕ) (p q r : Pen) → n ≡ 38 → q ≡ put-all (refusal-lines n) p → r ≡ put-all (cycle-words marks) q
+    → r ≡ put-all (refused-words n marks) p
+refused-38-said n marks p q r e f g = reason-said n true marks p q r (eq-eqb n 38 e) f g
+
+pub refused-said : (n : ℕ) (marks : List ℕ) (p q : Pen) → (n ≡ 38 → ⊥) → q ≡ put-all (refusal-lines n) p
+    → q ≡ put-all (refused-words n marks) p
+refused-said n marks p q e f = reason-said n false marks p q q (ne-eqb n 38 e) f (sym (put-nothing q))
+
+-- What the check says.
+
+pub same-refused : {A : Type 0} {m n : ℕ} → _≡_ {A = Refusable A} (refused m) (refused n) → m ≡ n
+same-refused {A} {m} {n} e = cc
+
+refused-by : (b : Bool) (r : Profile) (n : ℕ) → profile-by b r ≡ refused n → r .number ≡ n
+refused-by true r n e = absurd (not-accepted (sym e))
+refused-by false r n e = same-refused e
+
+-- the marks are told by the profile wherever the check says 38
+tells : (bytes : List ℕ) (r : Profile) (p q : Pen) → Profiles bytes r → q ≡ put-all (level-words (profile-seen r) (r .«on_cycle»)) p
+    → Tells bytes p q
+tells bytes r p q x e = record {
+  marks = r .«on_cycle»;
+  marked = λ book d k. x .cycles book d (refused-by (eqb (r .number) 0) r 38 (x .means ∙ k));
+  told = e ∙ ap (λ (c : Refusable (List ℕ)). put-all (level-words c (r .«on_cycle»)) p) (x .means);
+}
+
+-- there are as many levels as goals
+pub as-many-levels : (bytes : List ℕ) (r : Profile) → Profiles bytes r → r .goals ≡ length (take (r .goals) (r .levels))
+as-many-levels bytes r x = sym (length-take-le (r .goals) (r .levels) (omega (arith, x .few, x .whole)))
+
+pub tells-levels : (bytes : List ℕ) (r : Profile) (p q : Pen) → Profiles bytes r → r .number ≡ 0
+    → q ≡ put-all (level-lines 0 (take (r .goals) (r .levels))) p → Tells bytes p q
+tells-levels bytes r p q x e f =
+    tells bytes r p q x (f ∙ ap (λ (b : Bool). put-all (level-words (profile-by b r) (r .«on_cycle»)) p) (sym (eq-eqb (r .number) 0 e)))
+
+pub tells-refusal : (bytes : List ℕ) (r : Profile) (p q : Pen) → Profiles bytes r → (r .number ≡ 0 → ⊥)
+    → q ≡ put-all (refused-words (r .number) (r .«on_cycle»)) p → Tells bytes p q
+tells-refusal bytes r p q x e f =
+    tells bytes r p q x (f ∙ ap (λ (b : Bool). put-all (level-words (profile-by b r) (r .«on_cycle»)) p) (sym (ne-eqb (r .number) 0 e)))

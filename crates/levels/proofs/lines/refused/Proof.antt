@@ -1,0 +1,28 @@
+-- `refused`: the refusal's lines, and behind them the goals on a cycle if its number is 38.
+use Rattle.levels.proofs.Telling.{refused-38-said, refused-said}
+use borrow.Author.Needs.{needs}
+use Rattle.levels.proofs.lines.refused.Statement.{statement}
+use Rattle.levels.proofs.lines.refused.Tie as tie
+
+refusal-requires : tie.Need-refusal-requires
+refusal-requires c κs = search needs
+
+cycle-line-requires : tie.Need-cycle-line-requires
+cycle-line-requires c κs = search needs
+
+same-length : tie.Need-same-length
+same-length c = search needs
+
+returns : tie.Need-returns
+returns c = search refused-38-said
+
+same-length-2 : tie.Need-same-length-2
+same-length-2 c = search needs
+
+returns-2 : tie.Need-returns-2
+returns-2 c = search refused-said
+
+pub refused-spec : {M : Type 1} → statement M
+refused-spec =
+    tie.close
+    (tie.spec refusal-requires cycle-line-requires same-length returns same-length-2 returns-2)

@@ -1,0 +1,91 @@
+// What the check of a paper says. One that is taken has a line for each goal, with its least level:
+//
+//     0 1
+//     1 0
+//
+// One that is refused has its number and the number's sentence; and one that is not levelled also the goals to look at:
+//
+//     refused 38
+//     not levelled: no numbering of the goals satisfies the rule
+//     goals on a cycle through "not": 0 1 5
+use pen::refusals;
+use profile::levels;
+ghost use mathlib.Core.Path.{_≡_};
+ghost use Rattle.pen.specs.Pen.{pen, put-all};
+ghost use Rattle.levels.specs.Words.{words-from, level-line as levelLine, level-lines as levelLines, marked-words};
+ghost use Rattle.levels.specs.Words.{cycle-words, refused-words, Tells};
+
+fn level_line(out: &mut [u8], at: usize, goal: usize, level: u8) -> usize
+    ensures { λ r. ⌜ pen (now (out .exit)) r ≡ put-all (levelLine goal level) (pen (now (out .entry)) at) ⌝ }
+{
+    let named = pen::number(out, at, goal as u64);
+    let levelled = pen::counted(out, named, b" ", level as u64);
+    pen::text(out, levelled, b"\n")
+}
+
+fn level_lines(out: &mut [u8], at: usize, levels: &[u8]) -> usize
+    ensures { λ r. ⌜ pen (now (out .exit)) r ≡ put-all (levelLines 0 (now (levels .entry))) (pen (now (out .entry)) at) ⌝ }
+{
+    let mut used = at;
+    let mut g: usize = 0;
+    while g < levels.len() {
+        used = level_line(out, used, g, levels[g]);
+        g += 1;
+    }
+    used
+}
+
+// The goal with a space before it, if it is marked.
+fn marked(out: &mut [u8], at: usize, goal: usize, mark: u8) -> usize
+    ensures { λ r. ⌜ pen (now (out .exit)) r ≡ put-all (marked-words goal mark) (pen (now (out .entry)) at) ⌝ }
+{
+    if mark == 1 {
+        return pen::counted(out, at, b" ", goal as u64);
+    }
+    at
+}
+
+fn marked_goals(out: &mut [u8], at: usize, marks: &[u8]) -> usize
+    ensures { λ r. ⌜ pen (now (out .exit)) r ≡ put-all (words-from marked-words 0 (now (marks .entry))) (pen (now (out .entry)) at) ⌝ }
+{
+    let mut used = at;
+    let mut g: usize = 0;
+    while g < marks.len() {
+        used = marked(out, used, g, marks[g]);
+        g += 1;
+    }
+    used
+}
+
+fn cycle_line(out: &mut [u8], at: usize, marks: &[u8]) -> usize
+    ensures { λ r. ⌜ pen (now (out .exit)) r ≡ put-all (cycle-words (now (marks .entry))) (pen (now (out .entry)) at) ⌝ }
+{
+    let worded = pen::text(out, at, b"goals on a cycle through \"not\":");
+    let told = marked_goals(out, worded, marks);
+    pen::text(out, told, b"\n")
+}
+
+// A refusal, and with 38 the goals that are marked.
+fn refused(out: &mut [u8], at: usize, number: u8, marks: &[u8]) -> usize
+    ensures { λ r. ⌜ pen (now (out .exit)) r ≡ put-all (refused-words number (now (marks .entry))) (pen (now (out .entry)) at) ⌝ }
+{
+    let said = refusals::refusal(out, at, number);
+    if number == 38 {
+        return cycle_line(out, said, marks);
+    }
+    said
+}
+
+// What the check of a byte string says, put down from the start of the buffer on.
+pub(crate) fn say(out: &mut [u8], bytes: &[u8]) -> usize
+    ensures { λ r. ⌜ Tells (now (bytes .entry)) (pen (now (out .entry)) 0) (pen (now (out .exit)) r) ⌝ }
+{
+    let p = levels::levels(bytes);
+    if p.number == 0 {
+        let levels = p.levels;
+        let goals = p.goals;
+        return level_lines(out, 0, &levels[..goals]);
+    }
+    let marks = p.on_cycle;
+    refused(out, 0, p.number, &marks)
+}
