@@ -1,5 +1,5 @@
 #!/usr/bin/env bash
-# ns an operation of the stores, and the reading of a book, by the difference of two clocks. Usage: tools/stores_bench.sh, after `rt check stores_bench`.
+# ns an operation of the stores, the reading of a book and its check, by the difference of two clocks. Usage: tools/stores_bench.sh, after `rt check stores_bench`.
 set -euo pipefail
 cd "$(dirname "$0")/.."
 bench=target/bin/stores_bench
@@ -44,4 +44,7 @@ run 'answer pushed again, the last of 256' 12 1000000
 for book in clauses-256-alike clauses-256-twice largest p1; do
     run "$book read" 13 20000 "papers/$book.book"
     run "$book read at the desk" 14 20000 "papers/$book.book"
+done
+for book in levels-chain levels-cycle largest levels-p1; do
+    run "$book checked" 15 2000 "papers/$book.book"
 done
