@@ -5,7 +5,7 @@ use Prim.Native.Nat.{ℕ, zero, suc, _+_, _≤_, _<_}
 use native.Mathlib.Omega.{arith}
 use native.Mathlib.Decide.{decLt}
 use mathlib.Core.Path.{_≡_, refl, sym, ap, subst, _∙_}
-use mathlib.Core.Bool.{Bool, true, false, true≢false, false≢true}
+use mathlib.Core.Bool.{Bool, true, false, false≢true}
 use mathlib.Core.Logic.{_⊎_, inl, inr}
 use mathlib.Core.Option.{Option, none, some}
 use mathlib.Core.List.{List, [], _∷_}
@@ -16,13 +16,14 @@ use borrow.Author.Tests.{eqb-true, eq-eqb}
 use Rattle.laws.proofs.Options.{no-such, same-some}
 use Rattle.definitions.specs.Refusal.{Refusable, refused, accepted}
 use Rattle.definitions.specs.Lists.{same}
-use Rattle.definitions.specs.Book.{Literal, Clause, Goal, Book, read-ahead}
+use Rattle.definitions.specs.Book.{Book, read-ahead}
 use Rattle.definitions.specs.Desk.{desk}
 use Rattle.definitions.specs.Model.{Plain, Levelled}
 use Rattle.definitions.specs.Levels.{level-in, pass, passes, levels, is-plain, levels-or-38, plain-levels, levels-at-desk, check-levels}
-use Rattle.definitions.specs.Levels.{settled, Walk, stays, goes, OnNotCycle}
-use Rattle.definitions.proofs.Refusal.{same-accepted, not-accepted}
+use Rattle.definitions.specs.Levels.{Walk, stays, goes}
+use Rattle.definitions.proofs.Refusal.{same-accepted, same-refused, not-accepted}
 use Rattle.definitions.proofs.Desk.{and-both, both-and, desk-take}
+use Rattle.definitions.proofs.DeskNumbers.{Below, by-number, taken, desk-below}
 use Rattle.definitions.proofs.PlainTest.{plain-is, is-plain-of}
 use Rattle.definitions.proofs.Passes.{step-down, passes-below, unchanged-levelled, passes-rise, length-passes}
 use Rattle.definitions.proofs.Trails.{SomeCycle, no-more}
@@ -204,6 +205,29 @@ check-unlevelled book e = on (is-plain book) refl (levels book) refl e
     on false k o l x = absurd (let z : _≡_ {A = ℕ} 37 38 = cc in omega arith)
     on true k none l x = (plain-is book k, levels-none book l, levels-none-cycle book l)
     on true k (some ms) l x = absurd (not-accepted (sym x))
+
+-- So of a byte string: 37 and 38 are said of a book that the desk takes, whose own numbers are below them.
+
+own-number : (bytes : List ℕ) (n : ℕ) → check-levels bytes ≡ refused n → 37 ≤ n
+    → (book : Book) × (desk bytes ≡ accepted book) × (plain-levels book ≡ refused n)
+own-number bytes n e h = on (desk bytes) refl (desk-below bytes) e
+  where
+    on : (r : Refusable Book) → desk bytes ≡ r → Below r → levels-at-desk r ≡ refused n
+        → (book : Book) × (desk bytes ≡ accepted book) × (plain-levels book ≡ refused n)
+    on (refused m) k (by-number l) x = absurd (omega (arith, same-refused x))
+    on (accepted book) k taken x = (book, k, x)
+
+-- 37 only of a book that isn't plain
+pub check-37 : (bytes : List ℕ) → check-levels bytes ≡ refused 37 → (book : Book) × (desk bytes ≡ accepted book) × (Plain book → ⊥)
+check-37 bytes e = let r = own-number bytes 37 e (omega arith) in (r .0, r .1, check-unplain (r .0) (r .2))
+
+-- 38 only where every numbering fails
+pub check-38 : (bytes : List ℕ) → check-levels bytes ≡ refused 38
+    → (book : Book) × (desk bytes ≡ accepted book) × Plain book × ((level : ℕ → ℕ) → Levelled book level → ⊥) × SomeCycle book
+check-38 bytes e =
+    let r = own-number bytes 38 e (omega arith) in
+    let x = check-unlevelled (r .0) (r .2) in
+    (r .0, r .1, x .0, x .1, x .2)
 
 -- how it takes a byte string is settled by as many bytes as how that is read
 pub levels-take : (bytes : List ℕ) → check-levels (take read-ahead bytes) ≡ check-levels bytes

@@ -7,6 +7,8 @@ pub mod Prefix
 pub mod Fitting
 pub mod Largest
 pub mod Desk
+pub mod DeskNumbers
+pub mod Members
 pub mod PlainTest
 pub mod Passes
 pub mod Trails

@@ -2,17 +2,17 @@
 -- a pass doesn't change satisfy it.
 use Prim.Native.Nat.{ℕ, zero, suc, _+_, _≤_, _<_}
 use native.Mathlib.Omega.{arith}
-use mathlib.Core.Path.{_≡_, refl, sym, ap, ap₂, subst, _∙_}
+use mathlib.Core.Path.{_≡_, refl, ap}
 use mathlib.Core.Bool.{Bool, true, false}
 use mathlib.Core.Logic.{_⊎_, inl, inr}
-use mathlib.Core.Option.{Option, none, some}
 use mathlib.Core.List.{List, [], _∷_, map, List·Memᴰ, List·Memᴰ·head, List·Memᴰ·tail, List·Memᴰ·not-nil}
-use lib.ListN.{length, getD, getElem?, length-map}
+use lib.ListN.{length, getD, length-map}
 use lib.Dec.{ltb}
 use borrow.Author.Tests.{ltb-true, ltb-false}
 use Rattle.definitions.specs.Book.{Literal, Positive, Negative, Clause, Goal, Book, goal-of}
-use Rattle.definitions.specs.Model.{Each, clauses-of, LevelLiteral, Levelled}
+use Rattle.definitions.specs.Model.{clauses-of, LevelLiteral, Levelled}
 use Rattle.definitions.specs.Levels.{level-in, larger, literal-asks, literals-ask, clauses-ask, pass, passes, is-not}
+use Rattle.definitions.proofs.Members.{each-at, each-by}
 
 -- The larger of two.
 
@@ -125,14 +125,6 @@ pub to-rule : (level : ℕ → ℕ) (n : ℕ) (l : Literal) → is-not l + level
 to-rule level n (Positive g w o) x = omega arith
 to-rule level n (Negative g o) x = omega arith
 
-each-at : {A : Type 0} (P : A → Type 0) (l : List A) → Each P l → (a : A) → List·Memᴰ a l → P a
-each-at P l e a (List·Memᴰ·head k) = subst P (sym k) (e .0)
-each-at P l e a (List·Memᴰ·tail {xs = xs} m) = each-at P xs (e .1) a m
-
-each-by : {A : Type 0} (P : A → Type 0) (l : List A) → ((a : A) → List·Memᴰ a l → P a) → Each P l
-each-by P [] h = tt
-each-by P (a ∷ l) h = (h a (List·Memᴰ·head refl), each-by P l (λ b m. h b (List·Memᴰ·tail m)))
-
 module _ (book : Book) (level : ℕ → ℕ) (levelled : Levelled book level) where
   -- a step goes down by as many as it has "not"
   pub step-down : (g : ℕ) (c : Clause) (l : Literal) → List·Memᴰ c (clauses-of book g) → List·Memᴰ l (c .literals)
@@ -177,7 +169,7 @@ passes-rise book (suc n) g =
     omega arith) in
     omega arith
 
-pub is-not-small : (l : Literal) → is-not l ≤ 1
+pub is-not-small : (l : Literal) → is-not l < 2
 is-not-small (Positive g w o) = omega arith
 is-not-small (Negative g o) = omega arith
 

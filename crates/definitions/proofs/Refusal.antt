@@ -4,11 +4,14 @@ use native.Mathlib.Omega.{arith}
 use mathlib.Core.Path.{_≡_, refl}
 use mathlib.Core.Bool.{Bool, true, false}
 use mathlib.Core.List.{List, [], _∷_}
-use Rattle.definitions.specs.Refusal.{refused, accepted, Test, unless}
+use Rattle.definitions.specs.Refusal.{Refusable, refused, accepted, Test, unless}
 use Rattle.definitions.specs.Model.{Each}
 
 pub same-accepted : {A : Type 0} {a b : A} → accepted a ≡ accepted b → a ≡ b
 same-accepted {A} {a} {b} e = cc
+
+pub same-refused : {A : Type 0} {m n : ℕ} → _≡_ {A = Refusable A} (refused m) (refused n) → m ≡ n
+same-refused {A} {m} {n} e = cc
 
 pub not-accepted : {A : Type 0} {n : ℕ} {a : A} → refused n ≡ accepted a → ⊥
 not-accepted {A} {n} {a} e = let z : _≡_ {A = ℕ} 0 1 = cc in omega arith

@@ -5,15 +5,15 @@ use native.Mathlib.Omega.{arith}
 use native.Mathlib.Decide.{ℕ-discrete, decLt}
 use mathlib.Core.Path.{_≡_, refl, sym, ap, subst, _∙_}
 use mathlib.Core.Logic.{_⊎_, inl, inr}
-use mathlib.Core.Option.{Option, none, some}
-use mathlib.Core.List.{List, [], _∷_, List·Memᴰ, List·Memᴰ·head, List·Memᴰ·tail, List·Memᴰ·not-nil}
+use mathlib.Core.Option.{some}
+use mathlib.Core.List.{List, [], _∷_, List·Memᴰ, List·Memᴰ·head, List·Memᴰ·tail}
 use lib.ListN.{length, getElem?}
 use Rattle.laws.proofs.Options.{no-such, same-some}
-use Rattle.laws.proofs.Lists.{place-under}
 use Rattle.laws.proofs.Distinct.{Distinct, Under, few-distinct}
-use Rattle.definitions.specs.Book.{Literal, Clause, Goal, Book, goal-of}
+use Rattle.definitions.specs.Book.{Literal, Clause, Book, goal-of}
 use Rattle.definitions.specs.Model.{clauses-of}
 use Rattle.definitions.specs.Levels.{level-in, literal-asks, literals-ask, clauses-ask, passes, is-not, Walk, stays, goes, OnNotCycle}
+use Rattle.definitions.proofs.Members.{clause-inside}
 use Rattle.definitions.proofs.Passes.{larger-one, asks, asked-by, pass-at, start-at}
 
 -- Who asks.
@@ -97,17 +97,10 @@ module _ (book : Book) where
       let w = pass-at book (passes k book) g in
       omega arith
 
-  -- a goal that is left has a clause, so it is one of the book's
-  inside : (g : ℕ) (c : Clause) → List·Memᴰ c (clauses-of book g) → g < length book
-  inside g c m = on (getElem? book g) refl m
-    where
-      on : (o : Option Goal) → getElem? book g ≡ o → List·Memᴰ c (elim o [ none ↦ [] | some h ↦ h .clauses ]) → g < length book
-      on none e x = absurd (List·Memᴰ·not-nil x)
-      on (some h) e x = place-under book g h e
-
+  -- a goal that is left has a clause
   left-under : {g n : ℕ} {gs : List ℕ} → Trail book g gs n → Under (length book) gs
   left-under ends i h e = absurd (no-such e)
-  left-under (leaves {g = g} c l mc ml t) zero h e = subst (λ (k : ℕ). k < length book) (same-some e) (inside g c mc)
+  left-under (leaves {g = g} c l mc ml t) zero h e = subst (λ (k : ℕ). k < length book) (same-some e) (clause-inside book g c mc)
   left-under (leaves c l mc ml t) (suc i) h e = left-under t i h e
 
   -- the way to a goal that is left, and the way on from there

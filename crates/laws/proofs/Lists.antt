@@ -93,6 +93,12 @@ module _ {A : Type 0} where
   every-set P (x ∷ l) (suc i) a d h k zero = k zero
   every-set P (x ∷ l) (suc i) a d h k (suc c) = every-set P l i a d h (λ e. k (suc e)) c
 
+-- past the end of a list of numbers
+pub getD-past : (l : List ℕ) (i : ℕ) → length l ≤ i → _≡_ {A = ℕ} (getD l i 0) 0
+getD-past [] i h = refl
+getD-past (x ∷ l) zero h = absurd (omega arith)
+getD-past (x ∷ l) (suc i) h = getD-past l i (omega arith)
+
 -- a list of zeros, at any place and past its end
 pub getD-zeros : (n i : ℕ) → _≡_ {A = ℕ} (getD (replicate n 0) i 0) 0
 getD-zeros zero i = refl

@@ -13,12 +13,12 @@ use Rattle.definitions.specs.Refusal.{Refusable, refused, accepted}
 use Rattle.definitions.specs.Book.{Book}
 use Rattle.definitions.specs.Desk.{desk}
 use Rattle.definitions.specs.Levels.{levels-at-desk, check-levels}
+use Rattle.definitions.proofs.Refusal.{same-refused}
+use Rattle.definitions.proofs.DeskNumbers.{Below, by-number, taken, desk-below}
 use Rattle.profile.specs.Profile.{Marks}
 use Rattle.pen.specs.Pen.{Pen, put-all}
 use Rattle.pen.specs.Refusals.{refusal-lines}
 use Rattle.levels.specs.Words.{reason-words, refused-words, level-words, Tells}
-use Rattle.levels.proofs.Check.{Below, by-number, taken, desk-below}
-use Rattle.levels.proofs.Telling.{same-refused}
 
 marks-once : (book : Book) (a b : List ℕ) → Marks book a → Marks book b → a ≡ b
 marks-once book a b x y =

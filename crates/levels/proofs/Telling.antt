@@ -13,7 +13,7 @@ use borrow.Author.Tests.{eq-eqb, ne-eqb}
 use Rattle.definitions.specs.Ascii.{ascii}
 use Rattle.definitions.specs.Listing.{decimal}
 use Rattle.definitions.specs.Refusal.{Refusable, refused}
-use Rattle.definitions.proofs.Refusal.{not-accepted}
+use Rattle.definitions.proofs.Refusal.{same-refused, not-accepted}
 use Rattle.pen.specs.Pen.{Pen, put-all}
 use Rattle.pen.specs.Refusals.{refusal-lines}
 use Rattle.pen.proofs.Putting.{put-two, put-nothing, put-left, put-ended}
@@ -89,9 +89,6 @@ pub refused-said : (n : ℕ) (marks : List ℕ) (p q : Pen) → (n ≡ 38 → �
 refused-said n marks p q e f = reason-said n false marks p q q (ne-eqb n 38 e) f (sym (put-nothing q))
 
 -- What the check says.
-
-pub same-refused : {A : Type 0} {m n : ℕ} → _≡_ {A = Refusable A} (refused m) (refused n) → m ≡ n
-same-refused {A} {m} {n} e = cc
 
 refused-by : (b : Bool) (r : Profile) (n : ℕ) → profile-by b r ≡ refused n → r .number ≡ n
 refused-by true r n e = absurd (not-accepted (sym e))

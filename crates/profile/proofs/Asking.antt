@@ -3,11 +3,11 @@ use Prim.Native.Nat.{ℕ, zero, suc, _+_, _-_, _≤_, _<_}
 use native.Mathlib.Omega.{arith}
 use mathlib.Core.Path.{_≡_, refl, sym, ap, subst, _∙_}
 use mathlib.Core.Bool.{Bool, true, false}
-use mathlib.Core.List.{List, [], _∷_}
-use lib.ListN.{length, getD}
-use lib.Dec.{ltb}
+use mathlib.Core.List.{List}
+use lib.ListN.{getD}
 use borrow.Author.Tests.{lt-ltb, le-ltb}
 use Rattle.laws.specs.Spans.{span}
+use Rattle.laws.proofs.Lists.{getD-past}
 use Rattle.laws.proofs.Spans.{span-left, span-done}
 use Rattle.definitions.specs.Book as said
 use Rattle.definitions.specs.Book.{bit1}
@@ -55,12 +55,7 @@ larger-assoc a b c =
 
 -- A goal's level, past the levels.
 pub level-past : (l : List ℕ) (g : ℕ) → Low l → 64 ≤ g → 0 ≡ getD l g 0
-level-past l g low h = past l g (omega (arith, low .whole))
-  where
-    past : (l : List ℕ) (g : ℕ) → length l ≤ g → 0 ≡ getD l g 0
-    past [] g h = refl
-    past (x ∷ l) zero h = absurd (omega arith)
-    past (x ∷ l) (suc g) h = past l g (omega arith)
+level-past l g low h = sym (getD-past l g (omega (arith, low .whole)))
 
 -- A literal.
 

@@ -1,11 +1,10 @@
 -- The check of a byte string, by its parts: what the desk gave, whether the book is plain, what the passes ended in, and the marks.
-use Prim.Native.Nat.{ℕ, _≤_}
+use Prim.Native.Nat.{ℕ}
 use native.Mathlib.Omega.{arith}
 use mathlib.Core.Path.{_≡_, refl, sym, ap, subst, _∙_}
 use mathlib.Core.Bool.{Bool, true, false, not}
-use mathlib.Core.Option.{Option}
 use mathlib.Core.List.{List}
-use lib.ListN.{length, getD, replicate, length-replicate}
+use lib.ListN.{length-replicate}
 use lib.Dec.{eqb}
 use borrow.Author.Tests.{eq-eqb, ne-eqb}
 use Rattle.laws.proofs.Bools.{was-true, was-false}
@@ -13,7 +12,7 @@ use Rattle.laws.proofs.Lists.{getD-zeros}
 use Rattle.definitions.specs.Refusal.{Refusable, refused, accepted}
 use Rattle.definitions.specs.Book as said
 use Rattle.definitions.specs.Desk.{desk}
-use Rattle.definitions.specs.Levels.{is-plain, levels, levels-or-38, plain-levels, levels-at-desk, check-levels}
+use Rattle.definitions.specs.Levels.{is-plain, levels, levels-or-38, levels-at-desk, check-levels}
 use Rattle.definitions.proofs.Refusal.{same-accepted, not-accepted}
 use Rattle.book.specs.declared.Reading.{Reading}
 use Rattle.book.specs.View.{view, seen-by, Sound, Gives, Taken}

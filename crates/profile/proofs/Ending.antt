@@ -9,8 +9,7 @@ use mathlib.Core.Option.{Option, none, some}
 use mathlib.Core.List.{List, [], _∷_}
 use lib.ListN.{length, getD, take, replicate, length-replicate, length-take}
 use lib.Seq.{ext-getD, getD-take}
-use Rattle.laws.specs.Spans.{span}
-use Rattle.laws.proofs.Lists.{getD-zeros}
+use Rattle.laws.proofs.Lists.{getD-past, getD-zeros}
 use Rattle.laws.proofs.Spans.{length-span}
 use Rattle.definitions.specs.Book as said
 use Rattle.definitions.specs.Lists.{same}
@@ -22,10 +21,9 @@ use Rattle.definitions.proofs.Levels.{levels-of-unchanged, same-are}
 use Rattle.book.specs.declared.Book.{Book}
 use Rattle.book.specs.View.{goal-viewed, view, Sound}
 use Rattle.book.specs.Access.{entry}
-use Rattle.book.specs.Repeats.{clause-read, literals-read}
+use Rattle.book.specs.Repeats.{clause-read}
 use Rattle.book.proofs.TwiceInBook.{lent-by, goal-few, goal-shown}
-use Rattle.profile.specs.declared.Settled.{Settled}
-use Rattle.profile.specs.Asks.{Low, asked-from, PassGives, ClausesInside, SameLevels, Settles}
+use Rattle.profile.specs.Asks.{Low, PassGives, ClausesInside, SameLevels, Settles}
 use Rattle.profile.proofs.Asking.{clauses-most}
 use Rattle.profile.proofs.Members.{clauses-in, clauses-past}
 
@@ -106,12 +104,6 @@ module _ (b : Book) (s : Sound b) where
           omega arith;
     }
 
-    -- levels that are the same everywhere up to the array's size, behind which there are none
-    past : (l : List ℕ) (g : ℕ) → length l ≤ g → _≡_ {A = ℕ} (getD l g 0) 0
-    past [] g h = refl
-    past (x ∷ l) zero h = absurd (omega arith)
-    past (x ∷ l) (suc g) h = past l g (omega arith)
-
     module _ (next : List ℕ) (gives : PassGives levels (b .«goal_first») (b .«goal_len») (b .«clause_len») (b .«literal_kind»)
         (b .«literal_goal») (b .«literal_want») (b .goals) next) where
       asked-there : (g : ℕ) → g < b .goals → getD next g 0 ≡ clauses-ask levels (clauses-of (view b) g)
@@ -157,13 +149,13 @@ module _ (b : Book) (s : Sound b) where
                 on : Dec (g < 64) → getD next g 0 ≡ getD levels g 0
                 on (yes l) = told .everywhere t g l
                 on (no o) =
-                    past next g (omega (arith, gives .whole)) ∙ sym (past levels g (omega (arith, so .whole)))
+                    getD-past next g (omega (arith, gives .whole)) ∙ sym (getD-past levels g (omega (arith, so .whole)))
 
             long : length (passes k (view b)) ≡ b .goals
             long = length-passes k (view b) ∙ many
 
             ends : (g : ℕ) → b .goals ≤ g → level-in (passes k (view b)) g ≡ 0
-            ends g x = past (passes k (view b)) g (omega (arith, long))
+            ends g x = getD-past (passes k (view b)) g (omega (arith, long))
 
             taken : length (take (b .goals) levels) ≡ b .goals
             taken = let x = length-take (b .goals) levels in omega (arith, so .whole, s .few-goals)

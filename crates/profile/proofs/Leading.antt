@@ -1,17 +1,19 @@
 -- The edges, step by step: those of a literal, of a clause, of a goal and of a book.
-use Prim.Native.Nat.{ℕ, zero, suc, _+_, _*_, _≤_, _<_}
+use Prim.Native.Nat.{ℕ, suc, _+_, _*_, _≤_, _<_}
 use native.Mathlib.Omega.{arith}
 use mathlib.Core.Path.{_≡_, refl, sym, ap, subst, _∙_}
 use mathlib.Core.Bool.{Bool, true, false}
 use mathlib.Core.Logic.{_⊎_, inl, inr, ⊎-elim}
 use mathlib.Core.List.{List, List·Memᴰ}
-use lib.ListN.{length, getD, replicate, length-replicate}
+use lib.ListN.{length, replicate, length-replicate}
+use Rattle.laws.proofs.Lists.{getD-zeros}
 use Rattle.laws.proofs.Spans.{length-span}
 use Rattle.definitions.specs.Book as said
 use Rattle.definitions.specs.Book.{Clause, goal-of, bit1}
 use Rattle.definitions.specs.Model.{clauses-of}
 use Rattle.definitions.specs.Levels.{Walk, is-not}
 use Rattle.definitions.specs.Levels.Walk.{stays, goes}
+use Rattle.definitions.proofs.Passes.{is-not-small}
 use Rattle.book.specs.declared.Book.{Book}
 use Rattle.book.specs.declared.Literal.{Literal}
 use Rattle.book.specs.Access.{entry, literal-read}
@@ -20,13 +22,7 @@ use Rattle.book.specs.Repeats.{clause-read}
 use Rattle.book.proofs.TwiceInBook.{lent-by}
 use Rattle.profile.specs.Reach.{cell, Raised, Here, Names, said-literal, NamesFew, ClauseLeads, GoalLeads, Leads, NotStep, Edges}
 use Rattle.profile.proofs.Raising.{Steps, raised-as, raised-more, raised-then}
-use Rattle.profile.proofs.Walks.{is-not-most}
 use Rattle.profile.proofs.Members.{goal-of-meant, has-clause, clause-placed, placed-clause, literal-placed, placed-literal}
-
-zeros-at : (n p : ℕ) → _≡_ {A = ℕ} (getD (replicate n 0) p 0) 0
-zeros-at zero p = refl
-zeros-at (suc n) zero = refl
-zeros-at (suc n) (suc p) = zeros-at n p
 
 pub zeros-whole : {A : (v i j : ℕ) → Type 0} {m : List ℕ} → Raised A (replicate 4096 0) m → length m ≡ 4096
 zeros-whole r = r .whole ∙ length-replicate {A = ℕ} 4096 0
@@ -101,7 +97,7 @@ module _ (b : Book) where
       (r : Raised (Steps GoalStep n) (replicate 4096 0) m) where
     -- nothing was in before
     blank : (v i j : ℕ) → 0 < v → v ≤ cell (replicate 4096 0) i j → ⊥
-    blank v i j z h = omega (arith, zeros-at 4096 (64 * i + j))
+    blank v i j z h = omega (arith, getD-zeros 4096 (64 * i + j))
 
     own : (g : ℕ) → g < length (view b) → 0 < cell m g g
     own g h = r .met 1 g g (g, omega (arith, length-span (goal-viewed b) 0 (b .goals)), inl (refl, refl, omega arith))
@@ -153,7 +149,7 @@ module _ (b : Book) where
       not-in : j < 64 → 2 ≤ cell m i j → NotStep (view b) i j
       not-in h l =
           ⊎-elim (λ e. let few = e .1 in absurd (omega arith))
-          (λ x. (x .0, x .1, x .2, x .3, omega (arith, x .5, is-not-most (x .1)), x .4)) (entry-of 2 (omega arith) h l)
+          (λ x. (x .0, x .1, x .2, x .3, omega (arith, x .5, is-not-small (x .1)), x .4)) (entry-of 2 (omega arith) h l)
 
     pub goals-all : Edges (view b) m
     goals-all = record { whole = zeros-whole r; stays = own; steps = steps-in; walks = walk-in; nots = not-in }

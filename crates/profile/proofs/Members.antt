@@ -5,9 +5,8 @@ use mathlib.Core.Path.{_≡_, refl, sym, ap, subst, _∙_}
 use mathlib.Core.Bool.{Bool, true, false}
 use mathlib.Core.Logic.{⊎-elim}
 use mathlib.Core.List.{[], List·Memᴰ, List·Memᴰ·head, List·Memᴰ·tail, List·Memᴰ·not-nil, List·Memᴰ·cases-cons}
-use lib.Dec.{ltb}
-use borrow.Author.Tests.{ltb-true, ltb-false}
 use Rattle.laws.specs.Spans.{span}
+use Rattle.laws.proofs.Spans.{length-span}
 use Rattle.definitions.specs.Book.{Want, Literal, Clause, Goal, goal-of, bit1}
 use Rattle.definitions.specs.Model.{clauses-of}
 use Rattle.book.specs.declared.Book.{Book}
@@ -17,6 +16,7 @@ use Rattle.book.specs.View.{signed, meant, goal-viewed, view, Sound}
 use Rattle.book.specs.Repeats.{clause-read}
 use Rattle.book.proofs.Looks.{entry-in, literal-names}
 use Rattle.book.proofs.TwiceInBook.{lent-by, goal-inside, goal-shown}
+use Rattle.definitions.proofs.Members.{clause-inside}
 use Rattle.profile.specs.Reach.{said-literal, NamesFew}
 
 goal-of-signed : (negative : Bool) (g : ℕ) (w : Want) (outsized : Bool) → goal-of (signed negative g w outsized) ≡ g
@@ -57,12 +57,7 @@ clauses-past f s (suc n) (suc g) h = clauses-past f (suc s) n g (omega arith)
 module _ (b : Book) where
   -- only a goal of the book has clauses
   pub has-clause : (g : ℕ) (c : Clause) → List·Memᴰ c (clauses-of (view b) g) → g < b .goals
-  has-clause g c m = at (ltb g (b .goals)) refl
-    where
-      at : (t : Bool) → ltb g (b .goals) ≡ t → g < b .goals
-      at true q = ltb-true g (b .goals) q
-      at false q =
-          absurd (List·Memᴰ·not-nil (subst (List·Memᴰ c) (clauses-past (goal-viewed b) 0 (b .goals) g (ltb-false g (b .goals) q)) m))
+  has-clause g c m = subst (λ (n : ℕ). g < n) (length-span (goal-viewed b) 0 (b .goals)) (clause-inside (view b) g c m)
 
   module _ (s : Sound b) (g : ℕ) (h : g < b .goals) where
     abbrev first : ℕ

@@ -3,7 +3,7 @@ use Prim.Native.Nat.{ℕ, zero, suc, _+_, _-_, _%_, _≤_, _<_}
 use native.Mathlib.Omega.{arith}
 use mathlib.Core.Path.{_≡_, refl, sym, ap, ap₂, subst, _∙_}
 use mathlib.Core.Bool.{Bool, true, false, not, _&&_}
-use mathlib.Core.List.{List, [], _∷_}
+use mathlib.Core.List.{List}
 use lib.ListN.{getD}
 use lib.Dec.{eqb}
 use borrow.Author.Tests.{eq-eqb, ne-eqb}
@@ -17,7 +17,7 @@ use Rattle.book.specs.declared.Literal.{Literal}
 use Rattle.book.specs.declared.Book.{Book}
 use Rattle.book.specs.View.{meant, signed, wanted, bit2, goal-viewed, view, Sound}
 use Rattle.book.specs.Access.{entry, literal-read}
-use Rattle.book.specs.Repeats.{Lent, lent, clause-read, literals-read}
+use Rattle.book.specs.Repeats.{Lent, clause-read, literals-read}
 use Rattle.book.proofs.Looks.{entry-in}
 use Rattle.book.proofs.TwiceInBook.{lent-by, goal-shown}
 

@@ -5,13 +5,10 @@ use mathlib.Core.Path.{_≡_, refl, sym, subst}
 use mathlib.Core.Bool.{Bool, true, false}
 use lib.Dec.{eqb}
 use borrow.Author.Tests.{eqb-true, eqb-false}
-use Rattle.definitions.specs.Book.{Literal, Positive, Negative, Book, goal-of}
+use Rattle.definitions.specs.Book.{Book, goal-of}
 use Rattle.definitions.specs.Levels.{Walk, stays, goes, is-not, OnNotCycle}
+use Rattle.definitions.proofs.Passes.{is-not-small}
 use Rattle.profile.specs.Reach.{Leads, NotStep}
-
-pub is-not-most : (l : Literal) → is-not l < 2
-is-not-most (Positive g w outsized) = omega arith
-is-not-most (Negative g outsized) = omega arith
 
 module _ (book : Book) where
   pub walk-on : {g h n : ℕ} (k : ℕ) → Walk book g h n → Leads book h k → Leads book g k
@@ -45,5 +42,5 @@ module _ (book : Book) where
       at true q later = (g, goal-of l, (0, stays), (c, l, mc, ml, eqb-true (is-not l) 1 q, refl), (n, w))
       at false q later =
           let other = eqb-false (is-not l) 1 q in
-          let x = later (omega (arith, is-not-most l)) in
+          let x = later (omega (arith, is-not-small l)) in
           (x .0, x .1, (is-not l + x .2 .0, goes c l mc ml (x .2 .1)), x .3, x .4)

@@ -9,7 +9,7 @@ use mathlib.Core.List.{List, [], _∷_}
 use lib.ListN.{length}
 use lib.Dec.{leb, eqb}
 use Rattle.definitions.specs.{MAX}
-use Rattle.definitions.specs.Book.{Book, clause-count, read}
+use Rattle.definitions.specs.Book.{Book, read}
 use Rattle.definitions.specs.Refusal.{Refusable, refused, accepted, _refuses_, unless}
 use Rattle.definitions.specs.Tables.{Forest}
 use Rattle.definitions.specs.Turn.{root-answer}

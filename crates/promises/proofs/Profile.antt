@@ -1,21 +1,21 @@
 -- What the levelled profile says beforehand: a paper that the check accepts is within demand 3, with the levels that it gives; and the
 -- model is one, whichever levels are taken.
 use Prim.Native.Nat.{ℕ}
-use mathlib.Core.Path.{_≡_, ap, sym, subst, _∙_}
+use mathlib.Core.Path.{_≡_, ap, subst}
 use mathlib.Core.Bool.{_||_}
-use mathlib.Core.List.{List, [], _∷_}
+use mathlib.Core.List.{[], _∷_}
 use lib.Dec.{leb, eqb}
 use Rattle.definitions.specs.{MAX}
 use Rattle.definitions.specs.Refusal.{Refusable, refused, accepted, _refuses_}
 use Rattle.definitions.specs.Book.{Book}
 use Rattle.definitions.specs.Tables.{Forest}
 use Rattle.definitions.specs.Forest.{make-of}
-use Rattle.definitions.specs.Desk.{desk, make-at-desk}
-use Rattle.definitions.specs.Model.{Plain, Levelled, In}
-use Rattle.definitions.specs.Levels.{level-in, levels-at-desk, check-levels}
+use Rattle.definitions.specs.Desk.{desk}
+use Rattle.definitions.specs.Model.{Plain, Levelled}
+use Rattle.definitions.specs.Levels.{level-in, levels-at-desk}
 use Rattle.definitions.specs.Claim.{AsPromised, AcceptedAsPromised, OneModel}
 use Rattle.definitions.proofs.Refusal.{not-accepted, all-pass}
-use Rattle.definitions.proofs.Levels.{Accepted, check-accepted}
+use Rattle.definitions.proofs.Levels.{check-accepted}
 use Rattle.promises.proofs.Plain.OneModel as P
 use Rattle.promises.proofs.Link.Tables.{book-of, forest-of}
 use Rattle.promises.proofs.Link.Models.{levelled-is, in-to, in-from}

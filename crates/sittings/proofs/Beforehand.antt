@@ -1,14 +1,13 @@
 -- A paper that the check accepts is within demand 3 of the code, by the levels that the check gives.
-use Prim.Native.Nat.{ℕ, zero, suc, _≤_, _<_}
+use Prim.Native.Nat.{ℕ, _<_}
 use native.Mathlib.Omega.{arith}
 use native.Mathlib.Decide.{decLt}
-use mathlib.Core.List.{List, [], _∷_}
-use mathlib.Core.Path.{_≡_, refl, sym, ap, subst, _∙_}
-use lib.ListN.{length, getD, take, length-take}
+use mathlib.Core.List.{List}
+use mathlib.Core.Path.{_≡_, sym, ap, subst, _∙_}
+use lib.ListN.{take, length-take}
 use lib.Seq.{getD-take}
 use borrow.Author.Tests.{eq-eqb}
-use Rattle.definitions.specs.Book as books
-use Rattle.definitions.specs.Desk.{desk}
+use Rattle.laws.proofs.Lists.{getD-past}
 use Rattle.definitions.specs.Levels.{level-in, levels-at-desk, check-levels}
 use Rattle.definitions.specs.Model.{Levelled}
 use Rattle.definitions.specs.Refusal.{accepted}
@@ -19,11 +18,6 @@ use Rattle.profile.specs.Profile.{profile-by, Profiles}
 use Rattle.sittings.specs.Beforehand.{AcceptedTells}
 use Rattle.sittings.proofs.Demand.{demand-3-at-desk}
 
-past : (l : List ℕ) (g : ℕ) → length l ≤ g → _≡_ {A = ℕ} (getD l g 0) 0
-past [] g h = refl
-past (x ∷ l) zero h = absurd (omega arith)
-past (x ∷ l) (suc g) h = past l g (omega arith)
-
 -- the levels are as many as there are goals, and behind them the array has zeros
 level-there : (bytes : List ℕ) (p : Profile) → Profiles bytes p → (g : ℕ) → level-in (take (p .goals) (p .levels)) g ≡ level-in (p .levels) g
 level-there bytes p says g = on (decLt g (p .goals))
@@ -32,7 +26,7 @@ level-there bytes p says g = on (decLt g (p .goals))
     on (yes h) = getD-take (p .goals) (p .levels) g 0 h
     on (no o) =
         let x = length-take (p .goals) (p .levels) in
-        past (take (p .goals) (p .levels)) g (omega (arith, says .whole, says .few)) ∙ sym (says .past g (omega arith))
+        getD-past (take (p .goals) (p .levels)) g (omega (arith, says .whole, says .few)) ∙ sym (says .past g (omega arith))
 
 pub accepted-tells : AcceptedTells
 accepted-tells bytes p says z limit m made is book took =

@@ -1,6 +1,6 @@
 -- The model of the definitions is the model of the machine: bodies stand the other way round, nothing else differs. And what the
 -- machine's theorem asks of a book: levels, and how many clauses there are.
-use Prim.Native.Nat.{ℕ, zero, suc, _+_, _<_}
+use Prim.Native.Nat.{ℕ, zero, suc, _+_}
 use native.Mathlib.Omega.{arith}
 use mathlib.Core.Path.{_≡_, refl, sym, ap, subst, _∙_}
 use mathlib.Core.Bool.{false}
@@ -12,7 +12,7 @@ use Rattle.definitions.specs.Book.{any, Book, Goal, Clause, Literal, Positive, 
 use Rattle.definitions.specs.Model as D
 use Rattle.definitions.specs.Model.{Each, PlainClause, PlainGoal, clauses-of, LevelLiteral, Holds, holds-end, holds-below, holds-here, holds-not}
 use Rattle.laws.proofs.Sums.{sum, sum-shift}
-use Rattle.laws.proofs.Lists.{place-under}
+use Rattle.definitions.proofs.Members.{each-at, clause-inside}
 use Rattle.promises.proofs.Plain.Model as P
 use Rattle.promises.proofs.Plain.Model.{Lit, pos, neg, Body, LevelLit, LevelBody, levels, levels-end, Derived, done, lower, here}
 use Rattle.promises.proofs.Plain.Model.{absent, either}
@@ -33,10 +33,6 @@ bodies-mem [] b m = absurd (List·Memᴰ·not-nil m)
 bodies-mem (c ∷ cs) b m = either (λ e. (c, List·Memᴰ·head refl, e)) (λ x. let r = bodies-mem cs b x in (r .0, List·Memᴰ·tail (r .1), r .2))
     (List·Memᴰ·cases-cons m)
 
-each-mem : {A : Type 0} (Q : A → Type 0) (l : List A) → Each Q l → (a : A) → List·Memᴰ a l → Q a
-each-mem Q [] e a m = absurd (List·Memᴰ·not-nil m)
-each-mem Q (x ∷ l) e a m = either (λ k. subst Q (sym k) (e .0)) (λ k. each-mem Q l (e .1) a k) (List·Memᴰ·cases-cons m)
-
 -- every goal of the book is plain
 abbrev pub PlainAt : Book → Type 0
 PlainAt book = (g : ℕ) (G : Goal) → getElem? book g ≡ some G → PlainGoal G
@@ -46,7 +42,7 @@ plain-clause book plain g c m = go (getElem? book g) refl m
   where
     go : (o : Option Goal) → getElem? book g ≡ o → List·Memᴰ c (elim o [ none ↦ [] | some G ↦ G .clauses ]) → PlainClause c
     go none e x = absurd (List·Memᴰ·not-nil x)
-    go (some G) e x = each-mem PlainClause (G .clauses) (plain g G e .clauses-plain) c x
+    go (some G) e x = each-at PlainClause (G .clauses) (plain g G e .clauses-plain) c x
 
 -- Levels.
 
@@ -69,11 +65,7 @@ levelled-is book level l g b m =
 
 -- every clause belongs to a goal of the book
 pub inside-is : (book : Book) → Inside (book-of book) (length book)
-inside-is book g b m = go (getElem? book g) refl m
-  where
-    go : (o : Option Goal) → getElem? book g ≡ o → List·Memᴰ b (bodies (elim o [ none ↦ [] | some G ↦ G .clauses ])) → g < length book
-    go none e x = absurd (List·Memᴰ·not-nil x)
-    go (some G) e x = place-under book g G e
+inside-is book g b m = let r = bodies-mem (clauses-of book g) b m in clause-inside book g (r .0) (r .1)
 
 -- How many clauses.
 

@@ -3,9 +3,9 @@
 use Prim.Native.Nat.{ℕ, zero, suc, _≤_, _<_}
 use native.Mathlib.Omega.{arith}
 use native.Mathlib.Decide.{decLt}
-use mathlib.Core.Path.{_≡_, refl, sym, subst}
-use mathlib.Core.List.{List, [], _∷_, List·Memᴰ}
-use Rattle.promises.proofs.Plain.Model.{Lit, pos, neg, Body, Book, LevelLit, LevelBody, levels, levels-end, Levelled}
+use mathlib.Core.Path.{_≡_, subst}
+use mathlib.Core.List.{[], _∷_}
+use Rattle.promises.proofs.Plain.Model.{pos, neg, Body, Book, LevelBody, levels, levels-end, Levelled}
 use Rattle.promises.proofs.Plain.Model.{Derived, done, lower, here, absent, Below, In, TrueBody, all, all-end}
 use Rattle.promises.proofs.Plain.Model.{below-in, below-lt, in-below, level-head, level-tail, closed}
 

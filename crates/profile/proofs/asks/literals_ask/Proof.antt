@@ -1,10 +1,5 @@
 use Prim.Native.Nat.{_-_}
-use mathlib.Core.Path.{_≡_, ap, sym, _∙_}
 use borrow.Author.Needs.{needs}
-use Rattle.definitions.specs.Levels.{literal-asks, literals-ask}
-use Rattle.book.specs.View.{meant}
-use Rattle.book.specs.Access.{literal-read}
-use Rattle.book.specs.Repeats.{literals-read}
 use Rattle.profile.proofs.Asking.{LiteralsLeft, literals-begin, literals-again, literals-over}
 use Rattle.profile.proofs.asks.literals_ask.Statement.{statement}
 use Rattle.profile.proofs.asks.literals_ask.Tie as tie

@@ -1,5 +1,4 @@
 use borrow.Author.Needs.{needs}
-use Rattle.book.specs.Repeats.{lent, clause-read}
 use Rattle.profile.proofs.Tested.{variant-fails, weak-fails, large-fails, literals-decide}
 use Rattle.profile.proofs.plain.plain_clause.Statement.{statement}
 use Rattle.profile.proofs.plain.plain_clause.Tie as tie

@@ -1,24 +1,17 @@
--- How an input is checked is settled by as many of its bytes as how it is read: what `main` reads is enough. And 37 and 38 are the check's
--- own: the desk's numbers are all below them.
+-- The desk's numbers are all below 37: so 37 and 38 are the own ones of the check of a paper.
 use Prim.Native.Nat.{ℕ, zero, suc, _<_}
 use native.Mathlib.Omega.{arith}
-use mathlib.Core.Path.{_≡_, ap}
 use mathlib.Core.Bool.{Bool, true, false, not}
 use mathlib.Core.List.{List, [], _∷_}
-use lib.ListN.{length, take}
+use lib.ListN.{length}
 use lib.Dec.{eqb, ltb, leb}
 use Rattle.definitions.specs.Refusal.{Refusable, refused, accepted, Test, _refuses_, unless}
 use Rattle.definitions.specs.Book.{Command, goal, clause, positive, ranged, negative, end, unknown, between, Literal, Positive, Negative}
 use Rattle.definitions.specs.Book.{byte, u16, bit0, command, width, is-end, want-of, crossed, goals-name, clause-count, literals-so-far}
 use Rattle.definitions.specs.Book.{most-goals, most-clauses, most-literals, add-literal, literal-command, apply-command, whole-command}
-use Rattle.definitions.specs.Book.{Book, read-from, read, read-ahead}
+use Rattle.definitions.specs.Book.{Book, read-from, read}
 use Rattle.definitions.specs.Desk.{repeats, at-desk, desk}
 use Rattle.definitions.specs.Model.{Each}
-use Rattle.definitions.specs.Levels.{levels-at-desk, check-levels}
-use Rattle.definitions.proofs.Desk.{desk-take}
-
-pub levels-take : (bytes : List ℕ) → check-levels (take read-ahead bytes) ≡ check-levels bytes
-levels-take bytes = ap levels-at-desk (desk-take bytes)
 
 -- if it is refused, then by a number below 37
 pub data Below : Refusable Book → Type 0 where
