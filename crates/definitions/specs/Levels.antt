@@ -39,7 +39,7 @@ abbrev pub is-plain : Book → Bool
 is-plain book = each-passes plain-goal book
 
 -- The least levels. All goals begin at 0; in a pass each goal is raised to what its clauses ask for by the levels before the pass. After
--- as many passes as there are goals, either one more changes nothing, or no pass ever will.
+-- as many passes as there are goals, one more changes nothing, or else every one does (proofs/Levels).
 
 -- a goal's level in a list of levels
 abbrev pub level-in : List ℕ → (goal : ℕ) → ℕ

@@ -1,13 +1,11 @@
 -- The contract of `say` leaves nothing open: from a buffer and a byte string there is one outcome. For the marks are those of the goals on
 -- a cycle wherever they are told, and a goal is on one or is not.
-use Prim.Native.Nat.{ℕ, _≤_}
+use Prim.Native.Nat.{ℕ}
 use native.Mathlib.Omega.{arith}
 use native.Mathlib.Decide.{ℕ-discrete}
 use mathlib.Core.Path.{_≡_, refl, sym, ap, _∙_}
 use mathlib.Core.Bool.{Bool}
 use mathlib.Core.List.{List, [], _++_}
-use lib.ListN.{getD}
-use lib.Seq.{ext-getD}
 use borrow.Author.Tests.{ne-eqb}
 use Rattle.definitions.specs.Refusal.{Refusable, refused, accepted}
 use Rattle.definitions.specs.Book.{Book}
@@ -15,23 +13,10 @@ use Rattle.definitions.specs.Desk.{desk}
 use Rattle.definitions.specs.Levels.{levels-at-desk, check-levels}
 use Rattle.definitions.proofs.Refusal.{same-refused}
 use Rattle.definitions.proofs.DeskNumbers.{Below, by-number, taken, desk-below}
-use Rattle.profile.specs.Profile.{Marks}
 use Rattle.pen.specs.Pen.{Pen, put-all}
 use Rattle.pen.specs.Refusals.{refusal-lines}
+use Rattle.profile.proofs.Once.{marks-once}
 use Rattle.levels.specs.Words.{reason-words, refused-words, level-words, Tells}
-
-marks-once : (book : Book) (a b : List ℕ) → Marks book a → Marks book b → a ≡ b
-marks-once book a b x y =
-    ext-getD 0 a b (x .whole ∙ sym (y .whole)) (λ g h. on g (ℕ-discrete (getD a g 0) 0) (ℕ-discrete (getD b g 0) 0))
-  where
-    one : (n : ℕ) → n ≤ 1 → (n ≡ 0 → ⊥) → n ≡ 1
-    one n h o = omega arith
-
-    on : (g : ℕ) → Dec (getD a g 0 ≡ 0) → Dec (getD b g 0 ≡ 0) → getD a g 0 ≡ getD b g 0
-    on g (yes d) (yes e) = d ∙ sym e
-    on g (yes d) (no o) = absurd (x .off-cycle g d (y .on-cycle g (one (getD b g 0) (y .bits g) o)))
-    on g (no o) (yes e) = absurd (y .off-cycle g e (x .on-cycle g (one (getD a g 0) (x .bits g) o)))
-    on g (no o) (no u) = one (getD a g 0) (x .bits g) o ∙ sym (one (getD b g 0) (y .bits g) u)
 
 -- the marks are in the words of 38 alone
 words-once : (c : Refusable (List ℕ)) (a b : List ℕ) → (c ≡ refused 38 → a ≡ b) → level-words c a ≡ level-words c b
