@@ -16,6 +16,7 @@ import re
 import subprocess
 import sys
 
+import sides
 import tree
 
 
@@ -60,22 +61,6 @@ def inspected(inspect, book):
     return "accepted" + (", desk refused 36 goal %s clause %s as %s" % twice.groups() if twice else "")
 
 
-def failures(inspect):
-    """Whether inspect says it where its input or its output fails: a folder for input, a full device and a closed output."""
-    paper = os.path.join(tree.ROOT, "papers", "largest.book")
-    right = True
-    for name, words in (("a folder", "can't be read"), ("a full device", "can't be written"), ("a closed output", "can't be written")):
-        given = os.open(tree.ROOT if name == "a folder" else paper, os.O_RDONLY)
-        out = os.open("/dev/full", os.O_WRONLY)
-        closed = (lambda: os.close(1)) if name == "a closed output" else None
-        said = subprocess.run([inspect], stdin=given, stdout=out, stderr=subprocess.PIPE, preexec_fn=closed).stderr.decode()
-        os.close(given)
-        os.close(out)
-        print("inspect and %s: %s" % (name, said.strip() or "nothing is said"))
-        right = right and words in said
-    return right
-
-
 def report(name, books, wanted, found):
     wrong = [i for i, w in enumerate(wanted) if i >= len(found) or found[i] != w]
     print("%s: %d books, %d agree" % (name, len(wanted), len(wanted) - len(wrong)))
@@ -104,7 +89,7 @@ def main():
         print("too few books are refused by: %s" % ", ".join(map(str, rare)))
     right = report("reading_tests", books, list(map(without_place, wanted)), listed(books))
     right = report("inspect", books, wanted, [inspected(inspect, book) for book in books]) and right
-    return 0 if failures(inspect) and right and not rare else 1
+    return 0 if sides.failures(inspect) and right and not rare else 1
 
 
 if __name__ == "__main__":

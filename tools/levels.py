@@ -5,7 +5,7 @@ tools/levels.py --oracle              the Rust on the books here and on every pa
 tools/levels.py --levels [PATH]       target/bin/levels, or a program in its place, on the same books; then beside the Rust on N books of
                                       chance: plain ones with few goals, which the Rust holds against all numberings, plain and spoiled
                                       ones with up to 64, damaged ones and those of the scripts of every profile; and on every way in
-                                      which two goals can name each other
+                                      which two goals can name each other; last, where its input or its output fails
 tools/levels.py --time                whole processes on the worst books, `levels` (where it is there), the Rust and clingo (Debian's
                                       package gringo) side by side, and what the Rust takes within its process
 
@@ -221,6 +221,7 @@ def main():
     if program:
         good = told("books by hand", "levels", asked, by_the_programs(a, program, data)) and good
         good = beside(a, oracle, program) and good
+        good = sides.failures(program) and good
     return 0 if good else 1
 
 

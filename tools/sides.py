@@ -1,9 +1,11 @@
 """A script run on both sides, the Rust's (`oracle run`) and ours (`replay`): what is shared by the tools that compare them."""
 import collections
+import os
 import re
 import subprocess
 
 import papers
+import tree
 
 # The results of a call, in the order of a table.
 WORDS = "made table yes maybe none floundered again negcycle invalid cut true false".split()
@@ -41,6 +43,22 @@ def listed_otherwise(who, words, books):
             wrong.append("%s, %s\nmust be listed as:\n%s\n%s (status %d):\n%s" % (
                 title, data.hex()[:200], listing.rstrip("\n"), who, run.returncode, listed[:400]))
     return wrong
+
+
+def failures(program):
+    """Whether a program says it where its input or its output fails: a folder for input, a full device and a closed output."""
+    paper = os.path.join(tree.ROOT, "papers", "largest.book")
+    right = True
+    for name, words in (("a folder", "can't be read"), ("a full device", "can't be written"), ("a closed output", "can't be written")):
+        given = os.open(tree.ROOT if name == "a folder" else paper, os.O_RDONLY)
+        out = os.open("/dev/full", os.O_WRONLY)
+        closed = (lambda: os.close(1)) if name == "a closed output" else None
+        said_there = subprocess.run([program], stdin=given, stdout=out, stderr=subprocess.PIPE, preexec_fn=closed).stderr.decode()
+        os.close(given)
+        os.close(out)
+        print("%s and %s: %s" % (os.path.basename(program), name, said_there.strip() or "nothing is said"))
+        right = right and words in said_there
+    return right
 
 
 def is_skipped(line):
