@@ -1,12 +1,13 @@
 #!/usr/bin/env bash
-# ns an operation of the stores, the reading of a book and its check, by the difference of two clocks. Usage: tools/stores_bench.sh, after `rt check stores_bench`.
+# ns an operation of the stores, the reading of a book and its check, by the difference of two clocks.
+# Usage: tools/stores_bench.sh, after `rt check stores_bench`.
 set -euo pipefail
 cd "$(dirname "$0")/.."
 bench=target/bin/stores_bench
 case ${1:-} in
 '') ;;
 -h | --help)
-    sed -n '2s/^# //p' "$0"
+    sed -n '2,3s/^# //p' "$0"
     exit 0
     ;;
 *)

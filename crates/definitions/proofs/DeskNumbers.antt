@@ -6,9 +6,11 @@ use mathlib.Core.List.{List, [], _∷_}
 use lib.ListN.{length}
 use lib.Dec.{eqb, ltb, leb}
 use Rattle.definitions.specs.Refusal.{Refusable, refused, accepted, Test, _refuses_, unless}
-use Rattle.definitions.specs.Book.{Command, goal, clause, positive, ranged, negative, end, unknown, between, Literal, Positive, Negative}
-use Rattle.definitions.specs.Book.{byte, u16, bit0, command, width, is-end, want-of, crossed, goals-name, clause-count, literals-so-far}
-use Rattle.definitions.specs.Book.{most-goals, most-clauses, most-literals, add-literal, literal-command, apply-command, whole-command}
+use Rattle.definitions.specs.Book.{Command, goal, clause, positive, ranged, negative, end, unknown}
+use Rattle.definitions.specs.Book.{between, Literal, Positive, Negative}
+use Rattle.definitions.specs.Book.{byte, u16, bit0, command, width, is-end, want-of, crossed, goals-name}
+use Rattle.definitions.specs.Book.{clause-count, literals-so-far, most-goals, most-clauses, most-literals}
+use Rattle.definitions.specs.Book.{add-literal, literal-command, apply-command, whole-command}
 use Rattle.definitions.specs.Book.{Book, read-from, read}
 use Rattle.definitions.specs.Desk.{repeats, at-desk, desk}
 use Rattle.definitions.specs.Model.{Each}

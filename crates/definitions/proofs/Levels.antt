@@ -19,8 +19,8 @@ use Rattle.definitions.specs.Lists.{same}
 use Rattle.definitions.specs.Book.{Book, read-ahead}
 use Rattle.definitions.specs.Desk.{desk}
 use Rattle.definitions.specs.Model.{Plain, Levelled}
-use Rattle.definitions.specs.Levels.{level-in, pass, passes, levels, is-plain, levels-or-38, plain-levels, levels-at-desk, check-levels}
-use Rattle.definitions.specs.Levels.{Walk, stays, goes}
+use Rattle.definitions.specs.Levels.{level-in, pass, passes, levels, is-plain, levels-or-38, plain-levels}
+use Rattle.definitions.specs.Levels.{levels-at-desk, check-levels, Walk, stays, goes}
 use Rattle.definitions.proofs.Refusal.{same-accepted, same-refused, not-accepted}
 use Rattle.definitions.proofs.Desk.{and-both, both-and, desk-take}
 use Rattle.definitions.proofs.DeskNumbers.{Below, by-number, taken, desk-below}

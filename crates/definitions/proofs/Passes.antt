@@ -82,7 +82,8 @@ module _ (ls : List ℕ) where
       omega arith
 
   -- a bound of what each literal asks bounds what is asked
-  pub literals-ask-most : (m : ℕ) (rest : List Literal) → ((l : Literal) → List·Memᴰ l rest → literal-asks ls l ≤ m) → literals-ask ls rest ≤ m
+  pub literals-ask-most : (m : ℕ) (rest : List Literal) → ((l : Literal) → List·Memᴰ l rest → literal-asks ls l ≤ m)
+      → literals-ask ls rest ≤ m
   literals-ask-most m [] h = omega arith
   literals-ask-most m (l ∷ rest) h =
       larger-most (literal-asks ls l) (literals-ask ls rest) m (h l (List·Memᴰ·head refl))

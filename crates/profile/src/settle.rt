@@ -1,11 +1,10 @@
-// The least levels of a book (definitions, `levels`): passes in which every goal is raised to what its clauses ask for by the levels before,
-// until one changes nothing. After one pass more than there are goals none ever will.
+// The least levels of a book (definitions, `levels`): passes in which every goal is raised to what its clauses ask for by the levels
+// before, until one changes nothing. If that is none of the first passes, one more than there are goals, it is none at all.
 use crate::Settled;
 use crate::asks::clauses_ask;
 use book::Book;
 use book::access::clause_count;
 use book::access::first_clause;
-ghost use mathlib.Core.Bool.{true, false};
 ghost use Prim.Native.Nat.{_≤_};
 ghost use Rattle.definitions.specs.Levels.{levels as levelsOf};
 ghost use Rattle.book.specs.View.{view, Sound};

@@ -19,7 +19,8 @@ use Rattle.sittings.specs.Beforehand.{AcceptedTells}
 use Rattle.sittings.proofs.Demand.{demand-3-at-desk}
 
 -- the levels are as many as there are goals, and behind them the array has zeros
-level-there : (bytes : List ℕ) (p : Profile) → Profiles bytes p → (g : ℕ) → level-in (take (p .goals) (p .levels)) g ≡ level-in (p .levels) g
+level-there : (bytes : List ℕ) (p : Profile) → Profiles bytes p
+    → (g : ℕ) → level-in (take (p .goals) (p .levels)) g ≡ level-in (p .levels) g
 level-there bytes p says g = on (decLt g (p .goals))
   where
     on : Dec (g < p .goals) → level-in (take (p .goals) (p .levels)) g ≡ level-in (p .levels) g

@@ -10,7 +10,8 @@ use mathlib.Core.List.{List, [], _∷_, _++_, List·Memᴰ, List·Memᴰ·head, 
 use lib.ListN.{length, getElem?}
 use Rattle.definitions.specs.Book.{any, Book, Goal, Clause, Literal, Positive, Negative, clause-count}
 use Rattle.definitions.specs.Model as D
-use Rattle.definitions.specs.Model.{Each, PlainClause, PlainGoal, clauses-of, LevelLiteral, Holds, holds-end, holds-below, holds-here, holds-not}
+use Rattle.definitions.specs.Model.{Each, PlainClause, PlainGoal, clauses-of, LevelLiteral}
+use Rattle.definitions.specs.Model.{Holds, holds-end, holds-below, holds-here, holds-not}
 use Rattle.laws.proofs.Sums.{sum, sum-shift}
 use Rattle.definitions.proofs.Members.{each-at, clause-inside}
 use Rattle.promises.proofs.Plain.Model as P

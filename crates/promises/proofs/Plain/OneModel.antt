@@ -35,7 +35,8 @@ module _ (book : Book) (k l : ℕ → ℕ) (by-k : Levelled book k) (by-l : Leve
       returning ks ls (lower {h = h} x d) =
           all (back h (level-head ks) (below-lt book l m h x) (below-in book l m h x)) (returning (level-tail ks) (level-tail ls) d)
       returning ks ls (here {h = h} c e mem d r) =
-          all (closed book k by-k h c mem (returning (lift (level-head ks) (by-k h c mem)) (subst (λ i. LevelBody l i c) e (by-l h c mem)) d))
+          all (closed book k by-k h c mem
+          (returning (lift (level-head ks) (by-k h c mem)) (subst (λ i. LevelBody l i c) e (by-l h c mem)) d))
           (returning (level-tail ks) (level-tail ls) r)
         where
           lift : {i : ℕ} {b : Body} → i ≤ n → LevelBody k i b → LevelBody k n b
