@@ -94,13 +94,14 @@ module _ (b : Book) (s : Sound b) where
   inside g h = goal-few b s g (entry 64 (b .«goal_first») g) (entry 64 (b .«goal_len») g) h refl refl
 
   module _ (k : ℕ) (levels : List ℕ) (so : Stands b k levels) where
-    pub stands-low : k ≤ b .goals → Low levels
-    stands-low h = record {
+    pub stands-low : Low levels
+    stands-low = record {
       whole = so .whole;
       room = λ g.
           let x = so .are g in
           let y = passes-small (view b) k g in
           let z = s .few-goals in
+          let w = so .within in
           omega arith;
     }
 

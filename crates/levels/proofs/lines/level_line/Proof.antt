@@ -23,7 +23,12 @@ same-length : tie.Need-same-length
 same-length c = search needs
 
 returns : tie.Need-returns
-returns c = search level-said
+returns c =
+    let ended = c .before .before in
+    let levelled = ended .before .before .before .before .before in
+    let named = levelled .before .before .before .before .before in
+    let start = named .before .before .before in
+    level-said (start .args .goal) (start .args .level) _ _ _ _ (named .number .ensures) (levelled .counted .ensures) (ended .text .ensures)
 
 pub level-line-spec : {M : Type 1} → statement M
 level-line-spec =
