@@ -38,8 +38,7 @@ loop-again c =
     let turn = told .before .before .before in
     let l = turn .before .loop in
     let levels = turn .before .before .before .before .args .levels .now in
-    (search needs,
-    words-step level-line levels (l .g) _ _ _ (turn .loop-test .taken) (l .inv .1) (told .level-line .ensures))
+    (search needs, words-step level-line levels (l .g) _ _ _ (turn .loop-test .taken) (l .inv .1) (told .level-line .ensures))
 
 same-length : tie.Need-same-length Inv-loop μ-loop
 same-length c = search needs

@@ -1,5 +1,4 @@
 -- `settle`: the levels are those of k passes, and before the last one the passes go on.
-use native.Mathlib.Omega.{arith}
 use borrow.Author.Needs.{needs}
 use Prim.Native.Nat.{_+_, _-_}
 use Rattle.profile.proofs.Ending.{Stands, stands-start, stands-low, inside, settled-now, stands-next, never-settled}
@@ -22,15 +21,7 @@ same-levels-requires : tie.Need-same-levels-requires Inv-loop μ-loop
 same-levels-requires c κs = search needs
 
 returns : tie.Need-returns Inv-loop μ-loop
-returns c =
-    let told = c .before in
-    let given = told .before .before .before in
-    let turn = given .before .before .before .before .before .before .before .before in
-    let begun = turn .before .before in
-    let l = begun .loop in
-    let start = begun .before .before .before .before .before .before .before in
-    settled-now (start .args .b) (start .pre) (l .k) (l .levels) (l .inv) _ (given .pass .ensures) _ (told .same-levels .ensures)
-    (c .if2 .taken) (omega arith)
+returns c = search settled-now
 
 add-k : tie.Need-add-k Inv-loop μ-loop
 add-k c = search needs
@@ -39,22 +30,10 @@ loop-less : tie.Need-loop-less Inv-loop μ-loop
 loop-less c = search needs
 
 loop-again : tie.Need-loop-again Inv-loop μ-loop
-loop-again c =
-    let told = c .before in
-    let given = told .before .before .before in
-    let turn = given .before .before .before .before .before .before .before .before in
-    let begun = turn .before .before in
-    let l = begun .loop in
-    let start = begun .before .before .before .before .before .before .before in
-    stands-next (start .args .b) (start .pre) (l .k) (l .levels) (l .inv) _ (given .pass .ensures) _ (told .same-levels .ensures)
-    (c .if2 .left) (omega arith)
+loop-again c = search stands-next
 
 returns-2 : tie.Need-returns-2 Inv-loop μ-loop
-returns-2 c =
-    let begun = c .before .before in
-    let l = begun .loop in
-    let start = begun .before .before .before .before .before .before .before in
-    never-settled (start .args .b) (start .pre) (l .k) (l .levels) (l .inv) (omega arith)
+returns-2 c = search never-settled
 
 pub settle-spec : {M : Type 1} → statement M
 settle-spec =
