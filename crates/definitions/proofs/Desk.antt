@@ -219,7 +219,7 @@ repeat-is book r e =
     let z : p .at ≡ r .goal = omega arith in
     record { own = p .own; of-goal = subst (λ (i : ℕ). getElem? book i ≡ some (p .own)) z (p .of-goal); twice = p .twice }
 
-none-found : (book : Book) → NoRepeats book → first-repeat book ≡ none
+pub none-found : (book : Book) → NoRepeats book → first-repeat book ≡ none
 none-found book apart = on (first-repeat book) refl
   where
     on : (o : Option Repeat) → first-repeat book ≡ o → first-repeat book ≡ none
@@ -243,15 +243,15 @@ not-found : (o : Option Repeat) → is-found o ≡ false → o ≡ none
 not-found none e = refl
 not-found (some r) e = absurd (true≢false e)
 
+pub desk-took : (r : Refusable Book) (book : Book) → at-desk r ≡ accepted book → (r ≡ accepted book) × NoRepeats book
+desk-took (refused n) book e = absurd (not-accepted e)
+desk-took (accepted b) book e =
+    let a = all-pass (repeats b refuses 36 ∷ []) b book e in
+    let apart : NoRepeats b = from-none 0 b (not-found (first-repeat b) (a .0 .0)) in
+    (ap accepted (a .1), subst NoRepeats (a .1) apart)
+
 pub desk-reads : (bytes : List ℕ) (book : Book) → desk bytes ≡ accepted book → (read bytes ≡ accepted book) × NoRepeats book
-desk-reads bytes book e = on (read bytes) refl e
-  where
-    on : (r : Refusable Book) → read bytes ≡ r → at-desk r ≡ accepted book → (read bytes ≡ accepted book) × NoRepeats book
-    on (refused n) k x = absurd (not-accepted x)
-    on (accepted b) k x =
-        let a = all-pass (repeats b refuses 36 ∷ []) b book x in
-        let apart : NoRepeats b = from-none 0 b (not-found (first-repeat b) (a .0 .0)) in
-        (k ∙ ap accepted (a .1), subst NoRepeats (a .1) apart)
+desk-reads bytes book e = desk-took (read bytes) book e
 
 pub desk-takes : (bytes : List ℕ) (book : Book) → read bytes ≡ accepted book → NoRepeats book → desk bytes ≡ accepted book
 desk-takes bytes book e apart = ap at-desk e ∙ desk-passes (accepted book) (none-found book apart)

@@ -13,3 +13,9 @@ pub mod PlainTest
 pub mod Passes
 pub mod Trails
 pub mod Levels
+pub mod Digits
+pub mod XsbShows
+pub mod XsbReads
+pub mod XsbBooks
+pub mod XsbOrder
+pub mod Xsb

@@ -230,7 +230,7 @@ clauses-named : (n : ℕ) (cs : List Clause) → ClausesWithin n cs → clauses-
 clauses-named n [] w = refl
 clauses-named n (c ∷ cs) w = rw (literals-named n (c .literals) (w .0 .literals-fit), clauses-name) (clauses-named n cs (w .1))
 
-goals-named : (n : ℕ) (gs : List Goal) → GoalsWithin n gs → goals-name n gs ≡ true
+pub goals-named : (n : ℕ) (gs : List Goal) → GoalsWithin n gs → goals-name n gs ≡ true
 goals-named n [] w = refl
 goals-named n (g ∷ gs) w = rw (clauses-named n (g .clauses) (w .0), goals-name) (goals-named n gs (w .1))
 

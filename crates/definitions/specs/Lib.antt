@@ -29,6 +29,7 @@ pub mod DeskCases
 pub mod Model
 pub mod Levels
 pub mod LevelCases
+pub mod Xsb
 pub mod Claim
 pub mod Instances
 

@@ -1,0 +1,219 @@
+-- The text of rules is read as these rules, where each head has a table line and none comes behind a larger one.
+use Prim.Native.Nat.{ℕ, zero, suc, _+_, _*_, _-_, _/_, _%_, _<_, _≤_}
+use native.Mathlib.Omega.{arith}
+use mathlib.Core.Path.{_≡_, refl, sym, ap, subst, _∙_}
+use mathlib.Core.Bool.{Bool, true, false}
+use mathlib.Core.Option.{Option, none, some}
+use mathlib.Core.List.{List, [], _∷_, _++_, append-nil, append-assoc}
+use lib.Dec.{eqb, ltb, leb}
+use borrow.Author.Tests.{eq-eqb, lt-ltb, le-leb}
+use Rattle.laws.proofs.All.{All, end, more, all-first, all-rest}
+use Rattle.definitions.specs.Lists.{push}
+use Rattle.definitions.specs.Book.{any, Literal, Positive, Negative}
+use Rattle.definitions.specs.Ascii.{ascii}
+use Rattle.definitions.specs.Listing.{decimal}
+use Rattle.definitions.specs.Model.{Each, PlainLiteral}
+use Rattle.definitions.specs.Xsb.{Rule, name, literal-text, more-text, body-text, rule-line, rule-lines, table-line, table-lines}
+use Rattle.definitions.specs.Xsb.{text-of, most-number, counted, What, table, head, positive, negative}
+use Rattle.definitions.specs.Xsb.{Place, line, number, literal, behind, State, start, comes}
+use Rattle.definitions.specs.Xsb.{at, with-literal, is-digit, step, run, parse}
+use Rattle.definitions.specs.Xsb.{ended, step-at, if-so, with-digit, more-digits, ends-if, table-read, with-head, behind-head}
+use Rattle.definitions.proofs.Digits.{decimal-one, decimal-more}
+use Rattle.definitions.proofs.Desk.{both-and}
+use Rattle.definitions.proofs.XsbShows.{Small, SmallRule}
+
+-- One part of a text behind another.
+
+run-on : (a b : List ℕ) (s t : State) → run a s ≡ some t → run (a ++ b) s ≡ run b t
+run-on [] b s t e = ap (λ (o : Option State). elim o [ none ↦ none | some z ↦ run b z ]) e
+run-on (x ∷ a) b s t e = on (run-on a b) (step s x) e
+  where
+    on : ((s t : State) → run a s ≡ some t → run (a ++ b) s ≡ run b t) → (o : Option State)
+        → elim o [ none ↦ none | some z ↦ run a z ] ≡ some t → elim o [ none ↦ none | some z ↦ run (a ++ b) z ] ≡ run b t
+    on h none e = ap (λ (o : Option State). elim o [ none ↦ none | some z ↦ run b z ]) e
+    on h (some z) e = h z t e
+
+both : (a b : List ℕ) (s t : State) {u : State} → run a s ≡ some t → run b t ≡ some u → run (a ++ b) s ≡ some u
+both a b s t e f = run-on a b s t e ∙ f
+
+-- one byte, and what follows
+then-one : (b : ℕ) (bs : List ℕ) (s t : State) → step s b ≡ some t → run (b ∷ bs) s ≡ run bs t
+then-one b bs s t e = ap (λ (o : Option State). elim o [ none ↦ none | some z ↦ run bs z ]) e
+
+run-fixed : (bs : List ℕ) (next : Place) (s : State) → run bs (at s (comes bs next)) ≡ some (at s next)
+run-fixed [] next s = refl
+run-fixed (b ∷ bs) next s =
+    then-one b bs (at s (comes (b ∷ bs) next)) (at s (comes bs next)) (ap (λ (c : Bool). if-so c (at s (comes bs next))) (eq-eqb b b refl))
+    ∙ run-fixed bs next s
+
+-- Numbers.
+
+digit-is : (d : ℕ) → d < 10 → is-digit (48 + d) ≡ true
+digit-is d h = rw (le-leb 48 (48 + d) (omega arith), le-leb (48 + d) 57 (omega arith)) refl
+
+digit-step : (s : State) (w : What) (value : Option ℕ) (d : ℕ) → d < 10
+    → step-at s (number w value) (48 + d) ≡ with-digit s w (more-digits value d)
+digit-step s w value d h =
+    let m : (48 + d) - 48 ≡ d = omega arith in
+    ap (λ (c : Bool). elim c [ true ↦ with-digit s w (more-digits value ((48 + d) - 48)) | false ↦ ends-if s w value (48 + d) ])
+    (digit-is d h)
+    ∙ ap (λ (x : ℕ). with-digit s w (more-digits value x)) m
+
+next-digit : (s : State) (w : What) (v d : ℕ) → 0 < v → d < 10 → 10 * v + d < most-number
+    → step (at s (number w (some v))) (48 + d) ≡ some (at s (number w (some (10 * v + d))))
+next-digit s w zero d p h lt = absurd (omega arith)
+next-digit s w (suc v) d p h lt =
+    let c : counted (10 * suc v + d) ≡ 10 * suc v + d = omega arith in
+    digit-step (at s (number w (some (suc v)))) w (some (suc v)) d h ∙ ap (λ (x : ℕ). some (at s (number w (some x)))) c
+
+-- the first number bounds the second
+run-digits : (k v : ℕ) → v < k → v < most-number → (s : State) (w : What)
+    → run (decimal v) (at s (number w none)) ≡ some (at s (number w (some v)))
+run-digits zero v b lt s w = absurd (omega arith)
+run-digits (suc k) v b lt s w = on (run-digits k) (v / 10) refl
+  where
+    on : ((v : ℕ) → v < k → v < most-number → (s : State) (w : What) → run (decimal v) (at s (number w none))
+        ≡ some (at s (number w (some v))))
+        → (q : ℕ) → v / 10 ≡ q → run (decimal v) (at s (number w none)) ≡ some (at s (number w (some v)))
+    on h zero e =
+        ap (λ (t : List ℕ). run t (at s (number w none))) (decimal-one v (omega arith))
+        ∙ then-one (48 + v) [] (at s (number w none)) (at s (number w (some v))) (digit-step (at s (number w none)) w none v (omega arith))
+    on h (suc q) e =
+        let split : v ≡ 10 * suc q + v % 10 = omega arith in
+        let shown : decimal v ≡ decimal (suc q) ++ ((48 + v % 10) ∷ [])
+        = ap decimal split ∙ decimal-more (suc q) (v % 10) (omega arith) (omega arith) in
+        let last = next-digit s w (suc q) (v % 10) (omega arith) (omega arith) (omega arith) in
+        ap (λ (t : List ℕ). run t (at s (number w none))) shown
+        ∙ run-on (decimal (suc q)) ((48 + v % 10) ∷ []) (at s (number w none)) (at s (number w (some (suc q))))
+        (h (suc q) (omega arith) (omega arith) s w)
+        ∙ then-one (48 + v % 10) [] (at s (number w (some (suc q)))) _ last
+        ∙ ap (λ (x : ℕ). some (at s (number w (some x)))) (sym split)
+
+run-number : (v : ℕ) → v < most-number → (s : State) (w : What) → run (decimal v) (at s (number w none)) ≡ some (at s (number w (some v)))
+run-number v lt s w = run-digits (suc v) v (omega arith) lt s w
+
+-- Table lines.
+
+-- where a line begins
+abbrev pub lines : (n : ℕ) → List Rule → Rule → State
+lines n rs r = record { tables = n; rules = rs; rule = r; place = line }
+
+run-table : (n : ℕ) (r : Rule) → suc n < most-number → run (table-line n) (lines n [] r) ≡ some (lines (suc n) [] r)
+run-table n r lt =
+    let s = lines n [] r in
+    let c : counted (suc n) ≡ suc n = omega arith in
+    let slash : run (ascii "/0.\n") (at s (number table (some n))) ≡ some (lines (suc n) [] r)
+    = then-one 0x2F (ascii "0.\n") (at s (number table (some n))) (table-read s)
+    (ap (λ (x : Bool). if-so x (table-read s)) (eq-eqb n n refl))
+    ∙ ap (λ (x : ℕ). some (lines x [] r)) c in
+    let named : run (decimal n ++ ascii "/0.\n") (at s (number table none)) ≡ some (lines (suc n) [] r)
+    = both (decimal n) (ascii "/0.\n") (at s (number table none)) (at s (number table (some n)))
+    (run-number n (omega arith) s table) slash in
+    named
+
+run-tables : (n : ℕ) (r : Rule) → n < most-number → run (table-lines n) (lines 0 [] r) ≡ some (lines n [] r)
+run-tables zero r lt = refl
+run-tables (suc n) r lt = both (table-lines n) (table-line n) (lines 0 [] r) (lines n [] r) (run-tables n r (omega arith))
+    (run-table n r lt)
+
+-- A rule.
+
+rule-done : State → State
+rule-done s = lines (s .tables) (push (s .rules) (s .rule)) (s .rule)
+
+literal-read : (s : State) (l : Literal) → PlainLiteral l → Small l → (ls : List Literal)
+    → run (literal-text l ++ (more-text ls ++ ascii ".\n")) (at s literal)
+    ≡ run (more-text ls ++ ascii ".\n") (at (with-literal s l) behind)
+literal-read s (Positive g want outsized) p lt [] =
+    rw (p .0, p .1) (run-on (decimal g) (ascii ".\n") (at s (number positive none)) _ (run-number g lt s positive))
+literal-read s (Positive g want outsized) p lt (m ∷ ls) =
+    rw (p .0, p .1) (run-on (decimal g) (more-text (m ∷ ls) ++ ascii ".\n") (at s (number positive none)) _ (run-number g lt s positive))
+literal-read s (Negative g outsized) p lt ls =
+    let rest = more-text ls ++ ascii ".\n" in
+    let m : (ascii "tnot(g" ++ decimal g) ++ (ascii ")" ++ rest) ≡ literal-text (Negative g outsized) ++ rest = simp append-assoc in
+    ap (λ (t : List ℕ). run t (at s literal)) (sym m)
+    ∙ rw p (run-on (decimal g) (ascii ")" ++ rest) (at s (number negative none)) _ (run-number g lt s negative))
+
+run-more : (s : State) (ls : List Literal) → Each PlainLiteral ls → All Small ls
+    → run (more-text ls ++ ascii ".\n") (at s behind)
+    ≡ some (lines (s .tables) (push (s .rules) (record { head = s .rule .head; body = s .rule .body ++ ls }))
+    (record { head = s .rule .head; body = s .rule .body ++ ls }))
+run-more s [] p small =
+    ap (λ (b : List Literal). some (lines (s .tables) (push (s .rules) (record { head = s .rule .head; body = b }))
+    (record { head = s .rule .head; body = b }))) (sym (append-nil (s .rule .body)))
+run-more s (l ∷ ls) p small =
+    let m : (ascii ", " ++ (literal-text l ++ more-text ls)) ++ ascii ".\n"
+    ≡ ascii ", " ++ (literal-text l ++ (more-text ls ++ ascii ".\n"))
+    = simp append-assoc in
+    ap (λ (t : List ℕ). run t (at s behind)) m
+    ∙ literal-read s l (p .0) (all-first small) ls
+    ∙ run-more (with-literal s l) ls (p .1) (all-rest small)
+    ∙ ap (λ (b : List Literal). some (lines (s .tables) (push (s .rules) (record { head = s .rule .head; body = b }))
+    (record { head = s .rule .head; body = b }))) (append-assoc (s .rule .body) (l ∷ []) ls)
+
+abbrev pub BareRule : Rule → Type 0
+BareRule r = Each PlainLiteral (r .body)
+
+-- behind a head that fits
+head-step : (s : State) (h b : ℕ) → h < s .tables → s .rule .head ≤ h → is-digit b ≡ false
+    → step-at s (number head (some h)) b ≡ behind-head (with-head s h) b
+head-step s h b lt le e =
+    ap (λ (c : Bool). elim c [ true ↦ with-digit s head (more-digits (some h) (b - 48)) | false ↦ ends-if s head (some h) b ]) e
+    ∙ ap (λ (c : Bool). elim c [ true ↦ behind-head (with-head s h) b | false ↦ none ])
+    (both-and (lt-ltb h (s .tables) lt) (le-leb (s .rule .head) h le))
+
+head-then : (n : ℕ) (rs : List Rule) (last : Rule) (h : ℕ) → h < n → last .head ≤ h → (b : ℕ) (bs : List ℕ) → is-digit b ≡ false
+    → run (b ∷ bs) (at (lines n rs last) (number head (some h)))
+    ≡ elim (behind-head (lines n rs (record { head = h; body = [] })) b) [ none ↦ none | some z ↦ run bs z ]
+head-then n rs last h lt le b bs e =
+    ap (λ (o : Option State). elim o [ none ↦ none | some z ↦ run bs z ])
+    (head-step (at (lines n rs last) (number head (some h))) h b lt le e)
+
+run-body : (n : ℕ) (rs : List Rule) (last : Rule) (h : ℕ) (ls : List Literal) → h < n → last .head ≤ h → Each PlainLiteral ls → All Small ls
+    → run (body-text ls ++ ascii ".\n") (at (lines n rs last) (number head (some h)))
+    ≡ some (lines n (push rs (record { head = h; body = ls })) (record { head = h; body = ls }))
+run-body n rs last h [] lt le p small = head-then n rs last h lt le 0x2E (ascii "\n") refl
+run-body n rs last h (l ∷ ls) lt le p small =
+    let m : (ascii " :- " ++ (literal-text l ++ more-text ls)) ++ ascii ".\n"
+    ≡ ascii " :- " ++ (literal-text l ++ (more-text ls ++ ascii ".\n"))
+    = simp append-assoc in
+    let s : State = lines n rs (record { head = h; body = [] }) in
+    ap (λ (t : List ℕ). run t (at (lines n rs last) (number head (some h)))) m
+    ∙ head-then n rs last h lt le 0x20 (ascii ":- " ++ (literal-text l ++ (more-text ls ++ ascii ".\n"))) refl
+    ∙ literal-read s l (p .0) (all-first small) ls
+    ∙ run-more (with-literal s l) ls (p .1) (all-rest small)
+
+run-rule : (n : ℕ) (rs : List Rule) (last r : Rule) → n ≤ most-number → r .head < n → last .head ≤ r .head → BareRule r → SmallRule r
+    → run (rule-line r) (lines n rs last) ≡ some (lines n (push rs r) r)
+run-rule n rs last r few lt le p small =
+    both (decimal (r .head)) (body-text (r .body) ++ ascii ".\n")
+    (at (lines n rs last) (number head none)) (at (lines n rs last) (number head (some (r .head))))
+    (run-number (r .head) (omega arith) (lines n rs last) head)
+    (run-body n rs last (r .head) (r .body) lt le p small)
+
+-- Rules, one behind the other.
+
+-- heads are below n, and none comes behind a larger one or is below `least`
+pub data Ordered (n : ℕ) : (least : ℕ) → List Rule → Type 0 where
+  no-rule : {least : ℕ} → Ordered n least []
+  and-rule : {least : ℕ} {r : Rule} {rs : List Rule} → least ≤ r .head → r .head < n → Ordered n (r .head) rs → Ordered n least (r ∷ rs)
+
+run-rules : (n : ℕ) (rs done : List Rule) (last : Rule) → n ≤ most-number → Ordered n (last .head) rs → All BareRule rs → All SmallRule rs
+    → (r : Rule) × (run (rule-lines rs) (lines n done last) ≡ some (lines n (done ++ rs) r))
+run-rules n [] done last few o p small = (last, ap (λ (d : List Rule). some (lines n d last)) (sym (append-nil done)))
+run-rules n (r ∷ rs) done last few (and-rule le lt o) p small =
+    let k = run-rules n rs (push done r) r few o (all-rest p) (all-rest small) in (
+      k .0,
+      both (rule-line r) (rule-lines rs) (lines n done last) (lines n (push done r) r)
+          (run-rule n done last r few lt le (all-first p) (all-first small)) (k .1)
+          ∙ ap (λ (d : List Rule). some (lines n d (k .0))) (append-assoc done (r ∷ []) rs),
+    )
+
+pub text-parsed : (n : ℕ) (rs : List Rule) → n < most-number → Ordered n 0 rs → All BareRule rs → All SmallRule rs
+    → (r : Rule) × (parse (text-of n rs) ≡ some (lines n rs r))
+text-parsed n rs lt o p small =
+    let k = run-rules n rs [] (record { head = 0; body = [] }) (omega arith) o p small in (
+      k .0,
+      ap ended (both (table-lines n) (rule-lines rs) start (lines n [] (record { head = 0; body = [] }))
+          (run-tables n (record { head = 0; body = [] }) lt) (k .1)),
+    )
