@@ -13,12 +13,12 @@ use mathlib.Core.List.{List, [], _∷_, _++_, append-nil, append-assoc}
 use lib.ListN.{length, length-append}
 use lib.Dec.{ltb, leb, eqb}
 use borrow.Author.Tests.{le-ltb, lt-ltb, lt-leb, ne-eqb}
-use Rattle.definitions.specs.Refusal.{refused, accepted, _refuses_, unless}
+use Rattle.definitions.specs.Refusal.{Refusable, refused, accepted, _refuses_, unless}
 use Rattle.definitions.specs.Book.{any, exactly, between, Literal, Positive, Negative, Clause, Goal, Book, clause-count}
 use Rattle.definitions.specs.Book.{Command, end, command, width, is-end}
 use Rattle.definitions.specs.Book.{bit0, bit1, flag, want-of, crossed}
 use Rattle.definitions.specs.Book.{literals-so-far, literals-name, clauses-name, goals-name}
-use Rattle.definitions.specs.Book.{apply-command, literal-command, whole-command, read-from, read}
+use Rattle.definitions.specs.Book.{apply-command, end-command, literal-command, whole-command, read-from, read}
 use Rattle.definitions.specs.Book.{write-literal, write-literals, write-clauses, write-goals, write}
 use Rattle.definitions.specs.Book.{LiteralWithin, LiteralsWithin, ClausesWithin, GoalsWithin, Within}
 use Rattle.definitions.proofs.Book.{clause-count-append, add-clause-last, add-to-last-last, last-literals-last, ends-in-clause}
@@ -234,17 +234,29 @@ pub goals-named : (n : ℕ) (gs : List Goal) → GoalsWithin n gs → goals-name
 goals-named n [] w = refl
 goals-named n (g ∷ gs) w = rw (clauses-named n (g .clauses) (w .0), goals-name) (goals-named n gs (w .1))
 
--- 45 as the last byte: every literal names a goal of the whole book, and there is one
-read-end : (book : Book) → 0 < length book → GoalsWithin (length book) book → read-from (0x45 ∷ []) 0 book ≡ accepted book
-read-end book h w =
-    let accepts : apply-command end [] book ≡ accepted book =
-    unless-three _ _ _ 7 8 6 book refl (ne-eqb (length book) 0 (λ e. omega arith)) (ap not (goals-named (length book) book w)) in
-    rw (whole-apply end [] book (omega arith) ∙ accepts, read-from)
+-- 45 as the last byte
+read-end : (book : Book) → read-from (0x45 ∷ []) 0 book ≡ end-command [] book
+read-end book =
+    ap (λ (r : Refusable Book). elim r [ refused n ↦ refused n | accepted next ↦ accepted next ]) (whole-apply end [] book (omega arith))
+    ∙ as-it-is (end-command [] book)
+  where
+    as-it-is : (r : Refusable Book) → elim r [ refused n ↦ refused n | accepted next ↦ accepted next ] ≡ r
+    as-it-is (refused n) = refl
+    as-it-is (accepted next) = refl
+
+-- what is written is read up to the tests at the end: so far it does not matter how far the literals reach
+pub read-written : (n : ℕ) (book : Book) → GoalsWithin n book → length book ≤ 64 → clause-count book ≤ 256
+    → read (write book) ≡ end-command [] book
+read-written n book w h k = read-goals n [] book (0x45 ∷ []) w (omega arith) (omega arith) ∙ read-end book
+
+-- every literal names a goal of the whole book, and there is one
+end-accepts : (book : Book) → 0 < length book → GoalsWithin (length book) book → end-command [] book ≡ accepted book
+end-accepts book h w =
+    unless-three _ _ _ 7 8 6 book refl (ne-eqb (length book) 0 (λ e. omega arith)) (ap not (goals-named (length book) book w))
 
 pub read-write : (book : Book) → Within book → read (write book) ≡ accepted book
 read-write book w =
-    read-goals (length book) [] book (0x45 ∷ []) (w .clauses-fit) (omega arith) (omega arith)
-    ∙ read-end book (w .some-goal) (w .clauses-fit)
+    read-written (length book) book (w .clauses-fit) (w .few-goals) (w .few-clauses) ∙ end-accepts book (w .some-goal) (w .clauses-fit)
 
 -- what stands behind a book's end is refused
 past-end : (book : Book) (b : ℕ) (more : List ℕ) → read-from (0x45 ∷ b ∷ more) 0 book ≡ refused 7

@@ -9,7 +9,7 @@ use mathlib.Core.List.{List, [], _∷_, _++_}
 use lib.ListN.{length, length-append}
 use lib.Dec.{eqb, ltb}
 use borrow.Author.Tests.{le-ltb, ltb-true, ltb-false, ne-eqb}
-use Rattle.laws.proofs.Bools.{both-false, was-true, not-zero}
+use Rattle.laws.proofs.Bools.{both-true, both-false, was-true, not-zero}
 use Rattle.laws.proofs.Options.{no-such, same-some}
 use Rattle.laws.proofs.All.{All, end, more, all-append, all-map}
 use Rattle.definitions.specs.Refusal.{Refusable, refused, accepted, _refuses_, unless}
@@ -45,7 +45,7 @@ rules-of-length : (g : ℕ) (cs : List Clause) → length (rules-of-goal g cs) �
 rules-of-length g [] = refl
 rules-of-length g (c ∷ cs) = ap suc (rules-of-length g cs)
 
-rules-length : (g : ℕ) (hs : List Goal) → length (rules-from g hs) ≡ clause-count hs
+pub rules-length : (g : ℕ) (hs : List Goal) → length (rules-from g hs) ≡ clause-count hs
 rules-length g [] = refl
 rules-length g (h ∷ hs) =
     length-append (rules-of-goal g (h .clauses)) (rules-from (suc g) hs)
@@ -160,14 +160,10 @@ accepts text book e = on (parse text) refl e
         }
 
 -- every literal of it names a goal
-named-first : (a : Bool) {b : Bool} → elim a [ true ↦ b | false ↦ false ] ≡ true → (a ≡ true) × (b ≡ true)
-named-first true e = (refl, e)
-named-first false e = absurd (false≢true e)
-
 literals-below : (n : ℕ) (ls : List Literal) → literals-name n ls ≡ true → All (λ (l : Literal). goal-of l < n) ls
 literals-below n [] e = end
 literals-below n (l ∷ ls) e =
-    let p = named-first (ltb (goal-of l) n) e in
+    let p = both-true (ltb (goal-of l) n) _ e in
     more (ltb-true (goal-of l) n (p .0)) (literals-below n ls (p .1))
 
 abbrev pub BelowRule : ℕ → Rule → Type 0
@@ -176,13 +172,13 @@ BelowRule n r = All (λ (l : Literal). goal-of l < n) (r .body)
 clauses-below : (n g : ℕ) (cs : List Clause) → clauses-name n cs ≡ true → All (BelowRule n) (rules-of-goal g cs)
 clauses-below n g [] e = end
 clauses-below n g (c ∷ cs) e =
-    let p = named-first (literals-name n (c .literals)) e in
+    let p = both-true (literals-name n (c .literals)) _ e in
     more (literals-below n (c .literals) (p .0)) (clauses-below n g cs (p .1))
 
 goals-below : (n g : ℕ) (hs : List Goal) → goals-name n hs ≡ true → All (BelowRule n) (rules-from g hs)
 goals-below n g [] e = end
 goals-below n g (h ∷ hs) e =
-    let p = named-first (clauses-name n (h .clauses)) e in
+    let p = both-true (clauses-name n (h .clauses)) _ e in
     all-append (clauses-below n g (h .clauses) (p .0)) (goals-below n (suc g) hs (p .1))
 
 pub export-import : (text : List ℕ) (book : Book) → import text ≡ accepted book → export book ≡ text

@@ -51,7 +51,7 @@ run-fixed (b ∷ bs) next s =
 digit-is : (d : ℕ) → d < 10 → is-digit (48 + d) ≡ true
 digit-is d h = rw (le-leb 48 (48 + d) (omega arith), le-leb (48 + d) 57 (omega arith)) refl
 
-digit-step : (s : State) (w : What) (value : Option ℕ) (d : ℕ) → d < 10
+pub digit-step : (s : State) (w : What) (value : Option ℕ) (d : ℕ) → d < 10
     → step-at s (number w value) (48 + d) ≡ with-digit s w (more-digits value d)
 digit-step s w value d h =
     let m : (48 + d) - 48 ≡ d = omega arith in

@@ -10,7 +10,7 @@ use lib.Dec.{eqb, ltb, leb}
 use Rattle.definitions.specs.Refusal.{Refusable, refused, accepted, _refuses_, unless}
 use Rattle.definitions.specs.Lists.{push, is-empty, any-passes}
 use Rattle.definitions.specs.Book.{any, Literal, Positive, Negative, Clause, Goal, Book, most-goals, most-clauses, most-literals}
-use Rattle.definitions.specs.Book.{goals-name}
+use Rattle.definitions.specs.Book.{goals-name, write}
 use Rattle.definitions.specs.Desk.{at-desk, desk}
 use Rattle.definitions.specs.Ascii.{ascii}
 use Rattle.definitions.specs.Listing.{decimal}
@@ -274,3 +274,11 @@ parsed-book (some s) = at-desk (book-of (s .tables) (s .rules))
 
 abbrev pub import : List ℕ → Refusable Book
 import text = parsed-book (parse text)
+
+-- the bytes of the book
+abbrev pub bytes-of : Refusable Book → Refusable (List ℕ)
+bytes-of (refused n) = refused n
+bytes-of (accepted book) = accepted (write book)
+
+abbrev pub check-import : (text : List ℕ) → Refusable (List ℕ)
+check-import text = bytes-of (import text)
