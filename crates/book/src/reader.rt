@@ -34,7 +34,8 @@ fn larger(a: usize, b: usize) -> usize
     if a < b { b } else { a }
 }
 
-pub(crate) fn refused(number: u8) -> Reading
+// A refusal by a number, with a blank book.
+pub fn refused(number: u8) -> Reading
     ensures { λ r. ⌜ (r .number ≡ number) × (r .book ≡ blankBook) ⌝ }
 {
     let book = blank();

@@ -1,25 +1,26 @@
--- The check of a byte string, by its parts: what the desk gave, whether the book is plain, what the passes ended in, and the marks.
+-- The check of a byte string, by its parts: what is given of a plain paper, what the passes ended in, and the marks.
 use Prim.Native.Nat.{ℕ}
 use native.Mathlib.Omega.{arith}
 use mathlib.Core.Path.{_≡_, refl, sym, ap, subst, _∙_}
-use mathlib.Core.Bool.{Bool, true, false, not}
+use mathlib.Core.Bool.{Bool, true, false}
 use mathlib.Core.List.{List}
 use lib.ListN.{length-replicate}
 use lib.Dec.{eqb}
 use borrow.Author.Tests.{eq-eqb, ne-eqb}
-use Rattle.laws.proofs.Bools.{was-true, was-false}
 use Rattle.laws.proofs.Lists.{getD-zeros}
 use Rattle.definitions.specs.Refusal.{Refusable, refused, accepted}
 use Rattle.definitions.specs.Book as said
 use Rattle.definitions.specs.Desk.{desk}
-use Rattle.definitions.specs.Levels.{is-plain, levels, levels-or-38, levels-at-desk, check-levels}
-use Rattle.definitions.proofs.Refusal.{same-accepted, not-accepted}
+use Rattle.definitions.specs.Levels.{levels, levels-or-38, check-levels}
+use Rattle.definitions.proofs.Refusal.{same-accepted}
 use Rattle.book.specs.declared.Reading.{Reading}
-use Rattle.book.specs.View.{view, seen-by, Sound, Gives, Taken}
+use Rattle.book.specs.View.{view, seen-by, Sound, Gives}
 use Rattle.profile.specs.declared.Profile.{Profile}
 use Rattle.profile.specs.declared.Settled.{Settled}
 use Rattle.profile.specs.Asks.{settled-by, Settles}
+use Rattle.profile.specs.Paper.{plain-paper}
 use Rattle.profile.specs.Profile.{zeros, refused-by, profile-by, Marks, Profiles}
+use Rattle.profile.proofs.Papers.{of-paper, levels-in, levels-of-paper, paper-taken, refused-taken}
 
 -- a refusal but for 38
 bare-refusal : (bytes : List ℕ) (n : ℕ) → (n ≡ 0 → ⊥) → check-levels bytes ≡ refused n
@@ -34,68 +35,53 @@ bare-refusal bytes n some says other = record {
   no-cycles = λ z. refl;
 }
 
--- of what an entry gave
-module _ (bytes : List ℕ) (what : Refusable said.Book) (reading : Reading) (read : Gives what reading) where
-  gave : (t : Bool) → eqb (reading .number) 0 ≡ t → what ≡ seen-by t reading
+-- of what is given of a plain paper
+module _ (bytes : List ℕ) (reading : Reading) (read : Gives (plain-paper bytes) reading) where
+  gave : (t : Bool) → eqb (reading .number) 0 ≡ t → plain-paper bytes ≡ seen-by t reading
   gave t e = sym (read .means) ∙ ap (λ (b : Bool). seen-by b reading) e
 
-  -- what it refuses, as the desk does
-  pub unread-profiles : ((n : ℕ) → what ≡ refused n → desk bytes ≡ refused n) → (r : Profile) → (reading .number ≡ 0 → ⊥)
-      → r ≡ refused-by (reading .number) → Profiles bytes r
-  unread-profiles as-desk r n e =
-      let not-taken = as-desk (reading .number) (gave false (ne-eqb (reading .number) 0 n)) in
+  -- one that is refused
+  pub unread-profiles : (r : Profile) → (reading .number ≡ 0 → ⊥) → r ≡ refused-by (reading .number) → Profiles bytes r
+  unread-profiles r n e =
+      let given = gave false (ne-eqb (reading .number) 0 n) in
       subst (Profiles bytes) (sym e)
-      (bare-refusal bytes (reading .number) n (ap levels-at-desk not-taken) (λ book took z. not-accepted (sym not-taken ∙ took)))
+      (bare-refusal bytes (reading .number) n (levels-of-paper bytes ∙ ap (of-paper levels-in) given)
+      (λ book took z. omega (arith, refused-taken bytes (reading .number) book given took)))
 
-  pub book-sound : reading .number ≡ 0 → Sound (reading .book)
-  book-sound z = read .sound z
-
--- of what the desk gave
-module _ (bytes : List ℕ) (reading : Reading) (read : Taken bytes reading) where
   module _ (z : reading .number ≡ 0) where
-    taken : desk bytes ≡ accepted (view (reading .book))
-    taken = gave bytes (desk bytes) reading read true (eq-eqb (reading .number) 0 z)
+    pub book-sound : Sound (reading .book)
+    book-sound = read .sound z
 
-    module _ (plain : Bool) (told : plain ≡ is-plain (view (reading .book))) where
-      by-plain : (t : Bool) → plain ≡ t
-          → check-levels bytes ≡ elim t [ false ↦ refused 37 | true ↦ levels-or-38 (levels (view (reading .book))) ]
-      by-plain t e =
-          ap levels-at-desk taken
-          ∙ ap (λ (b : Bool). elim b [ false ↦ refused 37 | true ↦ levels-or-38 (levels (view (reading .book))) ]) (sym told ∙ e)
+    given-book : plain-paper bytes ≡ accepted (view (reading .book))
+    given-book = gave true (eq-eqb (reading .number) 0 z)
 
-      -- a book that isn't plain
-      pub unplain-profiles : (r : Profile) → not plain ≡ true → r ≡ refused-by 37 → Profiles bytes r
-      unplain-profiles r n e =
-          subst (Profiles bytes) (sym e)
-          (bare-refusal bytes 37 (λ x. omega arith) (by-plain false (was-false plain n)) (λ book took x. omega arith))
+    module _ (s : Settled) (settles : Settles (levels (view (reading .book))) (reading .book .goals) s) where
+      by-levels : (t : Bool) → s .settled ≡ t → check-levels bytes ≡ levels-or-38 (settled-by t (reading .book .goals) s)
+      by-levels t e =
+          levels-of-paper bytes ∙ ap (of-paper levels-in) given-book
+          ∙ ap levels-or-38 (sym (settles .means) ∙ ap (λ (b : Bool). settled-by b (reading .book .goals) s) e)
 
-      module _ (is-so : not plain ≡ false) (s : Settled) (settles : Settles (levels (view (reading .book))) (reading .book .goals) s) where
-        by-levels : (t : Bool) → s .settled ≡ t → check-levels bytes ≡ levels-or-38 (settled-by t (reading .book .goals) s)
-        by-levels t e =
-            by-plain true (was-true plain is-so) ∙ ap levels-or-38 (sym (settles .means) ∙ ap (λ (b : Bool).
-            settled-by b (reading .book .goals) s) e)
+      pub accepted-profiles : s .settled ≡ true
+          → Profiles bytes (record { number = 0; goals = reading .book .goals; levels = s .levels; «on_cycle» = zeros })
+      accepted-profiles t = record {
+        means = sym (by-levels true t);
+        few = read .sound z .few-goals;
+        whole = settles .whole;
+        past = settles .past;
+        bare = λ n. absurd (n refl);
+        cycles = λ book took e. absurd (omega arith);
+        no-cycles = λ n. refl;
+      }
 
-        pub accepted-profiles : s .settled ≡ true
-            → Profiles bytes (record { number = 0; goals = reading .book .goals; levels = s .levels; «on_cycle» = zeros })
-        accepted-profiles t = record {
-          means = sym (by-levels true t);
-          few = read .sound z .few-goals;
-          whole = settles .whole;
-          past = settles .past;
-          bare = λ n. absurd (n refl);
-          cycles = λ book took e. absurd (omega arith);
-          no-cycles = λ n. refl;
-        }
-
-        -- a book that isn't levelled
-        pub unlevelled-profiles : (marks : List ℕ) → s .settled ≡ false → Marks (view (reading .book)) marks
-            → Profiles bytes (record { number = 38; goals = 0; levels = zeros; «on_cycle» = marks })
-        unlevelled-profiles marks f are = record {
-          means = sym (by-levels false f);
-          few = omega arith;
-          whole = length-replicate {A = ℕ} 64 0;
-          past = λ g h. getD-zeros 64 g;
-          bare = λ n. (refl, refl);
-          cycles = λ book took e. subst (λ (b : said.Book). Marks b marks) (same-accepted (sym taken ∙ took)) are;
-          no-cycles = λ n. absurd (n refl);
-        }
+      -- a book that isn't levelled
+      pub unlevelled-profiles : (marks : List ℕ) → s .settled ≡ false → Marks (view (reading .book)) marks
+          → Profiles bytes (record { number = 38; goals = 0; levels = zeros; «on_cycle» = marks })
+      unlevelled-profiles marks f are = record {
+        means = sym (by-levels false f);
+        few = omega arith;
+        whole = length-replicate {A = ℕ} 64 0;
+        past = λ g h. getD-zeros 64 g;
+        bare = λ n. (refl, refl);
+        cycles = λ book took e. subst (λ (b : said.Book). Marks b marks) (same-accepted (sym (paper-taken bytes (view (reading .book)) given-book) ∙ took)) are;
+        no-cycles = λ n. absurd (n refl);
+      }

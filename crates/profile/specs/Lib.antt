@@ -1,3 +1,4 @@
 pub mod Profile
+pub mod Paper
 pub mod Asks
 pub mod Reach

@@ -1,9 +1,8 @@
-// The check: refused by the desk's numbers, then with 37, then with 38; or accepted, with the least levels.
+// The check: refused as no plain paper, then with 38; or accepted, with the least levels.
 use crate::Profile;
 use crate::cycles::cycles;
-use crate::plain::is_plain;
+use crate::paper::plain;
 use crate::settle::settle;
-use book::desk::desk;
 ghost use mathlib.Core.Path.{_≡_};
 ghost use Rattle.profile.specs.Profile.{refused-by, Profiles};
 
@@ -21,14 +20,11 @@ fn refused(number: u8) -> Profile
 pub fn levels(bytes: &[u8]) -> Profile
     ensures { λ r. ⌜ Profiles (now (bytes .entry)) r ⌝ }
 {
-    let reading = desk(bytes);
+    let reading = plain(bytes);
     if reading.number != 0 {
         return refused(reading.number);
     }
     let b = reading.book;
-    if !is_plain(b) {
-        return refused(37);
-    }
     let s = settle(b);
     if s.settled {
         let levels = s.levels;

@@ -6,6 +6,7 @@ mod cycles;
 mod edges;
 pub mod levels;
 mod matrix;
+pub mod paper;
 mod plain;
 mod settle;
 
