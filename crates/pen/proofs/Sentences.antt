@@ -24,11 +24,11 @@ sentence-is n k p q e f = rw e f
 
 -- past the numbers that are told apart the sentence is that of 8
 other-sentence : (n : ℕ) → (n ≡ 1 → ⊥) → (n ≡ 2 → ⊥) → (n ≡ 3 → ⊥) → (n ≡ 4 → ⊥) → (n ≡ 5 → ⊥) → (n ≡ 6 → ⊥) → (n ≡ 7 → ⊥) → (n ≡ 32 → ⊥)
-    → (n ≡ 36 → ⊥) → (n ≡ 37 → ⊥) → (n ≡ 38 → ⊥) → sentence n ≡ ascii "no goal\n"
+    → (n ≡ 36 → ⊥) → (n ≡ 37 → ⊥) → (n ≡ 38 → ⊥) → (n ≡ 39 → ⊥) → sentence n ≡ ascii "no goal\n"
 unfolding sentence
-other-sentence n a b c d e f g h i j k =
+other-sentence n a b c d e f g h i j k l =
     past 0 1 a ∙ past 1 2 b ∙ past 2 3 c ∙ past 3 4 d ∙ past 4 5 e ∙ past 5 6 f ∙ past 6 7 g ∙ past 7 32 h ∙ past 8 36 i ∙ past 9 37 j
-    ∙ past 10 38 k
+    ∙ past 10 38 k ∙ past 11 39 l
   where
     -- the sentence at a place of the table is passed over
     past : (i k : ℕ) → (n ≡ k → ⊥)
@@ -40,5 +40,5 @@ other-sentence n a b c d e f g h i j k =
     ]) (ne-eqb n k h)
 
 pub sentence-other : (n : ℕ) (p q : Pen) → (n ≡ 1 → ⊥) → (n ≡ 2 → ⊥) → (n ≡ 3 → ⊥) → (n ≡ 4 → ⊥) → (n ≡ 5 → ⊥) → (n ≡ 6 → ⊥) → (n ≡ 7 → ⊥)
-    → (n ≡ 32 → ⊥) → (n ≡ 36 → ⊥) → (n ≡ 37 → ⊥) → (n ≡ 38 → ⊥) → q ≡ put-all (ascii "no goal\n") p → q ≡ put-all (sentence n) p
-sentence-other n p q a b c d e f g h i j k l = l ∙ ap (λ (w : List ℕ). put-all w p) (sym (other-sentence n a b c d e f g h i j k))
+    → (n ≡ 32 → ⊥) → (n ≡ 36 → ⊥) → (n ≡ 37 → ⊥) → (n ≡ 38 → ⊥) → (n ≡ 39 → ⊥) → q ≡ put-all (ascii "no goal\n") p → q ≡ put-all (sentence n) p
+sentence-other n p q a b c d e f g h i j k l m = m ∙ ap (λ (w : List ℕ). put-all w p) (sym (other-sentence n a b c d e f g h i j k l))

@@ -6,7 +6,7 @@ use lib.Dec.{eqb}
 use Rattle.definitions.specs.Ascii.{ascii}
 use Rattle.definitions.specs.Listing.{decimal}
 
--- the sentences of the refusals of a paper, by their numbers; no other number but 8 comes
+-- the sentences of the refusals of a paper, or of a book's text, by their numbers; no other number but 8 comes
 abbrev pub sentences : List (ℕ × List ℕ)
 sentences =
     (1, ascii "a command, an operand or the end is missing\n")
@@ -20,6 +20,7 @@ sentences =
     ∷ (36, ascii "a goal has the same clause twice\n")
     ∷ (37, ascii "not plain: a variant, a want or a flag that is not 0, or a range\n")
     ∷ (38, ascii "not levelled: no numbering of the goals satisfies the rule\n")
+    ∷ (39, ascii "not text of the form that a book is written in\n")
     ∷ []
 
 abbrev pub sentence-in : List (ℕ × List ℕ) → ℕ → List ℕ

@@ -17,14 +17,21 @@ ghost use lib.ListN.{length};
 ghost use Rattle.definitions.specs.Listing.{decimal as decimalOf};
 ghost use Rattle.pen.specs.Pen.{pen, put, put-all};
 
+// To a file by its number: 1 is standard output, 2 standard error. Answers whether all that is in use was written.
+fn send(file: i32, out: &[u8], at: usize) -> bool
+    ensures { λ r. ⌜ (length (now (out .entry)) < at → r ≡ false) ⌝ }
+{
+    if at <= out.len() {
+        return io::write_all(file, &out[..at]);
+    }
+    false
+}
+
 // Answers whether all that is in use was written.
 pub fn flush(out: &[u8], at: usize) -> bool
     ensures { λ r. ⌜ (length (now (out .entry)) < at → r ≡ false) ⌝ }
 {
-    if at <= out.len() {
-        return io::write_all(1, &out[..at]);
-    }
-    false
+    send(1, out, at)
 }
 
 pub fn byte(out: &mut [u8], at: usize, b: u8) -> usize

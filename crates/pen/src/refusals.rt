@@ -1,5 +1,6 @@
 // The refusals as the programs say them to whoever wrote the paper: a line with the number, and below it the number's sentence.
 use crate::counted;
+use crate::send;
 use crate::text;
 ghost use mathlib.Core.Path.{_≡_};
 ghost use Rattle.pen.specs.Pen.{pen, put-all};
@@ -36,6 +37,7 @@ fn sentence(out: &mut [u8], at: usize, number: u8) -> usize
             at,
             b"not levelled: no numbering of the goals satisfies the rule\n",
         ),
+        39 => text(out, at, b"not text of the form that a book is written in\n"),
         _ => text(out, at, b"no goal\n"),
     }
 }
@@ -46,4 +48,12 @@ pub fn refusal(out: &mut [u8], at: usize, number: u8) -> usize
     let named = counted(out, at, b"refused ", number as u64);
     let line = text(out, named, b"\n");
     sentence(out, line, number)
+}
+
+// A refusal's lines on standard error; answers whether they could be written. The longest are 77 bytes: all of it is in the buffer when it
+// is written, and nothing goes to standard output.
+pub fn complain(number: u8) -> bool {
+    let mut out = [0u8; 128];
+    let used = refusal(&mut out, 0, number);
+    send(2, &out, used)
 }

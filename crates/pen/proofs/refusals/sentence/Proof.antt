@@ -77,6 +77,12 @@ slice-aggregate-text-12 c = search needs
 text-requires-12 : tie.Need-text-requires-12
 text-requires-12 c κs = search needs
 
+slice-aggregate-text-13 : tie.Need-slice-aggregate-text-13
+slice-aggregate-text-13 c = search needs
+
+text-requires-13 : tie.Need-text-requires-13
+text-requires-13 c κs = search needs
+
 same-length : tie.Need-same-length
 same-length c = search needs
 
@@ -159,7 +165,14 @@ same-length-12 c = search needs
 
 returns-12 : tie.Need-returns-12
 unfolding sentence
-returns-12 c = search sentence-other
+returns-12 c = search sentence-is
+
+same-length-13 : tie.Need-same-length-13
+same-length-13 c = search needs
+
+returns-13 : tie.Need-returns-13
+unfolding sentence
+returns-13 c = search sentence-other
 
 pub sentence-spec : {M : Type 1} → statement M
 sentence-spec =
@@ -189,6 +202,8 @@ sentence-spec =
     text-requires-11
     slice-aggregate-text-12
     text-requires-12
+    slice-aggregate-text-13
+    text-requires-13
     same-length
     returns
     same-length-2
@@ -212,4 +227,6 @@ sentence-spec =
     same-length-11
     returns-11
     same-length-12
-    returns-12)
+    returns-12
+    same-length-13
+    returns-13)

@@ -1,10 +1,10 @@
--- `flush`: what is in use is a part of the buffer.
+-- `send`: what is in use is a part of the buffer.
 use mathlib.Core.Path.{sym}
 use native.Mathlib.Omega.{arith}
 use lib.Seq.{length-take-le}
 use borrow.Author.Needs.{needs}
-use Rattle.pen.proofs.flush.Statement.{statement}
-use Rattle.pen.proofs.flush.Tie as tie
+use Rattle.pen.proofs.send.Statement.{statement}
+use Rattle.pen.proofs.send.Tie as tie
 
 slice-aggregate-write-all : tie.Need-slice-aggregate-write-all
 slice-aggregate-write-all c =
@@ -19,5 +19,5 @@ returns c = λ h. absurd (omega arith)
 returns-2 : tie.Need-returns-2
 returns-2 c = search needs
 
-pub flush-spec : {M : Type 1} → statement M
-flush-spec = tie.close (tie.spec slice-aggregate-write-all write-all-requires returns returns-2)
+pub send-spec : {M : Type 1} → statement M
+send-spec = tie.close (tie.spec slice-aggregate-write-all write-all-requires returns returns-2)
