@@ -50,7 +50,7 @@ pub fn refusal(out: &mut [u8], at: usize, number: u8) -> usize
     sentence(out, line, number)
 }
 
-// A refusal's lines on standard error; answers whether they could be written. The longest are 77 bytes: all of it is in the buffer when it
+// A refusal's lines on standard error; answers whether they could be written. The longest are 76 bytes: all of it is in the buffer when it
 // is written, and nothing goes to standard output.
 pub fn complain(number: u8) -> bool {
     let mut out = [0u8; 128];

@@ -1,0 +1,2 @@
+-- The export of a plain book.
+pub mod Exporting
