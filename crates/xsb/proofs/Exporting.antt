@@ -5,6 +5,7 @@ use native.Mathlib.Omega.{arith}
 use mathlib.Core.Bool.{Bool, true, false}
 use mathlib.Core.Path.{_≡_, refl, sym, ap, ap₂, _∙_}
 use mathlib.Core.List.{List, [], _∷_, _++_, append-assoc}
+use lib.ListN.{take}
 use lib.Dec.{eqb}
 use borrow.Author.Tests.{eq-eqb, ne-eqb}
 use Rattle.laws.specs.Spans.{span}
@@ -13,9 +14,10 @@ use Rattle.definitions.specs.Ascii.{ascii}
 use Rattle.definitions.specs.Listing.{decimal}
 use Rattle.definitions.specs.Refusal.{Refusable}
 use Rattle.definitions.specs.Book as said
-use Rattle.definitions.specs.Book.{bit0, bit1}
+use Rattle.definitions.specs.Book.{bit0, bit1, read-ahead}
 use Rattle.definitions.specs.Xsb.{Rule, rules-of-goal, rules-from, literal-text, more-text, body-text, rule-line, rule-lines, table-line}
-use Rattle.definitions.specs.Xsb.{table-lines, export, check-export}
+use Rattle.definitions.specs.Xsb.{table-lines, export, export-at-desk, check-export}
+use Rattle.definitions.proofs.Desk.{desk-take}
 use Rattle.pen.specs.Pen.{Pen, put-all}
 use Rattle.pen.proofs.Putting.{put-two, put-nothing, put-left, put-ended}
 use Rattle.book.specs.declared.Book.{Book}
@@ -202,3 +204,7 @@ module _ (bytes : List ℕ) (paper : Reading) (given : Gives (plain-paper bytes)
       → _≡_ {A = ℕ × Pen} (0, q) (exported (check-export bytes) p)
   book-exported p q z e =
       ap (λ (x : Pen). (0, x)) e ∙ ap (λ (x : Refusable (List ℕ)). exported x p) (sym (by-number true (eq-eqb (paper .number) 0 z)))
+
+-- what an input comes to is settled by its first bytes
+pub export-take : (bytes : List ℕ) → check-export (take read-ahead bytes) ≡ check-export bytes
+export-take bytes = ap export-at-desk (desk-take bytes)
