@@ -5,7 +5,6 @@ use mathlib.Core.Path.{_≡_, refl, sym, ap, subst, _∙_}
 use mathlib.Core.Bool.{Bool, true, false}
 use mathlib.Core.List.{List}
 use lib.ListN.{length-replicate}
-use lib.Dec.{eqb}
 use borrow.Author.Tests.{eq-eqb, ne-eqb}
 use Rattle.laws.proofs.Lists.{getD-zeros}
 use Rattle.definitions.specs.Refusal.{Refusable, refused, accepted}
@@ -14,13 +13,13 @@ use Rattle.definitions.specs.Desk.{desk}
 use Rattle.definitions.specs.Levels.{levels, levels-or-38, check-levels}
 use Rattle.definitions.proofs.Refusal.{same-accepted}
 use Rattle.book.specs.declared.Reading.{Reading}
-use Rattle.book.specs.View.{view, seen-by, Sound, Gives}
+use Rattle.book.specs.View.{view, Gives}
 use Rattle.profile.specs.declared.Profile.{Profile}
 use Rattle.profile.specs.declared.Settled.{Settled}
 use Rattle.profile.specs.Asks.{settled-by, Settles}
 use Rattle.profile.specs.Paper.{plain-paper}
 use Rattle.profile.specs.Profile.{zeros, refused-by, profile-by, Marks, Profiles}
-use Rattle.profile.proofs.Papers.{of-paper, levels-in, levels-of-paper, paper-taken, refused-taken}
+use Rattle.profile.proofs.Papers.{of-paper, levels-in, levels-of-paper, paper-taken, refused-taken, gave}
 
 -- a refusal but for 38
 bare-refusal : (bytes : List ℕ) (n : ℕ) → (n ≡ 0 → ⊥) → check-levels bytes ≡ refused n
@@ -37,23 +36,17 @@ bare-refusal bytes n some says other = record {
 
 -- of what is given of a plain paper
 module _ (bytes : List ℕ) (reading : Reading) (read : Gives (plain-paper bytes) reading) where
-  gave : (t : Bool) → eqb (reading .number) 0 ≡ t → plain-paper bytes ≡ seen-by t reading
-  gave t e = sym (read .means) ∙ ap (λ (b : Bool). seen-by b reading) e
-
   -- one that is refused
   pub unread-profiles : (r : Profile) → (reading .number ≡ 0 → ⊥) → r ≡ refused-by (reading .number) → Profiles bytes r
   unread-profiles r n e =
-      let given = gave false (ne-eqb (reading .number) 0 n) in
+      let given = gave (plain-paper bytes) reading read false (ne-eqb (reading .number) 0 n) in
       subst (Profiles bytes) (sym e)
       (bare-refusal bytes (reading .number) n (levels-of-paper bytes ∙ ap (of-paper levels-in) given)
       (λ book took z. omega (arith, refused-taken bytes (reading .number) book given took)))
 
   module _ (z : reading .number ≡ 0) where
-    pub book-sound : Sound (reading .book)
-    book-sound = read .sound z
-
     given-book : plain-paper bytes ≡ accepted (view (reading .book))
-    given-book = gave true (eq-eqb (reading .number) 0 z)
+    given-book = gave (plain-paper bytes) reading read true (eq-eqb (reading .number) 0 z)
 
     module _ (s : Settled) (settles : Settles (levels (view (reading .book))) (reading .book .goals) s) where
       by-levels : (t : Bool) → s .settled ≡ t → check-levels bytes ≡ levels-or-38 (settled-by t (reading .book .goals) s)

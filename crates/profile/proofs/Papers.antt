@@ -68,26 +68,30 @@ refused-taken bytes n book e took = on (is-plain book) (sym (ap plain-at-desk to
     on true x = absurd (not-accepted (sym x))
     on false x = sym (same-refused x)
 
--- What is given, from what the desk gave.
-module _ (bytes : List ℕ) (reading : Reading) (read : Taken bytes reading) where
-  gave : (t : Bool) → eqb (reading .number) 0 ≡ t → desk bytes ≡ seen-by t reading
+-- What an entry gave, by its number; and its book is sound.
+module _ (what : Refusable said.Book) (reading : Reading) (read : Gives what reading) where
+  pub gave : (t : Bool) → eqb (reading .number) 0 ≡ t → what ≡ seen-by t reading
   gave t e = sym (read .means) ∙ ap (λ (b : Bool). seen-by b reading) e
 
-  pub unread-gives : (reading .number ≡ 0 → ⊥) → Gives (plain-paper bytes) reading
-  unread-gives n =
+  pub book-sound : reading .number ≡ 0 → Sound (reading .book)
+  book-sound z = read .sound z
+
+  -- what it refuses, as the desk does
+  pub unread-gives : (bytes : List ℕ) → ((n : ℕ) → what ≡ refused n → desk bytes ≡ refused n) → (reading .number ≡ 0 → ⊥)
+      → Gives (plain-paper bytes) reading
+  unread-gives bytes as-desk n =
       let no = ne-eqb (reading .number) 0 n in record {
-        means = ap (λ (b : Bool). seen-by b reading) no ∙ sym (ap plain-at-desk (gave false no));
+        means = ap (λ (b : Bool). seen-by b reading) no ∙ sym (ap plain-at-desk (as-desk (reading .number) (gave false no)));
         sound = read .sound;
         bare = read .bare;
       }
 
-  pub desk-sound : reading .number ≡ 0 → Sound (reading .book)
-  desk-sound z = read .sound z
-
+-- From what the desk gave.
+module _ (bytes : List ℕ) (reading : Reading) (read : Taken bytes reading) where
   module _ (z : reading .number ≡ 0) (plain : Bool) (told : plain ≡ is-plain (view (reading .book))) where
     by-plain : (t : Bool) → plain ≡ t → plain-paper bytes ≡ elim t [ false ↦ refused 37 | true ↦ accepted (view (reading .book)) ]
     by-plain t e =
-        ap plain-at-desk (gave true (eq-eqb (reading .number) 0 z))
+        ap plain-at-desk (gave (desk bytes) reading read true (eq-eqb (reading .number) 0 z))
         ∙ ap (λ (b : Bool). elim b [ false ↦ refused 37 | true ↦ accepted (view (reading .book)) ]) (sym told ∙ e)
 
     pub unplain-gives : (r : Reading) → not plain ≡ true → r .number ≡ 37 → r .book ≡ blank → Gives (plain-paper bytes) r

@@ -28,7 +28,7 @@ use Rattle.book.specs.View.{meant, signed, wanted, bit2, goal-viewed, view, see
 use Rattle.book.specs.Repeats.{Lent, literals-read, clause-read}
 use Rattle.book.proofs.TwiceInBook.{lent-by, goal-shown}
 use Rattle.profile.specs.Paper.{plain-paper}
-use Rattle.profile.proofs.Papers.{of-paper, export-in, export-of-paper}
+use Rattle.profile.proofs.Papers.{of-paper, export-in, export-of-paper, gave}
 use Rattle.xsb.specs.Exporting.{exported, literal-said, rule-read}
 
 -- The table lines.
@@ -192,10 +192,7 @@ module _ (b : Book) where
 module _ (bytes : List ℕ) (paper : Reading) (given : Gives (plain-paper bytes) paper) where
   by-number : (t : Bool) → eqb (paper .number) 0 ≡ t → check-export bytes ≡ of-paper export-in (seen-by t paper)
   by-number t e =
-      export-of-paper bytes ∙ ap (of-paper export-in) (sym (given .means) ∙ ap (λ (b : Bool). seen-by b paper) e)
-
-  pub paper-sound : paper .number ≡ 0 → Sound (paper .book)
-  paper-sound z = given .sound z
+      export-of-paper bytes ∙ ap (of-paper export-in) (gave (plain-paper bytes) paper given t e)
 
   pub refused-exported : (p : Pen) → (paper .number ≡ 0 → ⊥) → _≡_ {A = ℕ × Pen} (paper .number, p) (exported (check-export bytes) p)
   refused-exported p n = ap (λ (e : Refusable (List ℕ)). exported e p) (sym (by-number false (ne-eqb (paper .number) 0 n)))

@@ -1,6 +1,7 @@
 -- `levels`: no plain paper, then 38.
 use borrow.Author.Needs.{needs}
-use Rattle.profile.proofs.Checked.{unread-profiles, book-sound, accepted-profiles, unlevelled-profiles}
+use Rattle.profile.proofs.Papers.{book-sound}
+use Rattle.profile.proofs.Checked.{unread-profiles, accepted-profiles, unlevelled-profiles}
 use Rattle.profile.proofs.levels.levels.Statement.{statement}
 use Rattle.profile.proofs.levels.levels.Tie as tie
 

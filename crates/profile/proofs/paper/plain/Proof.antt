@@ -1,6 +1,6 @@
 -- `plain`: the desk, then 37.
 use borrow.Author.Needs.{needs}
-use Rattle.profile.proofs.Papers.{desk-sound, unread-gives, unplain-gives, plain-gives}
+use Rattle.profile.proofs.Papers.{book-sound, unread-gives, unplain-gives, plain-gives}
 use Rattle.profile.proofs.paper.plain.Statement.{statement}
 use Rattle.profile.proofs.paper.plain.Tie as tie
 
@@ -11,7 +11,7 @@ returns : tie.Need-returns
 returns c = search unread-gives
 
 is-plain-requires : tie.Need-is-plain-requires
-is-plain-requires c κs = search desk-sound
+is-plain-requires c κs = search book-sound
 
 refused-requires : tie.Need-refused-requires
 refused-requires c κs = search needs

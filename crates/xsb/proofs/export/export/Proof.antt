@@ -1,5 +1,6 @@
 -- `export`: by whether the paper is refused.
-use Rattle.xsb.proofs.Exporting.{paper-sound, refused-exported, book-exported}
+use Rattle.xsb.proofs.Exporting.{refused-exported, book-exported}
+use Rattle.profile.proofs.Papers.{book-sound}
 use borrow.Author.Needs.{needs}
 use borrow.Author.Needs.{needs}
 use Rattle.xsb.proofs.export.export.Statement.{statement}
@@ -12,7 +13,7 @@ returns : tie.Need-returns
 returns c = search refused-exported
 
 book-text-requires : tie.Need-book-text-requires
-book-text-requires c κs = search paper-sound
+book-text-requires c κs = search book-sound
 
 same-length : tie.Need-same-length
 same-length c = search needs
