@@ -194,8 +194,10 @@ module _ (bytes : List ℕ) (paper : Reading) (given : Gives (plain-paper bytes)
   by-number t e =
       export-of-paper bytes ∙ ap (of-paper export-in) (gave (plain-paper bytes) paper given t e)
 
-  pub refused-exported : (p : Pen) → (paper .number ≡ 0 → ⊥) → _≡_ {A = ℕ × Pen} (paper .number, p) (exported (check-export bytes) p)
-  refused-exported p n = ap (λ (e : Refusable (List ℕ)). exported e p) (sym (by-number false (ne-eqb (paper .number) 0 n)))
+  pub refused-exported : (n : ℕ) (p : Pen) → n ≡ paper .number → (paper .number ≡ 0 → ⊥)
+      → _≡_ {A = ℕ × Pen} (n, p) (exported (check-export bytes) p)
+  refused-exported n p e some =
+      ap (λ (m : ℕ). (m, p)) e ∙ ap (λ (x : Refusable (List ℕ)). exported x p) (sym (by-number false (ne-eqb (paper .number) 0 some)))
 
   pub book-exported : (p q : Pen) → paper .number ≡ 0 → q ≡ put-all (export (view (paper .book))) p
       → _≡_ {A = ℕ × Pen} (0, q) (exported (check-export bytes) p)
