@@ -40,5 +40,6 @@ other-sentence n a b c d e f g h i j k l =
     ]) (ne-eqb n k h)
 
 pub sentence-other : (n : ℕ) (p q : Pen) → (n ≡ 1 → ⊥) → (n ≡ 2 → ⊥) → (n ≡ 3 → ⊥) → (n ≡ 4 → ⊥) → (n ≡ 5 → ⊥) → (n ≡ 6 → ⊥) → (n ≡ 7 → ⊥)
-    → (n ≡ 32 → ⊥) → (n ≡ 36 → ⊥) → (n ≡ 37 → ⊥) → (n ≡ 38 → ⊥) → (n ≡ 39 → ⊥) → q ≡ put-all (ascii "no goal\n") p → q ≡ put-all (sentence n) p
+    → (n ≡ 32 → ⊥) → (n ≡ 36 → ⊥) → (n ≡ 37 → ⊥) → (n ≡ 38 → ⊥) → (n ≡ 39 → ⊥)
+    → q ≡ put-all (ascii "no goal\n") p → q ≡ put-all (sentence n) p
 sentence-other n p q a b c d e f g h i j k l m = m ∙ ap (λ (w : List ℕ). put-all w p) (sym (other-sentence n a b c d e f g h i j k l))

@@ -7,7 +7,7 @@ use mathlib.Core.List.{List}
 use lib.ListN.{length-replicate}
 use borrow.Author.Tests.{eq-eqb, ne-eqb}
 use Rattle.laws.proofs.Lists.{getD-zeros}
-use Rattle.definitions.specs.Refusal.{Refusable, refused, accepted}
+use Rattle.definitions.specs.Refusal.{refused, accepted}
 use Rattle.definitions.specs.Book as said
 use Rattle.definitions.specs.Desk.{desk}
 use Rattle.definitions.specs.Levels.{levels, levels-or-38, check-levels}
@@ -48,6 +48,9 @@ module _ (bytes : List ℕ) (reading : Reading) (read : Gives (plain-paper bytes
     given-book : plain-paper bytes ≡ accepted (view (reading .book))
     given-book = gave (plain-paper bytes) reading read true (eq-eqb (reading .number) 0 z)
 
+    taken : desk bytes ≡ accepted (view (reading .book))
+    taken = paper-taken bytes (view (reading .book)) given-book
+
     module _ (s : Settled) (settles : Settles (levels (view (reading .book))) (reading .book .goals) s) where
       by-levels : (t : Bool) → s .settled ≡ t → check-levels bytes ≡ levels-or-38 (settled-by t (reading .book .goals) s)
       by-levels t e =
@@ -75,6 +78,6 @@ module _ (bytes : List ℕ) (reading : Reading) (read : Gives (plain-paper bytes
         whole = length-replicate {A = ℕ} 64 0;
         past = λ g h. getD-zeros 64 g;
         bare = λ n. (refl, refl);
-        cycles = λ book took e. subst (λ (b : said.Book). Marks b marks) (same-accepted (sym (paper-taken bytes (view (reading .book)) given-book) ∙ took)) are;
+        cycles = λ book took e. subst (λ (b : said.Book). Marks b marks) (same-accepted (sym taken ∙ took)) are;
         no-cycles = λ n. absurd (n refl);
       }

@@ -97,7 +97,8 @@ module _ (bytes : List ℕ) (reading : Reading) (read : Taken bytes reading) whe
     pub unplain-gives : (r : Reading) → not plain ≡ true → r .number ≡ 37 → r .book ≡ blank → Gives (plain-paper bytes) r
     unplain-gives r n e f = record {
       means =
-          ap (λ (b : Bool). seen-by b r) (ne-eqb (r .number) 0 (λ x. omega arith)) ∙ ap refused e ∙ sym (by-plain false (was-false plain n));
+          ap (λ (b : Bool). seen-by b r) (ne-eqb (r .number) 0 (λ x. omega arith)) ∙ ap refused e
+          ∙ sym (by-plain false (was-false plain n));
       sound = λ x. absurd (omega arith);
       bare = λ x. f;
     }

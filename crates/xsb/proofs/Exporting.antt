@@ -137,7 +137,8 @@ rules-said f s n k p q h i =
 
 lines-append : (a b : List Rule) → rule-lines (a ++ b) ≡ rule-lines a ++ rule-lines b
 lines-append [] b = refl
-lines-append (r ∷ a) b = ap (λ (l : List ℕ). rule-line r ++ l) (lines-append a b) ∙ sym (append-assoc (rule-line r) (rule-lines a) (rule-lines b))
+lines-append (r ∷ a) b =
+    ap (λ (l : List ℕ). rule-line r ++ l) (lines-append a b) ∙ sym (append-assoc (rule-line r) (rule-lines a) (rule-lines b))
 
 -- the rules of a goal, by the arrays
 read-rules : (a : Lent) (g s n : ℕ)

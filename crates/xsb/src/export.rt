@@ -1,11 +1,12 @@
-// A plain book as XSB text: a line `:- table g0.` for each goal, and then a line for each clause.
+// A plain book as XSB text: a line `:- table g0/0.` for each goal, and then a line for each clause.
 use crate::rules::rule_lines;
 use book::Book;
 use book::access::clause_count;
 use book::access::first_clause;
 use profile::paper::plain;
 ghost use mathlib.Core.Path.{_≡_};
-ghost use Rattle.definitions.specs.Xsb.{table-line as tableLine, table-lines as tableLines, rule-lines, rules-from, export as exportOf, check-export};
+ghost use Rattle.definitions.specs.Xsb.{table-line as tableLine, table-lines as tableLines, rule-lines, rules-from};
+ghost use Rattle.definitions.specs.Xsb.{export as exportOf, check-export};
 ghost use Rattle.pen.specs.Pen.{pen, put-all};
 ghost use Rattle.book.specs.View.{view, Sound};
 ghost use Rattle.xsb.specs.Exporting.{exported};
