@@ -62,6 +62,13 @@ for kind in plain few; do
 done
 "$oracle" numberings 11 20000
 
+say "plain books as XSB text, and back"
+cargo test --offline --locked --quiet xsb >"$work/tests" 2>&1 || {
+    cat "$work/tests"
+    exit 1
+}
+grep '^test result' "$work/tests"
+
 say "demand 3"
 "$oracle" demand3 11 100000
 

@@ -7,6 +7,7 @@
 //! number of "not"s on a way down from it.
 
 use crate::book::{Book, Literal};
+use crate::numberings::model_by;
 use chalk_ir::Want;
 use std::fmt::Write;
 use std::time::{Duration, Instant};
@@ -115,7 +116,7 @@ pub fn check(bytes: &[u8]) -> Result<Vec<usize>, Refused> {
     least(&named(&book)).map_err(|on_cycle| Refused { number: 38, on_cycle })
 }
 
-fn sentence(number: u8) -> &'static str {
+pub fn sentence(number: u8) -> &'static str {
     match number {
         1 => "a command, an operand or the end is missing",
         2 => "unknown command",
@@ -129,6 +130,7 @@ fn sentence(number: u8) -> &'static str {
         36 => "a goal has the same clause twice",
         37 => "not plain: a variant, a want or a flag that is not 0, or a range",
         38 => "not levelled: no numbering of the goals satisfies the rule",
+        39 => "text of another form than an export has",
         _ => "",
     }
 }
@@ -151,6 +153,19 @@ pub fn text(bytes: &[u8]) -> String {
         }
     }
     out
+}
+
+/// The goals of the layered least model by the least levels, or `refused` and the number.
+pub fn model_line(bytes: &[u8]) -> String {
+    match (check(bytes), Book::desk(bytes)) {
+        (Ok(levels), Ok(book)) => {
+            let truth = model_by(&book, &levels);
+            let goals: Vec<String> = (0..truth.len()).filter(|g| truth[*g]).map(|g| g.to_string()).collect();
+            goals.join(" ") + "\n"
+        }
+        (Err(refused), _) => format!("refused {}\n", refused.number),
+        (_, Err(number)) => format!("refused {number}\n"),
+    }
 }
 
 /// Microseconds: the least, and the median.

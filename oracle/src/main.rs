@@ -12,6 +12,7 @@ mod numberings;
 mod peeks;
 mod rng;
 mod script;
+mod xsb;
 
 use std::io::{self, Read, Write};
 use std::process::ExitCode;
@@ -21,6 +22,11 @@ const USAGE: &str = "usage: oracle list [hex] < BOOK
        oracle levels [hex] < BOOK
        oracle levels lines < LINES OF HEX
        oracle levels time RUNS < BOOK
+       oracle levels model < LINES OF HEX
+       oracle to-xsb [hex] < BOOK
+       oracle to-xsb lines < LINES OF HEX
+       oracle from-xsb [hex] < TEXT
+       oracle from-xsb lines < LINES OF HEX
        oracle numberings SEED COUNT
        oracle run [batch] [quiet|bare|counted] < SCRIPT
        oracle searches < SCRIPT
@@ -32,8 +38,8 @@ const USAGE: &str = "usage: oracle list [hex] < BOOK
        oracle bench [PROGRAM [ARGUMENT..]]
        oracle load ladder|ring|random|plain";
 
-/// A book from standard input: its bytes, or with the word `hex` their digits.
-fn input_book(words: &[&str]) -> Result<Vec<u8>, String> {
+/// A book or a text from standard input: its bytes, or with the word `hex` their digits.
+fn input(words: &[&str]) -> Result<Vec<u8>, String> {
     let mut bytes = Vec::new();
     io::stdin().read_to_end(&mut bytes).map_err(|e| e.to_string())?;
     if words == ["hex"] {
@@ -64,7 +70,7 @@ fn read_books() -> Result<(), String> {
     out.flush().map_err(|e| e.to_string())
 }
 
-/// For each line of hex what is said of that book, its listing or its levels, and a line of its own to end it.
+/// For each line of hex what is said of that book or text (its listing, its levels, ..), and a line of its own to end it.
 fn each_book(said: fn(&[u8]) -> Result<String, String>) -> Result<(), String> {
     let mut out = io::BufWriter::new(io::stdout().lock());
     for line in io::stdin().lines() {
@@ -74,6 +80,17 @@ fn each_book(said: fn(&[u8]) -> Result<String, String>) -> Result<(), String> {
         writeln!(out, "{text}.").map_err(|e| e.to_string())?;
     }
     out.flush().map_err(|e| e.to_string())
+}
+
+/// What came of a book or a text on standard output; a refusal on standard error, with nothing on standard output.
+fn given(said: Result<Vec<u8>, u8>) -> Result<(), String> {
+    match said {
+        Ok(bytes) => io::stdout().write_all(&bytes).map_err(|e| e.to_string()),
+        Err(number) => {
+            eprint!("{}", xsb::refusal(number));
+            Ok(())
+        }
+    }
 }
 
 fn number(word: &str) -> Result<u64, String> {
@@ -119,18 +136,23 @@ fn run(words: &[&str]) -> Result<(), String> {
 fn command(words: &[&str]) -> Result<(), String> {
     match words {
         ["list", rest @ ..] => {
-            let text = list::list(&input_book(rest)?)?;
+            let text = list::list(&input(rest)?)?;
             io::stdout().write_all(text.as_bytes()).map_err(|e| e.to_string())
         }
         ["lists"] => each_book(list::list),
         ["levels", "lines"] => each_book(|bytes| Ok(levels::text(bytes))),
         ["levels", "time", runs] => {
-            print!("{}", levels::timed(&input_book(&[])?, number(runs)?));
+            print!("{}", levels::timed(&input(&[])?, number(runs)?));
             Ok(())
         }
+        ["levels", "model"] => each_book(|bytes| Ok(levels::model_line(bytes))),
         ["levels", rest @ ..] => {
-            io::stdout().write_all(levels::text(&input_book(rest)?).as_bytes()).map_err(|e| e.to_string())
+            io::stdout().write_all(levels::text(&input(rest)?).as_bytes()).map_err(|e| e.to_string())
         }
+        ["to-xsb", "lines"] => each_book(|bytes| Ok(xsb::text_line(bytes))),
+        ["to-xsb", rest @ ..] => given(xsb::export(&input(rest)?).map(String::into_bytes)),
+        ["from-xsb", "lines"] => each_book(|text| Ok(xsb::book_line(text))),
+        ["from-xsb", rest @ ..] => given(xsb::import(&input(rest)?).map(|book| book.bytes())),
         ["numberings", seed, count] => {
             let [every, few, larger] = numberings::numberings(number(seed)?, number(count)?)?;
             println!("every way to name each other, up to three goals: {}", every.told());

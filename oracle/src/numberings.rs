@@ -112,7 +112,7 @@ fn all_numberings(named: &Named) -> Result<All, String> {
 }
 
 /// The model by levels.
-fn model_by(book: &Book, levels: &[usize]) -> Vec<bool> {
+pub fn model_by(book: &Book, levels: &[usize]) -> Vec<bool> {
     model(book, &levels.iter().map(|level| *level as u64).collect::<Vec<_>>())
 }
 
