@@ -27,7 +27,7 @@ import sys
 import papers
 import sides
 import tree
-from levels_books import CASES, PAPERS, SENTENCES, of_goals
+from levels_books import CASES, SENTENCES, every_book, of_goals
 from rules import clauses_of, rules, timed
 
 PROFILES = "mix plain tiny answers small limits large".split()
@@ -43,13 +43,8 @@ def text(said):
 
 
 def cases():
-    """Every book with what must be written of it: those by hand, and the papers."""
-    for about, books in CASES.items():
-        for title, data, said in books:
-            yield "%s: %s" % (about, title), data, text(said)
-    for name, _, _ in papers.PAPERS:
-        with open(os.path.join(papers.FOLDER, name + ".book"), "rb") as f:
-            yield name + ".book", f.read(), text(PAPERS[name])
+    """Every book with what must be written of it."""
+    return [(title, data, text(said)) for title, data, said in every_book()]
 
 
 def by_the_rust(oracle, books):
@@ -213,7 +208,7 @@ def main():
             sys.exit("levels: clingo is not installed (Debian's package gringo)")
         times(a, oracle, program)
         return 0
-    good, asked = True, list(cases())
+    good, asked = True, cases()
     data = [one for _, one, _ in asked]
     if a.oracle:
         good = told("books by hand", "the Rust", asked, by_the_rust(oracle, data))

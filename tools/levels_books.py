@@ -1,5 +1,6 @@
 """Books for tools/levels.py, and what must be said of each, by hand: the levels as a list, a number, or the goals on a cycle through "not"
 (38) as a tuple."""
+import os
 from itertools import product
 
 import papers
@@ -172,3 +173,13 @@ PAPERS = {
     "levels-p1": [1, 0, 0], "levels-not": (1, 2), "levels-chain": list(range(63, -1, -1)), "levels-cycle": tuple(range(64)),
     "clauses-256-alike": 37, "clauses-256-twice": 36, "largest": 37, "largest-and-a-byte": 7, "largest-wants": 37,
 }
+
+
+def every_book():
+    """Those by hand and the papers, each with what must be said of it."""
+    for about, books in CASES.items():
+        for title, data, said in books:
+            yield "%s: %s" % (about, title), data, said
+    for name, _, _ in papers.PAPERS:
+        with open(os.path.join(papers.FOLDER, name + ".book"), "rb") as f:
+            yield name + ".book", f.read(), PAPERS[name]

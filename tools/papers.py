@@ -240,12 +240,28 @@ PAPERS = [
     ("largest-wants", "the largest book without a range: the same with a want in place of each", largest(numbered)),
 ]
 
+def tabled(goals, *rules):
+    """A text for a Prolog with tabling: a table line for each goal, and the rules."""
+    return "".join(line + "\n" for line in [*(":- table g%d/0." % g for g in range(goals)), *rules])
+
+
+# Texts, and the number by which each is refused; without one it is that of the paper of its name.
+TEXTS = [
+    ("levels-p1", "the text of `levels-p1.book`", tabled(3, "g0 :- g1, tnot(g2).", "g1.", "g2 :- g2."), None),
+    ("levels-not", "the text of `levels-not.book`: a book that is not levelled has one too",
+     tabled(4, "g0 :- g1.", "g1 :- tnot(g2).", "g2 :- g1, tnot(g3).", "g3."), None),
+    ("p9-one-goal", "the text of `p9-one-goal.book`: a goal without a clause has a table line alone", tabled(1), None),
+    ("text-65536", "a literal's number that has no table line: refused 6, and no goal 0 by any wrapping", tabled(1, "g0 :- g65536."), 6),
+    ("text-heads", "heads out of order: refused 39, though the last rule has a literal of no goal", tabled(2, "g1.", "g0 :- g2."), 39),
+]
+
 HEADER = """# Sample papers
 
 Each file `NAME.book` holds the bytes of a book. p1 to p9 are the cases of document 01, `release` is a paper as the
 workshop has it; the others are the sizes at the limits and one past them, ranges, the same clause twice, levels, and the largest
 book. A paper that is refused here is refused by both entries, but where the desk is named. `inspect` prints what a book says, `listing`
-what follows from it, `levels` its levels, where it is plain and has some. `tools/papers.py` makes the files and this page from a notation
+what follows from it, `levels` its levels, where it is plain and has some. A file `NAME.xsb` is a text for a Prolog with tabling: `to_xsb`
+writes such a text of a plain book, `from_xsb` the book of such a text. `tools/papers.py` makes the files and this page from a notation
 that can be read; `tools/papers.py --check` says whether they are those.
 
 | file | bytes | what it is | in hex |
@@ -261,6 +277,9 @@ def files():
         out[name + ".book"] = data
         shown = "`%s`" % data.hex(" ").upper() if 0 < len(data) <= 64 else ""
         rows += "| %s.book | %d | %s | %s |\n" % (name, len(data), says, shown)
+    for name, says, text, _ in TEXTS:
+        out[name + ".xsb"] = text.encode()
+        rows += "| %s.xsb | %d | %s | |\n" % (name, len(text), says)
     out["README.md"] = (HEADER + rows).encode()
     out["release.names"] = release_names().encode()
     return out

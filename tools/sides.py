@@ -45,9 +45,17 @@ def listed_otherwise(who, words, books):
     return wrong
 
 
-def failures(program):
+def in_xsb(oracle, command, asked):
+    """What the Rust's `to-xsb` says of books, or its `from-xsb` of texts: bytes, or the number of the refusal."""
+    lines = "".join(data.hex() + "\n" for data in asked).encode()
+    found = said([oracle, command, "lines"], lines).decode().split("\n.\n")[:-1]
+    accepted = bytes.fromhex if command == "from-xsb" else lambda text: text.encode() + b"\n"
+    return [int(one[8:]) if one.startswith("refused") else accepted(one) for one in found]
+
+
+def failures(program, paper="largest.book"):
     """Whether a program says it where its input or its output fails: a folder for input, a full device and a closed output."""
-    paper = os.path.join(tree.ROOT, "papers", "largest.book")
+    paper = os.path.join(tree.ROOT, "papers", paper)
     right = True
     for name, words in (("a folder", "can't be read"), ("a full device", "can't be written"), ("a closed output", "can't be written")):
         given = os.open(tree.ROOT if name == "a folder" else paper, os.O_RDONLY)
