@@ -2,10 +2,10 @@
 """Out to a Prolog with tabling, and back: books and texts, and what must be said of each, by hand; others by chance; and times.
 
 tools/xsb.py --oracle                 the Rust (`oracle to-xsb`, `oracle from-xsb`) on the books and texts here and on every paper
-tools/xsb.py --programs [TO FROM]     target/bin/to_xsb and target/bin/from_xsb, or two programs in their place, on the same; then beside the
-                                      Rust: N books of chance, plain and spoiled ones and damaged ones, out and back; a short text with
-                                      each byte changed, left out or put in; texts of megabytes; input that comes in pieces of 1, 7, 4095 and
-                                      4097 bytes; last, where the input or the output fails
+tools/xsb.py --programs [TO FROM]     target/bin/to_xsb and target/bin/from_xsb, or two programs in their place, on the same; then beside
+                                      the Rust: N books of chance, plain and spoiled ones and damaged ones, out and back; a short text
+                                      with each byte changed, left out or put in; texts of megabytes; input that comes in pieces of 1, 7,
+                                      4095 and 4097 bytes; last, where the input or the output fails
 tools/xsb.py --time                   whole processes on the largest books and texts, the programs (where they are there) and the Rust
                                       side by side
 
@@ -35,6 +35,8 @@ LONG = 3000000
 PIECES = (1, 7, 4095, 4097)
 # Put in the place of each byte of a text, and before it.
 NEAR = b"\0\t\n\r !%()+,-./0129:;GTaegnot~\x80\xa0\xb0\xff"
+# The largest plain books that are timed.
+TIMED = ("levels-chain.book", "sizes: 64 goals in a ring, 256 clauses of 8")
 SHORT = b":- table g0/0.\n:- table g1/0.\ng0 :- g1, tnot(g0).\n"
 
 
@@ -71,11 +73,12 @@ def told(a, what, side, asked, ask=run):
     """Whether all is said so. Each is asked by a process of its own."""
     with concurrent.futures.ThreadPoolExecutor(a.jobs) as pool:
         found = list(pool.map(lambda one: ask(side.words[one.program], one.data), asked))
-    wrong = ["%s, %s, %s\nmust be: %s\n%s: %s" % (one.title, one.program, repr(one.data[:300]), shown(wanted(one.said)), side.name, shown(said))
+    wrong = ["%s, %s, %r\nmust be: %s\n%s: %s" % (one.title, one.program, one.data[:300], shown(wanted(one.said)), side.name, shown(said))
              for one, said in zip(asked, found) if said != wanted(one.said)]
     kinds = collections.Counter("refused %d" % one.said if isinstance(one.said, int) else "accepted" for one in asked)
     counts = ", ".join("%s: %d" % (kind, kinds[kind]) for kind in sorted(kinds, key=lambda k: (len(k), k)))
-    print("\n".join(wrong[:10] + ["xsb: %d %s, %d said otherwise by %s (%s)" % (len(asked), what, len(wrong), side.name, counts)]), flush=True)
+    last = "xsb: %d %s, %d said otherwise by %s (%s)" % (len(asked), what, len(wrong), side.name, counts)
+    print("\n".join(wrong[:10] + [last]), flush=True)
     return not wrong
 
 
@@ -184,14 +187,15 @@ def long_texts():
 
 def times(a, sides_here):
     """Median, and least in brackets."""
-    print("%-44s" % "median (least), processes" + "".join("%-22s" % side.name for side in sides_here) + "`true`")
-    small = [Asked("p1 out", "to_xsb", book_of(clauses_of(papers.files()["levels-p1.book"])), b""), Asked("p1 back", "from_xsb", xsb_texts.P1.encode(), b"")]
-    large = [one for one in large_ones() if one.title in ("levels-chain.book", "sizes: 64 goals in a ring, 256 clauses of 8") and not isinstance(one.said, int)]
-    for one in small + large + long_texts():
-        title = "%s, %s, %d bytes" % (one.program, one.title.replace("sizes: ", ""), len(one.data))
+    print("%-80s" % "median (least), processes" + "".join("%-22s" % side.name for side in sides_here) + "`true`")
+    some = [Asked("levels-p1.book", "to_xsb", papers.files()["levels-p1.book"], b"")]
+    some += [Asked("levels-p1.xsb", "from_xsb", xsb_texts.P1.encode(), b"")]
+    some += [one for one in large_ones() if one.title in TIMED and not isinstance(one.said, int)]
+    for one in some + long_texts():
+        title = "%s, %s, %d bytes" % (one.program, one.title, len(one.data))
         runs = a.runs if len(one.data) < 100000 else 5
         cells = [timed(side.words[one.program], one.data, runs) for side in sides_here] + [timed(["true"], b"", runs)]
-        print("%-72s" % title + "".join("%-22s" % cell for cell in cells), flush=True)
+        print("%-80s" % title + "".join("%-22s" % cell for cell in cells), flush=True)
 
 
 def parsed():

@@ -56,7 +56,8 @@ def a_number(chance, text):
     one = chance.choice(found)
     number = int(one.group(1))
     large = number + 2 ** chance.choice((6, 8, 16, 31, 32, 63, 64, 128))
-    other = chance.choice((number + 1, max(0, number - 1), 10 * number + 7, chance.randrange(66), large, large, 10 ** chance.randrange(18, 400)))
+    near = (number + 1, max(0, number - 1), 10 * number + 7, chance.randrange(66))
+    other = chance.choice((*near, large, large, 10 ** chance.randrange(18, 400)))
     digits = b"0%d" % number if chance.randrange(8) == 0 else b"%d" % other
     return text[:one.start(1)] + digits + text[one.end(1):]
 

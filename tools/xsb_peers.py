@@ -4,14 +4,15 @@
 xsb_peers.py [--books N] [--seed S] [--installed] [--rust] [--to-xsb PATH] [--program PATH] [--oracle PATH]
 
 Takes N plain levelled books from the oracle's generator, half of them small, half of up to 64 goals, and has each written as text by
-`to_xsb`. swipl (Debian: swi-prolog-core) consults the text as it is, each in a module of its own, with a line `:- dynamic g1/0.` put in front
-for each goal that has no clause; clingo (Debian: gringo) reads what this makes of it:
+`to_xsb`. swipl (Debian: swi-prolog-core) consults the text as it is, each in a module of its own, with a line `:- dynamic g1/0.` put in
+front for each goal that has no clause; clingo (Debian: gringo) reads what this makes of it:
 
     sed -e '/^:-/d' -e 's/tnot(\\(g[0-9]*\\))/not \\1/g'
 
-Of each goal both must say what the layered least model says (`oracle levels model`), and so must the listing, where its searches come to an
-end within their turns. Then N / 3 books that are not levelled: there swipl has a third word, undefined, and is held against the well-founded
-model, which is worked out here. Last the smallest texts that show what must be put in front, and what a book that is not levelled comes to.
+Of each goal both must say what the layered least model says (`oracle levels model`), and so must the listing, where its searches come to
+an end within their turns. Then N / 3 books that are not levelled: there swipl has a third word, undefined, and is held against the
+well-founded model, which is worked out here. Last the smallest texts that show what must be put in front, and what a book that is not
+levelled comes to.
 
 XSB itself is not packaged by Debian and was never run. A peer that is not installed is named and ends the run, with --installed it is left
 out. With --rust the oracle takes the place of target/bin/to_xsb and target/bin/listing. Status 0 only if all is so.
@@ -151,13 +152,14 @@ def told(what, books, says):
 
 
 def listed(listing, books):
-    """A word for each goal; `cut` where the listing settles nothing."""
+    """A word for each goal; `cut` where a search is not over by its last turn, and settles nothing."""
     held, unsettled = listing.holds(books)
     out = []
     for data, yes, open_ones in zip(books, held, unsettled):
-        left = {int(line[0]) for line in open_ones}
-        out.append(["yes" if goal in yes else "cut" if goal in left else "no" for goal in range(len(clauses_of(data)))])
-    print("%s leaves %d goals of %d books unsettled" % (listing.name, sum(said.count("cut") for said in out), sum("cut" in said for said in out)))
+        words = {**{int(line[0]): line[2] for line in open_ones}, **dict.fromkeys(yes, "yes")}
+        out.append([words.get(goal, "no") for goal in range(len(clauses_of(data)))])
+    cut, some = sum(said.count("cut") for said in out), sum("cut" in said for said in out)
+    print("%s: cut in %d goals of %d books" % (listing.name, cut, some))
     return out
 
 
