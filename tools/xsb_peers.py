@@ -5,7 +5,11 @@ xsb_peers.py [--books N] [--seed S] [--installed] [--rust] [--to-xsb PATH] [--pr
 
 Takes N plain levelled books from the oracle's generator, half of them small, half of up to 64 goals, and has each written as text by
 `to_xsb`. swipl (Debian: swi-prolog-core) consults the text as it is, each in a module of its own, with a line `:- dynamic g1/0.` put in
-front for each goal that has no clause; clingo (Debian: gringo) reads what this makes of it:
+front for each goal that has no clause, or, with every second book, for each goal whatsoever, which is what this makes of the text:
+
+    sed -n 's/^:- table/:- dynamic/p'
+
+clingo (Debian: gringo) reads what this makes of it:
 
     sed -e '/^:-/d' -e 's/tnot(\\(g[0-9]*\\))/not \\1/g'
 
@@ -29,7 +33,8 @@ from papers import tabled
 from rules import clauses_of
 from solvers import Listing, installed, plain_books, with_listing
 
-SED = ["sed", "-e", "/^:-/d", "-e", r"s/tnot(\(g[0-9]*\))/not \1/g"]
+FOR_CLINGO = ["-e", "/^:-/d", "-e", r"s/tnot(\(g[0-9]*\))/not \1/g"]
+IN_FRONT = ["-n", "s/^:- table/:- dynamic/p"]
 # Texts that one process of swipl gets at once.
 TOGETHER = 100
 # Each text in a module of its own. What is delayed rests on a "not" that is neither true nor false.
@@ -46,7 +51,9 @@ main :- forall(text(B, Goals), book(B, Goals)).
 SMALLEST = [
     ("not of a goal without a clause, the text alone", "", tabled(2, "g0 :- tnot(g1)."), "no missing"),
     ("the same with a line in front", ":- dynamic g1/0.\n", tabled(2, "g0 :- tnot(g1)."), "yes no"),
+    ("the same with a line for both goals", ":- dynamic g0/0.\n:- dynamic g1/0.\n", tabled(2, "g0 :- tnot(g1)."), "yes no"),
     ("the same with a clause in front", "g1 :- fail.\n", tabled(2, "g0 :- tnot(g1)."), "yes no"),
+    ("the same with a clause at the end", "", tabled(2, "g0 :- tnot(g1).", "g1 :- fail."), "yes no"),
     ("a goal without a clause, the text alone", "", tabled(2, "g0 :- g1."), "missing missing"),
     ("the same with a line in front", ":- dynamic g1/0.\n", tabled(2, "g0 :- g1."), "no no"),
     ("no goal has a clause", ":- dynamic g0/0.\n", tabled(1), "no"),
@@ -56,9 +63,21 @@ SMALLEST = [
 ]
 
 
-def in_front(goals):
-    """The lines for goals without a clause."""
+def by_sed(words, text):
+    return subprocess.run(["sed", *words], input=text, capture_output=True, text=True, check=True).stdout
+
+
+def in_front(at, goals, text):
+    """The lines for goals without a clause; with every second book for all."""
+    if at % 2:
+        return by_sed(IN_FRONT, text)
     return "".join(":- dynamic g%d/0.\n" % goal for goal, bodies in enumerate(goals) if not bodies)
+
+
+def of_books(folder, books, texts):
+    """What swipl says of each book by its text."""
+    some = enumerate(zip(map(clauses_of, books), texts))
+    return by_swipl(folder, [(in_front(at, goals, text), text, len(goals)) for at, (goals, text) in some])
 
 
 def by_swipl(folder, texts):
@@ -83,7 +102,7 @@ def by_swipl(folder, texts):
 
 def by_clingo(text, goals):
     """A word for each goal, of the one stable model."""
-    rules = subprocess.run(SED, input=text, capture_output=True, text=True, check=True).stdout
+    rules = by_sed(FOR_CLINGO, text)
     run = subprocess.run(["clingo", "--verbose=0", "--warn=none", "-", "0"], input=rules, capture_output=True, text=True)
     lines = run.stdout.splitlines()
     # 30: a model, and there are no others
@@ -171,7 +190,7 @@ def levelled_agree(a, listing, folder, there):
     says = {"the model": [["yes" if goal in held else "no" for goal in range(len(goals))] for (_, held), goals in zip(levelled, all_goals)]}
     says[listing.name] = listed(listing, books)
     if "swipl" in there:
-        says["swipl"] = by_swipl(folder, [(in_front(goals), text, len(goals)) for goals, text in zip(all_goals, texts)])
+        says["swipl"] = of_books(folder, books, texts)
     if "clingo" in there:
         says["clingo"] = [by_clingo(text, len(goals)) for goals, text in zip(all_goals, texts)]
     good = told("plain levelled books", books, says) and len(books) == a.books
@@ -181,9 +200,8 @@ def levelled_agree(a, listing, folder, there):
 def others_agree(a, listing, folder, books):
     """Books that are not levelled, and swipl."""
     texts = exported(a, listing.oracle, books)
-    all_goals = [clauses_of(data) for data in books]
-    says = {"the model": [well_founded(goals) for goals in all_goals]}
-    says["swipl"] = by_swipl(folder, [(in_front(goals), text, len(goals)) for goals, text in zip(all_goals, texts)])
+    says = {"the model": [well_founded(clauses_of(data)) for data in books]}
+    says["swipl"] = of_books(folder, books, texts)
     return told("plain books that are not levelled", books, says) and len(books) == a.books // 3
 
 
