@@ -69,15 +69,19 @@ class Asked:
         self.title, self.program, self.data, self.said = title, program, data, said
 
 
+def counts(asked):
+    """How often each number must be said."""
+    kinds = collections.Counter("refused %d" % one.said if isinstance(one.said, int) else "accepted" for one in asked)
+    return ", ".join("%s: %d" % (kind, kinds[kind]) for kind in sorted(kinds, key=lambda k: (len(k), k)))
+
+
 def told(a, what, side, asked, ask=run):
     """Whether all is said so. Each is asked by a process of its own."""
     with concurrent.futures.ThreadPoolExecutor(a.jobs) as pool:
         found = list(pool.map(lambda one: ask(side.words[one.program], one.data), asked))
     wrong = ["%s, %s, %r\nmust be: %s\n%s: %s" % (one.title, one.program, one.data[:300], shown(wanted(one.said)), side.name, shown(said))
              for one, said in zip(asked, found) if said != wanted(one.said)]
-    kinds = collections.Counter("refused %d" % one.said if isinstance(one.said, int) else "accepted" for one in asked)
-    counts = ", ".join("%s: %d" % (kind, kinds[kind]) for kind in sorted(kinds, key=lambda k: (len(k), k)))
-    last = "xsb: %d %s, %d said otherwise by %s (%s)" % (len(asked), what, len(wrong), side.name, counts)
+    last = "xsb: %d %s, %d said otherwise by %s (%s)" % (len(asked), what, len(wrong), side.name, counts(asked))
     print("\n".join(wrong[:10] + [last]), flush=True)
     return not wrong
 

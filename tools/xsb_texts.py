@@ -36,10 +36,9 @@ def named(number, goals=1):
     return [below(6, rule % word, goals=goals) for rule in rules]
 
 
-def different(count, head="g0"):
-    """So many rules of a goal, no two of them alike: g0 is named, or not, by the digits of a number."""
-    words = ("g0", "tnot(g0)")
-    return ["%s :- %s." % (head, ", ".join(words[n >> bit & 1] for bit in range(8))) for n in range(count)]
+def different(count, head="g0", words=("g0", "tnot(g0)"), bits=8):
+    """So many rules of a goal, no two of them alike: each literal is one of two words, by the digits of a number."""
+    return ["%s :- %s." % (head, ", ".join(words[n >> bit & 1] for bit in range(bits))) for n in range(count)]
 
 
 def in_notation(rules):
@@ -62,6 +61,7 @@ TAKEN = [
           ("0 :- 63, not 62", "9 :- 10", "10 :- 9", "63 :- 63")),
     taken(1, [body(8)], ("0 :- " + ", ".join("0" * 8),)),
     taken(1, [body(8, "tnot(g0)")], ("0 :- " + ", ".join(["not 0"] * 8),)),
+    taken(2, ["g0.", *different(64, words=("g0", "g1"), bits=6)], in_notation(["g0.", *different(64, words=("g0", "g1"), bits=6)])),
     taken(1, different(256), in_notation(different(256))),
     taken(2, different(200) + different(56, "g1"), in_notation(different(200) + different(56, "g1"))),
 ]
