@@ -130,7 +130,7 @@ def out_and_back(a, oracle, side):
     # written as the book was, where that had each literal behind its clause
     asked += [Asked(kind + ", back", "from_xsb", text, book_of(clauses_of(data))) for kind, data, text in pairs]
     enough = len(books) == len(said) and len(pairs) > a.count // 3 and (len(moved) > a.count // 20)
-    return told(a, "books of chance out and back, %d of them with a goal before literals" % len(moved), side, asked) and enough
+    return told(a, "books of chance and texts of them, %d of the books with a goal before literals" % len(moved), side, asked) and enough
 
 
 def near(a, oracle, side):

@@ -18,8 +18,8 @@ an end within their turns. Then N / 3 books that are not levelled: there swipl h
 well-founded model, which is worked out here. Last the smallest texts that show what must be put in front, and what a book that is not
 levelled comes to.
 
-XSB itself is not packaged by Debian and was never run. A peer that is not installed is named and ends the run, with --installed it is left
-out. With --rust the oracle takes the place of target/bin/to_xsb and target/bin/listing. Status 0 only if all is so.
+XSB itself was not to be had, and was never run. A peer that is not installed is named and ends the run, with --installed it is left out.
+With --rust the oracle takes the place of target/bin/to_xsb and target/bin/listing. Status 0 only if all is so.
 """
 import argparse
 import os
