@@ -230,7 +230,7 @@ def main():
     rust = Side("the Rust", [oracle, "to-xsb"], [oracle, "from-xsb"])
     there = all(os.path.exists(os.path.join(tree.ROOT, "target", "bin", name)) for name in ("to_xsb", "from_xsb"))
     if a.time:
-        times(a, [side_of(a)] * bool(a.programs or there) + [rust])
+        times(a, [side_of(a), rust] if a.programs or there else [rust])
         return 0
     good, hand = True, by_hand()
     if a.oracle:

@@ -46,7 +46,18 @@ def in_notation(rules):
     return tuple(rule.rstrip(".").replace("tnot(", "not ").replace(")", "").replace("g", "") for rule in rules)
 
 
+def largest():
+    """The longest text that is accepted: 64 goals, 256 rules of 8 "not"s, heads and literals of two digits, no two rules of a head alike."""
+    rules, clauses = [], []
+    for n in range(256):
+        head, named = 10 + n * 54 // 256, [10 + (5 * n + at) % 54 for at in range(8)]
+        rules.append("g%d :- %s." % (head, ", ".join("tnot(g%d)" % one for one in named)))
+        clauses.append("%d :- %s" % (head, ", ".join("not %d" % one for one in named)))
+    return "the longest text", tabled(64, *rules), (64, tuple(clauses))
+
+
 TAKEN = [
+    largest(),
     taken(3, ["g0 :- g1, tnot(g2).", "g1.", "g2 :- g2."], ("0 :- 1, not 2", "1", "2 :- 2")),
     taken(1, [], ()), taken(2, [], ()), taken(64, [], ()),
     taken(1, ["g0."], ("0",)), taken(1, ["g0 :- g0."], ("0 :- 0",)), taken(1, ["g0 :- tnot(g0)."], ("0 :- not 0",)),
@@ -162,6 +173,9 @@ ORDER = [
 CASES = {"taken": TAKEN, "layout": LAYOUT, "table lines": TABLE_LINES, "heads": HEADS, "the desk's": DESK, "order": ORDER}
 
 
+LARGEST = largest()[1]
+
+
 def every_text():
     """Each with what must be said of it: a number, or the bytes of its book."""
     for about, texts in CASES.items():
@@ -192,4 +206,5 @@ def long_texts(bytes_of_it):
         ("many blanks", " " * bytes_of_it, 39), ("many newlines", "\n" * bytes_of_it, 39),
         ("many letters", tabled(1) + "g" * bytes_of_it, 39),
         ("many texts", P1 * (bytes_of_it // len(P1)), 39),
+        ("the longest text, and its last rule many times", LARGEST + LARGEST.splitlines(True)[-1] * (bytes_of_it // 95), 5),
     ]
