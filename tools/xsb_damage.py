@@ -77,12 +77,11 @@ def a_literal(chance, text):
 
 
 def more_tables(chance, text):
-    """Table lines behind those that are there, for one goal more or up to the 66th."""
+    """Table lines behind those that are there, for one goal more or up to the 66th, or far past it."""
     count = text.count(b":- table")
-    at = text.find(b"g", text.rfind(b":- table") + 10) if count else 0
-    rules = text.find(b"\ng") + 1 or len(text)
     more = range(count, chance.choice((count + 1, 64, 65, 66, 300)))
-    return text[:rules] + b"".join(b":- table g%d/0.\n" % goal for goal in more) + text[rules:] if at else text
+    rules = text.find(b"\ng") + 1 or len(text)
+    return text[:rules] + b"".join(b":- table g%d/0.\n" % goal for goal in more) + text[rules:] if count else text
 
 
 def more_rules(chance, text):

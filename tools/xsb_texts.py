@@ -47,7 +47,7 @@ def in_notation(rules):
 
 
 def largest():
-    """The longest text that is accepted: 64 goals, 256 rules of 8 "not"s, heads and literals of two digits, no two rules of a head alike."""
+    """The longest text that is accepted: 64 goals, 256 rules of 8 "not"s, all of two digits, no two rules of a head alike."""
     rules, clauses = [], []
     for n in range(256):
         head, named = 10 + n * 54 // 256, [10 + (5 * n + at) % 54 for at in range(8)]
