@@ -4,7 +4,7 @@ import levels_books
 from papers import tabled
 
 # What is written below a number.
-SENTENCES = {**levels_books.SENTENCES, 39: "text of another form than an export has"}
+SENTENCES = {**levels_books.SENTENCES, 39: "not text of the form that a book is written in"}
 # The text of p1 without its variants.
 P1 = tabled(3) + "g0 :- g1, tnot(g2).\ng1.\ng2 :- g2.\n"
 # A number for each size of a machine's: the last one of it, and the first beyond.

@@ -130,7 +130,7 @@ pub fn sentence(number: u8) -> &'static str {
         36 => "a goal has the same clause twice",
         37 => "not plain: a variant, a want or a flag that is not 0, or a range",
         38 => "not levelled: no numbering of the goals satisfies the rule",
-        39 => "text of another form than an export has",
+        39 => "not text of the form that a book is written in",
         _ => "",
     }
 }
