@@ -1,0 +1,83 @@
+// A plain book as XSB text: a line `:- table g0/0.` for each goal, and then a line for each clause.
+use crate::rules::rule_lines;
+use book::Book;
+use book::access::clause_count;
+use book::access::first_clause;
+use profile::paper::plain;
+ghost use mathlib.Core.Path.{_≡_};
+ghost use Rattle.definitions.specs.Xsb.{table-line as tableLine, table-lines as tableLines, rule-lines, rules-from};
+ghost use Rattle.definitions.specs.Xsb.{export as exportOf, check-export};
+ghost use Rattle.pen.specs.Pen.{pen, put-all};
+ghost use Rattle.book.specs.View.{view, Sound};
+ghost use Rattle.xsb_export.specs.Exporting.{exported};
+
+// What an export comes to: number 0, and how much of the buffer is in use; or the number of a refusal, and none is.
+pub struct Exported {
+    pub number: u8,
+    pub used: usize,
+}
+
+fn table_line(out: &mut [u8], at: usize, goal: usize) -> usize
+    ensures { λ r. ⌜ pen (now (out .exit)) r ≡ put-all (tableLine goal) (pen (now (out .entry)) at) ⌝ }
+{
+    let named = pen::counted(out, at, b":- table g", goal as u64);
+    pen::text(out, named, b"/0.\n")
+}
+
+fn table_lines(out: &mut [u8], at: usize, goals: usize) -> usize
+    ensures { λ r. ⌜ pen (now (out .exit)) r ≡ put-all (tableLines goals) (pen (now (out .entry)) at) ⌝ }
+{
+    let mut used = at;
+    let mut g: usize = 0;
+    while g < goals {
+        used = table_line(out, used, g);
+        g += 1;
+    }
+    used
+}
+
+fn rules(out: &mut [u8], at: usize, b: Book) -> usize
+    requires { ⌜ Sound b ⌝ }
+    ensures { λ r. ⌜ pen (now (out .exit)) r ≡ put-all (rule-lines (rules-from 0 (view b))) (pen (now (out .entry)) at) ⌝ }
+{
+    let goal_first = b.goal_first;
+    let goal_len = b.goal_len;
+    let len = b.clause_len;
+    let kind = b.literal_kind;
+    let goal = b.literal_goal;
+    let want = b.literal_want;
+    let mut used = at;
+    let mut g: usize = 0;
+    while g < b.goals {
+        let first = first_clause(&goal_first, g);
+        let count = clause_count(&goal_len, g);
+        used = rule_lines(out, used, &len, &kind, &goal, &want, g, first, count);
+        g += 1;
+    }
+    used
+}
+
+fn book_text(out: &mut [u8], at: usize, b: Book) -> usize
+    requires { ⌜ Sound b ⌝ }
+    ensures { λ r. ⌜ pen (now (out .exit)) r ≡ put-all (exportOf (view b)) (pen (now (out .entry)) at) ⌝ }
+{
+    let tabled = table_lines(out, at, b.goals);
+    rules(out, tabled, b)
+}
+
+// The text is put down from the start of the buffer on. Where the paper is refused, nothing is.
+pub fn export(out: &mut [u8], bytes: &[u8]) -> Exported
+    ensures { λ r. ⌜ (r .number, pen (now (out .exit)) (r .used))
+        ≡ exported (check-export (now (bytes .entry))) (pen (now (out .entry)) 0) ⌝ }
+{
+    let paper = plain(bytes);
+    if paper.number != 0 {
+        return Exported {
+            number: paper.number,
+            used: 0,
+        };
+    }
+    let b = paper.book;
+    let used = book_text(out, 0, b);
+    Exported { number: 0, used }
+}

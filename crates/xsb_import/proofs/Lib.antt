@@ -1,0 +1,12 @@
+pub mod Begun
+pub mod Placing
+pub mod Numbering
+pub mod Ending
+pub mod Filling
+pub mod Holding
+pub mod Growing
+pub mod Writing
+pub mod Capping
+pub mod Feeding
+pub mod Finishing
+pub mod Taking

@@ -1,0 +1,4 @@
+pub mod Places
+pub mod Keeping
+pub mod Reading
+pub mod Importing
