@@ -8,7 +8,7 @@ refused-requires : tie.Need-refused-requires
 refused-requires c κs = search needs
 
 returns : tie.Need-returns
-returns c = search (needs, desks-never, desks-refused, desks-taken, refused-sized, taken-sized)
+returns c = search (needs, desks-never, refused-sized)
 
 array-share-prefix-bytes : tie.Need-array-share-prefix-bytes
 array-share-prefix-bytes c = search needs
@@ -23,7 +23,7 @@ refused-requires-2 : tie.Need-refused-requires-2
 refused-requires-2 c κs = search needs
 
 returns-2 : tie.Need-returns-2
-returns-2 c = search (needs, desks-never, desks-refused, desks-taken, refused-sized, taken-sized)
+returns-2 c = search (needs, desks-never, desks-refused, refused-sized)
 
 returns-3 : tie.Need-returns-3
 returns-3 c = search (needs, desks-never, desks-refused, desks-taken, refused-sized, taken-sized)

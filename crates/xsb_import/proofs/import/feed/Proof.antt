@@ -18,22 +18,22 @@ abbrev μ-loop : tie.MeasureT-loop
 μ-loop piece spot₀ kept₀ bytes₀ i₀ spot kept bytes i = length piece - i
 
 own-requires : tie.Need-own-requires Inv-loop μ-loop
-own-requires c κs = search (needs, fed-next, fed, holds-first)
+own-requires c κs = search needs
 
 loop-holds : tie.Need-loop-holds Inv-loop μ-loop
-loop-holds c = search (needs, fed-next, fed, holds-first)
+loop-holds c = search (needs, holds-first)
 
 shared-slice-read-step : tie.Need-shared-slice-read-step Inv-loop μ-loop
 shared-slice-read-step c = search (needs, fed-next, fed, holds-first)
 
 step-requires : tie.Need-step-requires Inv-loop μ-loop
-step-requires c κs = search (needs, fed-next, fed, holds-first)
+step-requires c κs = search needs
 
 slice-aggregate-keep : tie.Need-slice-aggregate-keep Inv-loop μ-loop
 slice-aggregate-keep c = search (needs, fed-next, fed, holds-first)
 
 keep-requires : tie.Need-keep-requires Inv-loop μ-loop
-keep-requires c κs = search (needs, fed-next, fed, holds-first)
+keep-requires c κs = search needs
 
 add-i : tie.Need-add-i Inv-loop μ-loop
 add-i c = search (needs, fed-next, fed, holds-first)

@@ -8,25 +8,25 @@ refused-requires : tie.Need-refused-requires
 refused-requires c κs = search needs
 
 returns : tie.Need-returns
-returns c = search (needs, refused-sized, finish-broken, finish-inside, finish-over, finish-tables, finish-book)
+returns c = search (needs, refused-sized, finish-broken, finish-inside)
 
 refused-requires-2 : tie.Need-refused-requires-2
 refused-requires-2 c κs = search needs
 
 returns-2 : tie.Need-returns-2
-returns-2 c = search (needs, refused-sized, finish-broken, finish-inside, finish-over, finish-tables, finish-book)
+returns-2 c = search (needs, refused-sized, finish-inside)
 
 refused-requires-3 : tie.Need-refused-requires-3
 refused-requires-3 c κs = search needs
 
 returns-3 : tie.Need-returns-3
-returns-3 c = search (needs, refused-sized, finish-broken, finish-inside, finish-over, finish-tables, finish-book)
+returns-3 c = search (needs, refused-sized, finish-broken, finish-inside, finish-over, finish-tables)
 
 refused-requires-4 : tie.Need-refused-requires-4
 refused-requires-4 c κs = search needs
 
 returns-4 : tie.Need-returns-4
-returns-4 c = search (needs, refused-sized, finish-broken, finish-inside, finish-over, finish-tables, finish-book)
+returns-4 c = search (needs, refused-sized, finish-broken, finish-inside, finish-tables)
 
 own-requires : tie.Need-own-requires
 own-requires c κs = search needs
@@ -47,7 +47,7 @@ at-desk-requires : tie.Need-at-desk-requires
 at-desk-requires c κs = search needs
 
 returns-5 : tie.Need-returns-5
-returns-5 c = search (needs, refused-sized, finish-broken, finish-inside, finish-over, finish-tables, finish-book)
+returns-5 c = search (needs, finish-broken, finish-inside, finish-over, finish-tables, finish-book)
 
 pub finish-spec : {M : Type 1} → statement M
 finish-spec =

@@ -13,7 +13,7 @@ abbrev μ-loop : tie.MeasureT-loop
 μ-loop bytes r₀ i₀ r i = 13441 - i
 
 loop-holds : tie.Need-loop-holds Inv-loop μ-loop
-loop-holds c = search (needs, copy-next, copied)
+loop-holds c = search needs
 
 array-read-r : tie.Need-array-read-r Inv-loop μ-loop
 array-read-r c = search (needs, copy-next, copied)
@@ -31,7 +31,7 @@ loop-again : tie.Need-loop-again Inv-loop μ-loop
 loop-again c = search (needs, copy-next, copied)
 
 returns : tie.Need-returns Inv-loop μ-loop
-returns c = search (needs, copy-next, copied)
+returns c = search (needs, copied)
 
 pub own-spec : {M : Type 1} → statement M
 own-spec =

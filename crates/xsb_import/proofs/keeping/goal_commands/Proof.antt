@@ -18,10 +18,10 @@ loop-holds : tie.Need-loop-holds Inv-loop μ-loop
 loop-holds c = search (needs, goals-none, goals-next, goals-all)
 
 slice-aggregate-write : tie.Need-slice-aggregate-write Inv-loop μ-loop
-slice-aggregate-write c = search (needs, goals-none, goals-next, goals-all)
+slice-aggregate-write c = search needs
 
 write-requires : tie.Need-write-requires Inv-loop μ-loop
-write-requires c κs = search (needs, goals-none, goals-next, goals-all)
+write-requires c κs = search needs
 
 add-g : tie.Need-add-g Inv-loop μ-loop
 add-g c = search (needs, goals-none, goals-next, goals-all)
@@ -36,7 +36,7 @@ same-length : tie.Need-same-length Inv-loop μ-loop
 same-length c = search (needs, goals-none, goals-next, goals-all)
 
 returns : tie.Need-returns Inv-loop μ-loop
-returns c = search (needs, goals-none, goals-next, goals-all)
+returns c = search (needs, goals-all)
 
 pub goal-commands-spec : {M : Type 1} → statement M
 goal-commands-spec =

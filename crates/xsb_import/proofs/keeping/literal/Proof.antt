@@ -19,7 +19,7 @@ same-length : tie.Need-same-length
 same-length c = search needs
 
 returns : tie.Need-returns
-returns c = search (needs, writes-as, positive-bytes, negative-bytes)
+returns c = search (needs, writes-as, positive-bytes)
 
 slice-aggregate-write-2 : tie.Need-slice-aggregate-write-2
 slice-aggregate-write-2 c = search needs
@@ -31,7 +31,7 @@ same-length-2 : tie.Need-same-length-2
 same-length-2 c = search needs
 
 returns-2 : tie.Need-returns-2
-returns-2 c = search (needs, writes-as, positive-bytes, negative-bytes)
+returns-2 c = search (needs, writes-as, negative-bytes)
 
 pub literal-spec : {M : Type 1} → statement M
 literal-spec =

@@ -13,7 +13,7 @@ same-length : tie.Need-same-length
 same-length c = search needs
 
 returns : tie.Need-returns
-returns c = search (put-room, put-full)
+returns c = search put-room
 
 returns-2 : tie.Need-returns-2
 returns-2 c = search (put-room, put-full)

@@ -6,7 +6,7 @@ returns : tie.Need-returns
 returns c = search (below-digits, from-digits)
 
 returns-2 : tie.Need-returns-2
-returns-2 c = search (below-digits, from-digits)
+returns-2 c = search from-digits
 
 pub is-digit-spec : {M : Type 1} → statement M
 is-digit-spec = tie.close (tie.spec returns returns-2)

@@ -7,13 +7,13 @@ is-digit-requires : tie.Need-is-digit-requires
 is-digit-requires c κs = search needs
 
 digit-requires : tie.Need-digit-requires
-digit-requires c κs = search (needs, no-number, digit-low, digit-high, other-byte)
+digit-requires c κs = search (needs, digit-low, digit-high)
 
 returns : tie.Need-returns
 returns c = search needs
 
 ends-requires : tie.Need-ends-requires
-ends-requires c κs = search (needs, no-number, digit-low, digit-high, other-byte)
+ends-requires c κs = search (needs, other-byte)
 
 returns-2 : tie.Need-returns-2
 returns-2 c = search needs
@@ -22,7 +22,7 @@ broken-requires : tie.Need-broken-requires
 broken-requires c κs = search needs
 
 returns-3 : tie.Need-returns-3
-returns-3 c = search (needs, no-number, digit-low, digit-high, other-byte)
+returns-3 c = search (needs, no-number)
 
 pub number-spec : {M : Type 1} → statement M
 number-spec =
