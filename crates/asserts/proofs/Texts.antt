@@ -115,7 +115,13 @@ plain-within bytes book e p =
 
 -- A paper's text.
 
--- what has a text is plain
+-- every plain paper that the desk takes has a text
+pub plain-has-text : (bytes : List ℕ) (book : Book) → desk bytes ≡ accepted book → Plain book → check-export bytes ≡ accepted (export book)
+plain-has-text bytes book k p =
+    ap export-at-desk k
+    ∙ ap (λ (b : Bool). elim b as (λ c. Refusable (List ℕ)) [ false ↦ refused 37 | true ↦ accepted (export book) ]) (is-plain-of book p)
+
+-- and no other has
 plain-exported : (book : Book) (text : List ℕ) → plain-export book ≡ accepted text → Plain book × (export book ≡ text)
 plain-exported book text e = on (is-plain book) refl e
   where
@@ -203,7 +209,5 @@ bytes-back text bytes e = on (import text) refl e
     on (refused n) k x = absurd (not-accepted x)
     on (accepted book) k x =
         let d = imported-at-desk text book k in
-        let plain : plain-export book ≡ accepted (export book) =
-        ap (λ (b : Bool). elim b as (λ c. Refusable (List ℕ)) [ false ↦ refused 37 | true ↦ accepted (export book) ])
-        (is-plain-of book (d .0)) in
-        ap check-export (sym (same-accepted x)) ∙ ap export-at-desk (d .1) ∙ plain ∙ ap accepted (export-import text book k)
+        ap check-export (sym (same-accepted x)) ∙ plain-has-text (write book) book (d .1) (d .0)
+        ∙ ap accepted (export-import text book k)
