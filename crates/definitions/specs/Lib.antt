@@ -30,6 +30,7 @@ pub mod Model
 pub mod Levels
 pub mod LevelCases
 pub mod Xsb
+pub mod XsbCases
 pub mod Claim
 pub mod Instances
 
