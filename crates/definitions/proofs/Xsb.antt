@@ -1,34 +1,33 @@
 -- Export and import: a plain book of the desk comes back from its text (`import-export`), and a text that is accepted is the text of its
 -- book (`export-import`). So the texts that are accepted are just those of plain books of the desk (`imported-is`).
-use Prim.Native.Nat.{ℕ, zero, suc, _+_, _<_, _≤_}
+use Prim.Native.Nat.{ℕ, suc, _+_, _<_, _≤_}
 use native.Mathlib.Omega.{arith}
-use mathlib.Core.Path.{_≡_, refl, sym, ap, ap₂, subst, _∙_}
-use mathlib.Core.Bool.{Bool, true, false, not, _||_, false≢true}
+use mathlib.Core.Path.{_≡_, refl, ap, ap₂, subst, _∙_}
+use mathlib.Core.Bool.{Bool, true, false, not, _||_}
 use mathlib.Core.Option.{Option, none, some}
-use mathlib.Core.List.{List, [], _∷_, _++_}
+use mathlib.Core.List.{List, [], _∷_}
 use lib.ListN.{length, length-append}
 use lib.Dec.{eqb, ltb}
 use borrow.Author.Tests.{le-ltb, ltb-true, ltb-false, ne-eqb}
-use Rattle.laws.proofs.Bools.{both-true, both-false, was-true, not-zero}
-use Rattle.laws.proofs.Options.{no-such, same-some}
+use Rattle.laws.proofs.Bools.{both-true, was-true, not-zero}
 use Rattle.laws.proofs.All.{All, end, more, all-append, all-map}
-use Rattle.definitions.specs.Refusal.{Refusable, refused, accepted, _refuses_, unless}
+use Rattle.definitions.specs.Refusal.{accepted, _refuses_, unless}
 use Rattle.definitions.specs.Lists.{any-passes}
 use Rattle.definitions.specs.Book.{Literal, Positive, Negative, Clause, Goal, Book}
-use Rattle.definitions.specs.Book.{most-goals, most-clauses, most-literals, clause-count}
+use Rattle.definitions.specs.Book.{most-goals, most-clauses, clause-count}
 use Rattle.definitions.specs.Book.{goal-of, literals-name, clauses-name, goals-name}
 use Rattle.definitions.specs.Book.{LiteralsWithin, ClausesWithin, GoalsWithin, Within}
 use Rattle.definitions.specs.Desk.{at-desk, NoRepeats}
-use Rattle.definitions.specs.Model.{Each, PlainLiteral, PlainClause, PlainGoal, Plain}
-use Rattle.definitions.specs.Xsb.{Rule, rules-of-goal, rules-from, text-of, export, most-number, State, parse, goals-for, is-long}
+use Rattle.definitions.specs.Model.{Each, PlainClause, Plain}
+use Rattle.definitions.specs.Xsb.{Rule, rules-of-goal, rules-from, text-of, export, State, parse, goals-for, is-long}
 use Rattle.definitions.specs.Xsb.{book-of, parsed-book, import}
 use Rattle.definitions.proofs.Refusal.{not-accepted, all-pass}
 use Rattle.definitions.proofs.Desk.{desk-took, desk-passes, none-found}
 use Rattle.definitions.proofs.RoundTrip.{goals-named}
 use Rattle.definitions.proofs.XsbShows.{Small, SmallRule, parse-text}
-use Rattle.definitions.proofs.XsbReads.{lines, BareRule, text-parsed}
+use Rattle.definitions.proofs.XsbReads.{BareRule, text-parsed}
 use Rattle.definitions.proofs.XsbBooks.{goals-for-length, book-back, book-ordered, rules-back}
-use Rattle.definitions.proofs.XsbOrder.{RulesFit, parse-fits}
+use Rattle.definitions.proofs.XsbOrder.{parse-fits}
 
 -- The rules of a book.
 

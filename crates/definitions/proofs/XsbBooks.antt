@@ -8,11 +8,10 @@ use lib.ListN.{length}
 use lib.Dec.{eqb}
 use borrow.Author.Tests.{eq-eqb, ne-eqb, eqb-true, eqb-false}
 use Rattle.laws.proofs.All.{All, end, more, all-append, all-map}
-use Rattle.definitions.specs.Book.{Literal, Positive, Negative, Clause, Goal, Book, LiteralsWithin, ClausesWithin, GoalsWithin}
-use Rattle.definitions.specs.Book.{literals-name, clauses-name, goals-name}
+use Rattle.definitions.specs.Book.{Clause, Goal, Book}
 use Rattle.definitions.specs.Model.{Each, PlainClause, PlainGoal, Plain}
 use Rattle.definitions.specs.Xsb.{Rule, rules-of-goal, rules-from, clause-of, clauses-for, goals-for}
-use Rattle.definitions.proofs.XsbReads.{Ordered, no-rule, and-rule, BareRule}
+use Rattle.definitions.proofs.XsbReads.{Ordered, no-rule, and-rule}
 
 -- Heads.
 

@@ -1,10 +1,10 @@
 -- What is read from a text is in order: each head has a table line, none comes behind a larger one, and no literal has a flag or a want.
-use Prim.Native.Nat.{ℕ, zero, suc, _-_, _<_, _≤_}
+use Prim.Native.Nat.{ℕ, _-_, _<_, _≤_}
 use native.Mathlib.Omega.{arith}
-use mathlib.Core.Path.{_≡_, refl, sym, ap, subst}
+use mathlib.Core.Path.{_≡_, refl, subst}
 use mathlib.Core.Bool.{Bool, true, false, _&&_, false≢true}
 use mathlib.Core.Option.{Option, none, some}
-use mathlib.Core.List.{List, [], _∷_, _++_}
+use mathlib.Core.List.{List, [], _∷_}
 use lib.Dec.{eqb, ltb, leb}
 use borrow.Author.Tests.{ltb-true, leb-true}
 use Rattle.laws.proofs.Bools.{case-bool}
@@ -17,7 +17,7 @@ use Rattle.definitions.specs.Ascii.{ascii}
 use Rattle.definitions.specs.Xsb.{Rule, What, table, head, positive, negative, Place, line}
 use Rattle.definitions.specs.Xsb.{fixed, number, literal, behind, State, start}
 use Rattle.definitions.specs.Xsb.{comes, at, with-head, with-literal, rule-read, table-read, if-so, head-fits, is-digit, more-digits}
-use Rattle.definitions.specs.Xsb.{behind-literal, behind-head, begins-line, begins-literal, ends, with-digit, ends-if, step-at, step}
+use Rattle.definitions.specs.Xsb.{behind-literal, behind-head, ends, with-digit, ends-if, step-at, step}
 use Rattle.definitions.specs.Xsb.{run, ended, at-line, parse}
 use Rattle.definitions.proofs.Lists.{all-push}
 use Rattle.definitions.proofs.Desk.{and-both}

@@ -1,19 +1,18 @@
 -- The text of rules is read as these rules, where each head has a table line and none comes behind a larger one.
 use Prim.Native.Nat.{ℕ, zero, suc, _+_, _*_, _-_, _/_, _%_, _<_, _≤_}
 use native.Mathlib.Omega.{arith}
-use mathlib.Core.Path.{_≡_, refl, sym, ap, subst, _∙_}
+use mathlib.Core.Path.{_≡_, refl, sym, ap, _∙_}
 use mathlib.Core.Bool.{Bool, true, false}
 use mathlib.Core.Option.{Option, none, some}
 use mathlib.Core.List.{List, [], _∷_, _++_, append-nil, append-assoc}
-use lib.Dec.{eqb, ltb, leb}
 use borrow.Author.Tests.{eq-eqb, lt-ltb, le-leb}
-use Rattle.laws.proofs.All.{All, end, more, all-first, all-rest}
+use Rattle.laws.proofs.All.{All, all-first, all-rest}
 use Rattle.definitions.specs.Lists.{push}
-use Rattle.definitions.specs.Book.{any, Literal, Positive, Negative}
+use Rattle.definitions.specs.Book.{Literal, Positive, Negative}
 use Rattle.definitions.specs.Ascii.{ascii}
 use Rattle.definitions.specs.Listing.{decimal}
 use Rattle.definitions.specs.Model.{Each, PlainLiteral}
-use Rattle.definitions.specs.Xsb.{Rule, name, literal-text, more-text, body-text, rule-line, rule-lines, table-line, table-lines}
+use Rattle.definitions.specs.Xsb.{Rule, literal-text, more-text, body-text, rule-line, rule-lines, table-line, table-lines}
 use Rattle.definitions.specs.Xsb.{text-of, most-number, counted, What, table, head, positive, negative}
 use Rattle.definitions.specs.Xsb.{Place, line, number, literal, behind, State, start, comes}
 use Rattle.definitions.specs.Xsb.{at, with-literal, is-digit, step, run, parse}

@@ -1,5 +1,5 @@
 -- A text of the form is the text of what is read from it: at each place what was read so far shows which bytes came.
-use Prim.Native.Nat.{ℕ, zero, suc, _+_, _*_, _-_, _<_, _≤_}
+use Prim.Native.Nat.{ℕ, zero, suc, _+_, _*_, _-_, _<_}
 use native.Mathlib.Omega.{arith}
 use mathlib.Core.Path.{_≡_, refl, sym, ap, subst, _∙_}
 use mathlib.Core.Bool.{Bool, true, false, _&&_, true≢false, false≢true}
@@ -8,14 +8,14 @@ use mathlib.Core.List.{List, [], _∷_, _++_, append-nil, append-assoc}
 use lib.Dec.{eqb, ltb, leb}
 use borrow.Author.Tests.{eqb-true, ltb-true, leb-true}
 use Rattle.laws.proofs.Bools.{case-bool}
-use Rattle.laws.proofs.Options.{no-such, same-some, case-option}
+use Rattle.laws.proofs.Options.{no-such, same-some}
 use Rattle.laws.proofs.All.{All, end, more}
 use Rattle.definitions.specs.Lists.{push, is-empty}
 use Rattle.definitions.specs.Book.{any, Literal, Positive, Negative, goal-of}
 use Rattle.definitions.specs.Ascii.{ascii}
 use Rattle.definitions.specs.Listing.{decimal}
 use Rattle.definitions.specs.Xsb.{Rule, name, literal-text, more-text, body-text, rule-line}
-use Rattle.definitions.specs.Xsb.{rule-lines, table-line, table-lines, text-of}
+use Rattle.definitions.specs.Xsb.{rule-lines, table-lines, text-of}
 use Rattle.definitions.specs.Xsb.{most-number, counted, What, table, head, positive, negative}
 use Rattle.definitions.specs.Xsb.{Place, line, fixed, number, literal, behind, State, start, comes, at, with-head, with-literal}
 use Rattle.definitions.specs.Xsb.{rule-read, table-read, if-so, head-fits, is-digit, more-digits}

@@ -1,10 +1,9 @@
 -- The rules that were begun, and what a byte that ends nothing does to a spot.
-use Prim.Native.Nat.{ℕ, zero, suc, _≤_, _<_}
-use native.Mathlib.Omega.{arith}
+use Prim.Native.Nat.{ℕ, suc, _≤_, _<_}
 use mathlib.Core.Path.{_≡_, refl, sym, ap, subst, _∙_}
-use mathlib.Core.Bool.{Bool, true, false, not}
+use mathlib.Core.Bool.{Bool, true, false}
 use mathlib.Core.Option.{Option, none, some}
-use mathlib.Core.List.{List, [], _∷_, _++_}
+use mathlib.Core.List.{List, [], _∷_}
 use Rattle.definitions.specs.Lists.{push, is-empty}
 use Rattle.definitions.specs.Xsb.{Rule, Place, State, at, if-so, step-at, step}
 use Rattle.xsb_import.specs.declared.Spot.{Spot}
@@ -24,7 +23,8 @@ pub begun-here : (st : State) (p : Place) → st .place ≡ p → begun-rules st
 begun-here st p e = ap (λ (q : Place). begun-by (in-rule q) (st .rules) (st .rule)) e
 
 -- two tests, neither of which a byte passes
-pub neither : (a b : Bool) (x y : State) → a ≡ false → b ≡ false → _≡_ {A = Option State} (elim a [ true ↦ some x | false ↦ if-so b y ]) none
+pub neither : (a b : Bool) (x y : State) → a ≡ false → b ≡ false
+    → _≡_ {A = Option State} (elim a [ true ↦ some x | false ↦ if-so b y ]) none
 neither a b x y e f = ap (λ (c : Bool). elim c [ true ↦ some x | false ↦ if-so b y ]) e ∙ ap (λ (c : Bool). if-so c y) f
 
 -- the place of a spot

@@ -1,15 +1,15 @@
 -- A number above all that a literal can name may stand for every larger one: it names no goal either.
-use Prim.Native.Nat.{ℕ, zero, suc, _+_, _≤_, _<_, min}
+use Prim.Native.Nat.{ℕ, zero, suc, _≤_, _<_, min}
 use native.Mathlib.Omega.{arith}
-use mathlib.Core.Path.{_≡_, refl, sym, ap, ap₂, subst, _∙_}
-use mathlib.Core.Bool.{Bool, true, false, not, _||_}
-use mathlib.Core.List.{List, [], _∷_, _++_, map}
+use mathlib.Core.Path.{_≡_, refl, sym, ap, ap₂, subst}
+use mathlib.Core.Bool.{Bool, true, false}
+use mathlib.Core.List.{List, [], _∷_, map}
 use lib.Dec.{ltb, eqb}
 use lib.ListN.{length, length-map}
 use borrow.Author.Tests.{ltb-true, ltb-false, lt-ltb, le-ltb}
 use Rattle.laws.proofs.Bools.{both-true, both-false, and-then}
-use Rattle.laws.proofs.All.{All, end, more, all-first, all-rest}
-use Rattle.definitions.specs.Lists.{push, any-passes}
+use Rattle.laws.proofs.All.{All, more}
+use Rattle.definitions.specs.Lists.{any-passes}
 use Rattle.definitions.specs.Book.{Literal, Positive, Negative, Clause, Goal, goal-of, literals-name, clauses-name}
 use Rattle.definitions.specs.Book.{goals-name, WantWithin, LiteralsWithin, ClauseWithin, ClausesWithin, GoalsWithin}
 use Rattle.definitions.specs.Model.{Each, PlainLiteral}

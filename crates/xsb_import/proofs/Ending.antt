@@ -1,10 +1,10 @@
 -- What the byte behind a head or a literal does.
-use Prim.Native.Nat.{ℕ, zero, suc, _-_, _≤_, _<_}
+use Prim.Native.Nat.{ℕ, _-_, _≤_, _<_}
 use native.Mathlib.Omega.{arith}
 use mathlib.Core.Path.{_≡_, refl, sym, ap, subst, _∙_}
-use mathlib.Core.Bool.{Bool, true, false, not, _&&_, false≢true}
-use mathlib.Core.Option.{Option, none, some}
-use mathlib.Core.List.{List, [], _∷_}
+use mathlib.Core.Bool.{Bool, true, false, _&&_, false≢true}
+use mathlib.Core.Option.{none, some}
+use mathlib.Core.List.{List, []}
 use lib.Dec.{eqb, ltb, leb}
 use borrow.Author.Tests.{eq-eqb, ne-eqb, lt-ltb, le-ltb, le-leb, lt-leb}
 use Rattle.definitions.specs.Ascii.{ascii}
@@ -15,8 +15,9 @@ use Rattle.definitions.specs.Xsb.{with-head, with-literal, rule-read, head-fits
 use Rattle.definitions.proofs.Lists.{is-empty-push}
 use Rattle.xsb_import.specs.declared.Spot.{Spot}
 use Rattle.xsb_import.specs.Places.{value-of, place-of}
-use Rattle.xsb_import.specs.Keeping.{goals-after, Begins, Adds, Happens}
-use Rattle.xsb_import.specs.Reading.{in-rule, begun-by, begun-rules, Follows, Goes, After, Steps, moved, lost, headed, behind-spot, NoDigit}
+use Rattle.xsb_import.specs.Keeping.{goals-after, Adds}
+use Rattle.xsb_import.specs.Reading.{in-rule, begun-by, begun-rules, Follows, Goes, After, Steps}
+use Rattle.xsb_import.specs.Reading.{moved, lost, headed, behind-spot, NoDigit}
 use Rattle.xsb_import.proofs.Begun.{goals-after-push, begun-here, here, neither, by-place, breaks}
 use Rattle.xsb_import.proofs.Numbering.{behind-as, read-at}
 

@@ -1,19 +1,18 @@
 -- A reader of a text, fed with more of it.
-use Prim.Native.Nat.{ℕ, zero, suc, _+_, _-_, _*_, _≤_, _<_}
+use Prim.Native.Nat.{ℕ, _+_, _-_, _≤_, _<_}
 use native.Mathlib.Omega.{arith}
 use mathlib.Core.Path.{_≡_, refl, sym, ap, subst, _∙_}
-use mathlib.Core.Bool.{Bool, true, false, false≢true}
+use mathlib.Core.Bool.{true, false, false≢true}
 use mathlib.Core.Option.{Option, none, some}
 use mathlib.Core.List.{List, [], _∷_, _++_, append-nil, append-assoc}
-use lib.ListN.{length, take, set, getD, replicate, length-replicate, length-set}
+use lib.ListN.{length, take, set, getD, replicate, length-replicate}
 use lib.Seq.{take-all}
 use Rattle.laws.proofs.Takes.{take-next, take-set-next}
 use Rattle.definitions.specs.Xsb.{State, start, step, run}
 use Rattle.xsb_import.specs.declared.Spot.{Spot}
 use Rattle.xsb_import.specs.declared.Kept.{Kept}
-use Rattle.xsb_import.specs.declared.Reader.{Reader}
 use Rattle.xsb_import.specs.Keeping.{KeepsOn}
-use Rattle.xsb_import.specs.Reading.{begun-rules, Goes, After, Steps}
+use Rattle.xsb_import.specs.Reading.{begun-rules, After, Steps}
 use Rattle.xsb_import.specs.Importing.{Held, HoldsState, Holds, Reads}
 
 -- One byte more.
@@ -31,7 +30,8 @@ run-push [] b s = as-it-is (step s b)
 run-push (a ∷ l) b s = on (step s a) (run-push l b)
   where
     on : (o : Option State) → ((t : State) → run (l ++ (b ∷ [])) t ≡ stepped (run l t) b)
-        → _≡_ {A = Option State} (elim o [ none ↦ none | some t ↦ run (l ++ (b ∷ [])) t ]) (stepped (elim o [ none ↦ none | some t ↦ run l t ]) b)
+        → _≡_ {A = Option State} (elim o [ none ↦ none | some t ↦ run (l ++ (b ∷ [])) t ])
+        (stepped (elim o [ none ↦ none | some t ↦ run l t ]) b)
     on none f = refl
     on (some t) f = f t
 
@@ -59,7 +59,8 @@ holds-next text piece i s n k j bytes out lt f g h =
     (sym (ap (λ (t : List ℕ). run t start) more ∙ run-push (text ++ take i piece) b start))
     (holds-step (run (text ++ take i piece) start) b s n k j bytes out f g h)
 
-pub holds-first : (text piece : List ℕ) (s : Spot) (k : Kept) (bytes : List ℕ) → Holds text s k bytes → Holds (text ++ take 0 piece) s k bytes
+pub holds-first : (text piece : List ℕ) (s : Spot) (k : Kept) (bytes : List ℕ) → Holds text s k bytes
+    → Holds (text ++ take 0 piece) s k bytes
 holds-first text piece s k bytes h = subst (λ (t : List ℕ). Holds t s k bytes) (sym (append-nil text)) h
 
 pub holds-all : (text piece : List ℕ) (i : ℕ) (s : Spot) (k : Kept) (bytes : List ℕ) → length piece ≤ i

@@ -4,12 +4,11 @@ use native.Mathlib.Omega.{arith}
 use mathlib.Core.Path.{_≡_, refl, sym, ap, subst, _∙_}
 use mathlib.Core.Bool.{Bool, true, false}
 use mathlib.Core.List.{List, [], _∷_, _++_, append-nil, append-assoc}
-use lib.Dec.{eqb}
 use lib.Seq.{take-all}
 use lib.ListN.{length, take, set, getD, length-append, length-set}
 use borrow.Author.Tests.{eq-eqb, ne-eqb}
 use Rattle.laws.proofs.Takes.{take-next, take-set-next}
-use Rattle.definitions.specs.Book.{any, Literal, Positive, Negative, write-literal}
+use Rattle.definitions.specs.Book.{any, Positive, Negative, write-literal}
 use Rattle.xsb_import.specs.Keeping.{goal-bytes, Writes, literal-told}
 
 pub writes-none : (l : List ℕ) (u : ℕ) → Writes l u [] l u

@@ -1,39 +1,30 @@
 -- What a reader's text comes to at its end.
-use Prim.Native.Nat.{ℕ, zero, suc, _+_, _-_, _*_, _≤_, _<_}
+use Prim.Native.Nat.{ℕ, zero, suc, _-_, _<_}
 use native.Mathlib.Omega.{arith}
-use mathlib.Core.Path.{_≡_, refl, sym, ap, ap₂, subst, _∙_}
-use mathlib.Core.Bool.{Bool, true, false, not, _||_, false≢true}
+use mathlib.Core.Path.{_≡_, refl, sym, ap, subst, _∙_}
+use mathlib.Core.Bool.{Bool, true, false, not, false≢true}
 use mathlib.Core.Option.{Option, none, some}
-use mathlib.Core.List.{List, [], _∷_, _++_, map, append-assoc}
+use mathlib.Core.List.{List, [], _∷_, map}
 use lib.Dec.{ltb, eqb}
-use lib.ListN.{length, take, getD, replicate, length-replicate, getD-replicate, List·getD-map, length-map}
-use borrow.Author.Tests.{eq-eqb, ne-eqb, lt-ltb, le-ltb}
-use Rattle.definitions.specs.Refusal.{Refusable, refused, accepted, _refuses_, unless}
+use lib.ListN.{length, getD, replicate, length-replicate, getD-replicate, List·getD-map}
+use borrow.Author.Tests.{ne-eqb, lt-ltb}
+use Rattle.definitions.specs.Refusal.{Refusable, refused, _refuses_, unless}
 use Rattle.definitions.specs.Lists.{any-passes}
 use Rattle.definitions.specs.Book as said
-use Rattle.definitions.specs.Book.{write, write-goals, end-command, goals-name, clause-count}
-use Rattle.definitions.specs.Desk.{at-desk, desk}
-use Rattle.definitions.specs.Xsb.{Rule, Place, line, State, start, if-so, run, at-line, ended, parse, is-long, goals-for, book-of, parsed-book}
+use Rattle.definitions.specs.Book.{goals-name}
+use Rattle.definitions.specs.Desk.{at-desk}
+use Rattle.definitions.specs.Xsb.{Rule, Place, line, State, start, if-so, run, at-line}
+use Rattle.definitions.specs.Xsb.{ended, parse, is-long, goals-for, book-of, parsed-book}
 use Rattle.definitions.specs.Xsb.{bytes-of, check-import}
-use Rattle.definitions.proofs.Refusal.{all-pass}
-use Rattle.definitions.proofs.Desk.{desk-took}
-use Rattle.definitions.proofs.RoundTrip.{read-written}
-use Rattle.definitions.proofs.XsbBooks.{goals-for-length, rules-back}
-use Rattle.definitions.proofs.XsbReads.{Ordered}
-use Rattle.definitions.proofs.XsbOrder.{RulesFit, parse-fits}
-use Rattle.definitions.proofs.Xsb.{rules-length}
 use Rattle.xsb_import.specs.declared.Spot.{Spot}
 use Rattle.xsb_import.specs.declared.Kept.{Kept}
 use Rattle.xsb_import.specs.declared.Reader.{Reader}
 use Rattle.xsb_import.specs.declared.Imported.{Imported}
 use Rattle.xsb_import.specs.Places.{value-of, all-places, place-of}
-use Rattle.xsb_import.specs.Keeping.{capped-rule, goal-bytes, flat, goals-after, TooMuch, goals, clauses, literals, Whole, Writes}
-use Rattle.xsb_import.specs.Reading.{begun-rules, Follows}
+use Rattle.xsb_import.specs.Keeping.{TooMuch, goals, clauses, literals}
+use Rattle.xsb_import.specs.Reading.{begun-rules}
 use Rattle.xsb_import.specs.Importing.{Held, HoldsState, Reads, imported-by, refused-by, Sized, Imports}
-use Rattle.xsb_import.proofs.Begun.{begun-here, here}
-use Rattle.xsb_import.proofs.Holding.{length-goal-bytes, goals-after-capped}
-use Rattle.xsb_import.proofs.Writing.{flat-to, flat-written}
-use Rattle.xsb_import.proofs.Capping.{goals-names, goals-same, ordered-capped, goals-within}
+use Rattle.xsb_import.proofs.Begun.{begun-here}
 
 -- Whether a text ends where a line may begin.
 

@@ -1,19 +1,18 @@
 -- A rule that is begun, and a literal that is added, are written behind the bytes so far.
 use Prim.Native.Nat.{ℕ, zero, suc, _+_, _-_, _*_, _≤_, _<_}
 use native.Mathlib.Omega.{arith}
-use mathlib.Core.Path.{_≡_, refl, sym, ap, subst, _∙_}
+use mathlib.Core.Path.{_≡_, sym, ap, subst, _∙_}
 use mathlib.Core.Bool.{Bool, true, false, _||_, false≢true}
-use mathlib.Core.List.{List, [], _∷_, _++_, map, append-nil, append-assoc}
-use lib.Dec.{ltb, eqb}
+use mathlib.Core.List.{List, [], _∷_, _++_, map, append-assoc}
 use lib.ListN.{length, take}
 use borrow.Author.Tests.{lt-ltb, le-ltb, ne-eqb}
 use Rattle.laws.proofs.Bools.{both-false}
 use Rattle.definitions.specs.Lists.{push, any-passes}
-use Rattle.definitions.specs.Book.{any, Literal, Positive, Negative, write-literal, write-literals}
+use Rattle.definitions.specs.Book.{any, Literal, Positive, Negative, write-literal}
 use Rattle.definitions.specs.Xsb.{Rule, is-long}
 use Rattle.xsb_import.specs.declared.Kept.{Kept}
-use Rattle.xsb_import.specs.Keeping.{cappedTo, capped-literal, capped-rule, goal-bytes, rule-bytes, flat, goals-after, last-length, TooMuch}
-use Rattle.xsb_import.specs.Keeping.{literals, Whole, Keeps, Begins, Adds, Happens, overOf, literal-told, Writes, KeepsOn}
+use Rattle.xsb_import.specs.Keeping.{cappedTo, capped-literal, capped-rule, goal-bytes, rule-bytes, flat, goals-after, last-length}
+use Rattle.xsb_import.specs.Keeping.{literals, Whole, Keeps, Adds, overOf, literal-told, Writes, KeepsOn}
 use Rattle.xsb_import.proofs.Begun.{goals-after-push}
 use Rattle.xsb_import.proofs.Holding.{map-push, any-push, or-second, length-push, last-length-push, literals-push, length-goal-bytes}
 use Rattle.xsb_import.proofs.Holding.{held-push, passed}
@@ -84,9 +83,11 @@ add-over l k r a n m rs after o h e d x =
     let w = x .whole o in
     let q : Rule = record { head = d .rule .head; body = push (d .rule .body) l } in
     let last : last-length rs ≡ length (d .rule .body) = ap last-length (d .was) ∙ last-length-push (d .before) (d .rule) in
-    let long : is-long q ≡ true = lt-ltb 8 (length (push (d .rule .body) l)) (omega (arith, h, last, w .literals-are, length-push (d .rule .body) l)) in
+    let long : is-long q ≡ true = lt-ltb 8 (length (push (d .rule .body) l))
+    (omega (arith, h, last, w .literals-are, length-push (d .rule .body) l)) in
     passed k r a n m rs after e x
-    (literals (ap (any-passes is-long) (d .grown) ∙ any-push is-long (d .before) q ∙ or-second (any-passes is-long (d .before)) (is-long q) long))
+    (literals (ap (any-passes is-long) (d .grown) ∙ any-push is-long (d .before) q
+    ∙ or-second (any-passes is-long (d .before)) (is-long q) long))
 
 pub add-keeps : (l : Literal) (k r : Kept) (a c : List ℕ) (v n m : ℕ) (rs after : List Rule) → length (write-literal (capped-literal l)) ≤ 6
     → k .over ≡ false → k .literals < 8 → Writes a (k .used) (write-literal (capped-literal l)) c v
@@ -110,7 +111,8 @@ add-keeps l k r a c v n m rs after small o few f e d x =
     ∙ ap (λ (t : List ℕ). 0x43 ∷ 0 ∷ 0 ∷ 0 ∷ t) (literals-push (map capped-literal (d .rule .body)) (capped-literal l)) in
     let bytes : take v c ≡ flat 0 (map capped-rule after)
     = f .written fits
-    ∙ ap (λ (t : List ℕ). t ++ one) (w .held ∙ ap (λ (qs : List Rule). flat 0 (map capped-rule qs)) (d .was) ∙ held-push (d .before) (d .rule))
+    ∙ ap (λ (t : List ℕ). t ++ one) (w .held ∙ ap (λ (qs : List Rule). flat 0 (map capped-rule qs)) (d .was)
+    ∙ held-push (d .before) (d .rule))
     ∙ append-assoc front (goal ++ body) one
     ∙ ap (λ (t : List ℕ). front ++ t) (append-assoc goal body one)
     ∙ ap (λ (t : List ℕ). front ++ (goal ++ t)) (sym longer)

@@ -4,17 +4,14 @@ use native.Mathlib.Omega.{arith}
 use mathlib.Core.Path.{_≡_, refl, sym, ap, subst, _∙_}
 use mathlib.Core.Bool.{Bool, true, false, _||_, false≢true}
 use mathlib.Core.List.{List, [], _∷_, _++_, map, append-nil, append-assoc}
-use lib.Dec.{ltb, eqb}
-use lib.ListN.{length, take, length-append}
-use borrow.Author.Tests.{lt-ltb, le-ltb, ltb-true, ne-eqb}
-use Rattle.laws.proofs.Bools.{both-false}
+use lib.ListN.{length, length-append}
+use borrow.Author.Tests.{lt-ltb, ltb-true}
 use Rattle.definitions.specs.Lists.{push, any-passes}
 use Rattle.definitions.specs.Book.{any, Literal, Positive, Negative, write-literal, write-literals}
 use Rattle.definitions.specs.Xsb.{Rule, is-long}
 use Rattle.xsb_import.specs.declared.Kept.{Kept}
-use Rattle.xsb_import.specs.Keeping.{cappedTo, capped-literal, capped-rule, goal-bytes, rule-bytes, flat, goals-after, last-length, TooMuch}
-use Rattle.xsb_import.specs.Keeping.{goals, clauses, literals, Whole, Keeps, Begins, Adds, Happens, overOf, literal-told, Writes, KeepsOn}
-use Rattle.xsb_import.proofs.Begun.{goals-after-push}
+use Rattle.xsb_import.specs.Keeping.{capped-literal, capped-rule, goal-bytes, rule-bytes, flat, goals-after, last-length, TooMuch}
+use Rattle.xsb_import.specs.Keeping.{goals, clauses, literals, Whole, Keeps, Begins, Adds, Happens, overOf, KeepsOn}
 
 -- Lists with one more at their end.
 
@@ -70,7 +67,8 @@ flat-push g (q ∷ rs) r =
 pub literals-push : (ls : List Literal) (l : Literal) → write-literals (push ls l) ≡ write-literals ls ++ write-literal l
 literals-push [] l = append-nil (write-literal l)
 literals-push (m ∷ ls) l =
-    ap (λ (t : List ℕ). write-literal m ++ t) (literals-push ls l) ∙ sym (append-assoc (write-literal m) (write-literals ls) (write-literal l))
+    ap (λ (t : List ℕ). write-literal m ++ t) (literals-push ls l)
+    ∙ sym (append-assoc (write-literal m) (write-literals ls) (write-literal l))
 
 pub length-goal-bytes : (n : ℕ) → length (goal-bytes n) ≡ 2 * n
 length-goal-bytes zero = refl
@@ -160,7 +158,8 @@ passed k r bytes n m rs after e x t =
       whole = λ p. absurd (false≢true (sym p));
     })
 
-pub begin-clauses : (k r : Kept) (bytes : List ℕ) (goal : ℕ) → k .over ≡ false → 256 ≤ k .clauses → r ≡ overOf k → KeepsOn 1 goal k bytes r bytes
+pub begin-clauses : (k r : Kept) (bytes : List ℕ) (goal : ℕ) → k .over ≡ false → 256 ≤ k .clauses → r
+    ≡ overOf k → KeepsOn 1 goal k bytes r bytes
 begin-clauses k r bytes goal o h e n m rs after g b x =
     passed k r bytes n m rs after e x (clauses (omega (
       arith,

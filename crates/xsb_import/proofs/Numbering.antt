@@ -2,26 +2,23 @@
 use Prim.Native.Nat.{ℕ, zero, suc, _+_, _*_, _-_, _≤_, _<_}
 use native.Mathlib.Omega.{arith}
 use mathlib.Core.Path.{_≡_, refl, sym, ap, subst, _∙_}
-use mathlib.Core.Bool.{Bool, true, false, not, _&&_, false≢true}
+use mathlib.Core.Bool.{Bool, true, false, _&&_}
 use mathlib.Core.Option.{Option, none, some}
-use mathlib.Core.List.{List, [], _∷_}
-use lib.Dec.{eqb, ltb, leb}
-use borrow.Author.Tests.{eq-eqb, ne-eqb, lt-ltb, le-ltb, le-leb, lt-leb, leb-true}
-use Rattle.definitions.specs.Ascii.{ascii}
-use Rattle.definitions.specs.Lists.{push, is-empty}
-use Rattle.definitions.specs.Book.{any, Literal, Positive, Negative}
-use Rattle.definitions.specs.Xsb.{Rule, What, table, head, positive, negative, Place, line, number, literal, behind, comes, State, at, if-so}
-use Rattle.definitions.specs.Xsb.{counted, table-read, with-head, with-literal, rule-read, head-fits, is-digit, more-digits, with-digit}
-use Rattle.definitions.specs.Xsb.{behind-literal, behind-head, ends, ends-if, step-at}
-use Rattle.definitions.proofs.Lists.{is-empty-push}
+use mathlib.Core.List.{List}
+use lib.Dec.{eqb, leb}
+use borrow.Author.Tests.{eq-eqb, ne-eqb, le-leb, lt-leb, leb-true}
+use Rattle.definitions.specs.Lists.{is-empty}
+use Rattle.definitions.specs.Xsb.{Rule, What, table, head, positive, negative, Place, number, behind, State, at, if-so}
+use Rattle.definitions.specs.Xsb.{counted, table-read, is-digit, more-digits, with-digit}
+use Rattle.definitions.specs.Xsb.{ends, ends-if, step-at}
 use Rattle.definitions.proofs.Desk.{and-both}
 use Rattle.definitions.proofs.XsbReads.{digit-step}
 use Rattle.xsb_import.specs.declared.Spot.{Spot}
 use Rattle.xsb_import.specs.Places.{value-of, place-of}
-use Rattle.xsb_import.specs.Keeping.{goals-after, Begins, Adds, Happens}
-use Rattle.xsb_import.specs.Reading.{in-rule, begun-by, begun-rules, Follows, Goes, After, Steps, moved, lost, valued, tabled, headed, behind-spot}
+use Rattle.xsb_import.specs.Keeping.{goals-after}
+use Rattle.xsb_import.specs.Reading.{in-rule, begun-rules, Follows, Goes, Steps, lost, valued, tabled}
 use Rattle.xsb_import.specs.Reading.{NoDigit}
-use Rattle.xsb_import.proofs.Begun.{goals-after-push, begun-at, begun-here, here, by-place, breaks}
+use Rattle.xsb_import.proofs.Begun.{begun-at, begun-here, here, by-place, breaks}
 
 -- Digits.
 

@@ -1,7 +1,7 @@
 -- What a byte does where a line or a literal begins, behind a literal, and where one byte must come.
 use Prim.Native.Nat.{ℕ, zero, suc, _-_, _≤_, _<_}
 use native.Mathlib.Omega.{arith}
-use mathlib.Core.Path.{_≡_, refl, sym, ap, subst, _∙_}
+use mathlib.Core.Path.{_≡_, refl, sym, ap, _∙_}
 use mathlib.Core.Bool.{Bool, true, false, not, _&&_, false≢true}
 use mathlib.Core.Option.{Option, none, some}
 use mathlib.Core.List.{List, [], _∷_, map}
@@ -12,12 +12,12 @@ use Rattle.definitions.specs.Ascii.{ascii}
 use Rattle.definitions.specs.Lists.{is-empty}
 use Rattle.definitions.specs.Levels.{each-passes}
 use Rattle.definitions.specs.Xsb.{Place, line, fixed, number, literal, behind, table, head, positive, negative, comes, State, at, if-so}
-use Rattle.definitions.specs.Xsb.{step-at, begins-line, begins-literal, behind-literal, rule-read}
+use Rattle.definitions.specs.Xsb.{step-at, begins-line, begins-literal}
 use Rattle.definitions.proofs.Desk.{and-both}
 use Rattle.xsb_import.specs.declared.Spot.{Spot}
 use Rattle.xsb_import.specs.Places.{fixed-places, value-of, place-of, form, byte-at, nexts, next-at}
-use Rattle.xsb_import.specs.Reading.{in-rule, begun-by, begun-rules, Follows, Goes, After, Steps, moved, lost, behind-spot}
-use Rattle.xsb_import.proofs.Begun.{begun-here, here, neither, by-place, moves, breaks}
+use Rattle.xsb_import.specs.Reading.{in-rule, Follows, Steps, moved, lost}
+use Rattle.xsb_import.proofs.Begun.{begun-here, here, neither, moves, breaks}
 
 -- Places at which one byte must come.
 
@@ -96,7 +96,8 @@ each-below [] e k = omega arith
 each-below (q ∷ l) e zero = ltb-true q 27 (and-both (ltb q 27) _ e .0)
 each-below (q ∷ l) e (suc k) = each-below l (and-both (ltb q 27) _ e .1) k
 
-pub fixed-other : (s n : Spot) (b c : ℕ) → (7 ≤ s .place) × (s .place < 27) → c ≡ byte-at (s .place) → (b ≡ c → ⊥) → n ≡ lost s → Steps s b n
+pub fixed-other : (s n : Spot) (b c : ℕ) → (7 ≤ s .place) × (s .place < 27) → c ≡ byte-at (s .place) → (b ≡ c → ⊥) → n
+    ≡ lost s → Steps s b n
 fixed-other s n b c h e o m =
     breaks s n b (λ st f. fixed-as s b (h .0) (h .1) st
     ∙ ap (λ (t : Bool). if-so t (at st (place-of (next-at (s .place)) none))) (ne-eqb b (byte-at (s .place)) (λ x. o (x ∙ sym e)))) m

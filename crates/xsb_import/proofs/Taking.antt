@@ -1,10 +1,10 @@
 -- The bytes that were written are those of the text's book, and the desk says of them what it says of the text.
-use Prim.Native.Nat.{ℕ, zero, suc, _+_, _-_, _*_, _≤_, _<_}
+use Prim.Native.Nat.{ℕ, _+_, _-_, _≤_, _<_}
 use native.Mathlib.Omega.{arith}
-use mathlib.Core.Path.{_≡_, refl, sym, ap, ap₂, subst, _∙_}
-use mathlib.Core.Bool.{Bool, true, false, not, false≢true}
-use mathlib.Core.Option.{Option, none, some}
-use mathlib.Core.List.{List, [], _∷_, _++_, map, append-assoc}
+use mathlib.Core.Path.{_≡_, refl, sym, ap, subst, _∙_}
+use mathlib.Core.Bool.{Bool, true, false, not}
+use mathlib.Core.Option.{Option}
+use mathlib.Core.List.{List, [], _∷_, _++_, map}
 use lib.Dec.{ltb, eqb}
 use lib.ListN.{length, take, length-take, length-map}
 use borrow.Author.Tests.{eq-eqb, ne-eqb, le-ltb}
@@ -13,7 +13,7 @@ use Rattle.definitions.specs.Lists.{any-passes}
 use Rattle.definitions.specs.Book as said
 use Rattle.definitions.specs.Book.{write, end-command, goals-name, clause-count}
 use Rattle.definitions.specs.Desk.{at-desk, desk}
-use Rattle.definitions.specs.Xsb.{Rule, State, start, run, ended, parse, is-long, rules-from, goals-for, book-of, parsed-book, bytes-of}
+use Rattle.definitions.specs.Xsb.{Rule, State, start, is-long, goals-for, book-of, parsed-book, bytes-of}
 use Rattle.definitions.specs.Xsb.{check-import}
 use Rattle.definitions.proofs.Refusal.{all-pass}
 use Rattle.definitions.proofs.Desk.{desk-took}
@@ -24,17 +24,17 @@ use Rattle.definitions.proofs.XsbReads.{BareRule, Ordered}
 use Rattle.definitions.proofs.XsbOrder.{RulesFit, parse-fits}
 use Rattle.definitions.proofs.Xsb.{rules-length}
 use Rattle.book.specs.declared.Reading.{Reading}
-use Rattle.book.specs.View.{seen, seen-by, Taken}
+use Rattle.book.specs.View.{seen-by, Taken}
 use Rattle.xsb_import.specs.declared.Spot.{Spot}
 use Rattle.xsb_import.specs.declared.Kept.{Kept}
 use Rattle.xsb_import.specs.declared.Reader.{Reader}
 use Rattle.xsb_import.specs.declared.Imported.{Imported}
 use Rattle.xsb_import.specs.Keeping.{capped-rule, goal-bytes, flat, goals-after, Whole, Writes}
-use Rattle.xsb_import.specs.Importing.{Held, Reads, imported-by, refused-by, taken-by, Desks, Sized, Imports}
+use Rattle.xsb_import.specs.Importing.{Reads, imported-by, refused-by, taken-by, Desks, Sized, Imports}
 use Rattle.xsb_import.proofs.Holding.{length-goal-bytes, goals-after-capped}
-use Rattle.xsb_import.proofs.Writing.{flat-to, flat-written}
+use Rattle.xsb_import.proofs.Writing.{flat-written}
 use Rattle.xsb_import.proofs.Capping.{goals-names, goals-same, ordered-capped, goals-within}
-use Rattle.xsb_import.proofs.Finishing.{Parsed, parsed-of}
+use Rattle.xsb_import.proofs.Finishing.{parsed-of}
 
 -- At the desk.
 
@@ -144,7 +144,8 @@ capped-read n rs few fewer short s f t e =
     let count : clause-count book ≡ length rs
     = sym (rules-length 0 book) ∙ ap length (rules-back n (map capped-rule rs) ordered) ∙ length-map rs capped-rule in
     let size = goals-for-length 0 n (map capped-rule rs) in
-    read-written 65536 book (goals-within 0 n rs (subst (λ (qs : List Rule). All BareRule qs) e (f .bare)) short) (omega arith) (omega arith)
+    read-written 65536 book (goals-within 0 n rs (subst (λ (qs : List Rule). All BareRule qs) e (f .bare)) short) (omega arith)
+    (omega arith)
 
 -- all that was written
 written-whole : (n : ℕ) (rs : List Rule) (k : Kept) (a b c : List ℕ) (u v : ℕ) → length a ≡ 13441 → Whole rs k a → n ≤ 64

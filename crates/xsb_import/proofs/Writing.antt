@@ -1,17 +1,16 @@
 -- Rules in order, written one after the other, are the bytes of their book.
-use Prim.Native.Nat.{ℕ, zero, suc, _+_, _-_, _≤_, _<_}
+use Prim.Native.Nat.{ℕ, zero, suc, _+_, _-_, _<_}
 use native.Mathlib.Omega.{arith}
-use mathlib.Core.Path.{_≡_, refl, sym, ap, ap₂, subst, _∙_}
+use mathlib.Core.Path.{_≡_, sym, ap, subst, _∙_}
 use mathlib.Core.Bool.{Bool, true, false}
-use mathlib.Core.List.{List, [], _∷_, _++_, append-nil, append-assoc}
-use lib.Dec.{eqb}
+use mathlib.Core.List.{List, [], _∷_, _++_, append-assoc}
 use borrow.Author.Tests.{eq-eqb}
-use Rattle.laws.proofs.All.{All, end, more, all-map}
-use Rattle.definitions.specs.Book.{Literal, Clause, Book, write-literals, write-clauses, write-goals}
+use Rattle.laws.proofs.All.{more, all-map}
+use Rattle.definitions.specs.Book.{Clause, write-clauses, write-goals}
 use Rattle.definitions.specs.Xsb.{Rule, clause-of, clauses-for, goals-for}
 use Rattle.xsb_import.specs.Keeping.{goal-bytes, rule-bytes, flat, goals-after}
-use Rattle.definitions.proofs.XsbReads.{Ordered, no-rule, and-rule}
-use Rattle.definitions.proofs.XsbBooks.{HeadsAre, Parted, parted, heads-least, clauses-none, goals-skip}
+use Rattle.definitions.proofs.XsbReads.{Ordered, and-rule}
+use Rattle.definitions.proofs.XsbBooks.{HeadsAre, parted, heads-least, clauses-none, goals-skip}
 
 -- with the goals that are left
 abbrev pub flat-to : (n g : ℕ) → List Rule → List ℕ

@@ -1,3 +1,4 @@
+-- `answer`: as many bytes are written as the book has.
 use borrow.Author.Needs.{needs}
 use Rattle.xsb_import.proofs.Taking.{as-many}
 use Rattle.from_xsb.proofs.answer.Statement.{statement}

@@ -1,5 +1,5 @@
+-- `main`: the piece keeps its length.
 use Rattle.from_xsb.proofs.main.Statement.{statement}
-use Prim.Native.Nat.{_≤_}
 use mathlib.Core.Path.{_≡_}
 use lib.ListN.{length}
 use borrow.Author.Needs.{needs}

@@ -1,3 +1,4 @@
+-- `at_desk`: the bytes are the desk's, which gives its number or takes them.
 use borrow.Author.Needs.{needs}
 use Rattle.xsb_import.proofs.Taking.{as-many, desks-never, desks-refused, desks-taken, taken-sized}
 use Rattle.xsb_import.proofs.Finishing.{refused-sized}

@@ -1,3 +1,4 @@
+-- `feed`: at each turn the bytes of the piece so far are read.
 use Rattle.xsb_import.proofs.import.feed.Statement.{statement}
 use Rattle.xsb_import.proofs.Feeding.{fed-next, fed, holds-first}
 use native.Mathlib.Omega.{arith}
@@ -44,7 +45,8 @@ loop-less c = search (needs, fed-next, fed, holds-first)
 loop-again : tie.Need-loop-again Inv-loop μ-loop
 loop-again c =
     let l = c .before .before .before .before .before .before .loop in
-    (omega arith, omega arith, fed-next _ _ _ _ _ _ _ _ _ _ (l .i) (omega arith) (c .before .before .before .step .ensures) (c .before .keep .ensures) (l .inv .2))
+    let step = c .before .before .before .step .ensures in
+    (omega arith, omega arith, fed-next _ _ _ _ _ _ _ _ _ _ (l .i) (omega arith) step (c .before .keep .ensures) (l .inv .2))
 
 returns : tie.Need-returns Inv-loop μ-loop
 returns c =

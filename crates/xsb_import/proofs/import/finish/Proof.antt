@@ -1,3 +1,4 @@
+-- `finish`: another form, then the limits, then what the desk says.
 use borrow.Author.Needs.{needs}
 use Rattle.xsb_import.proofs.Finishing.{refused-sized, finish-broken, finish-inside, finish-over, finish-tables}
 use Rattle.xsb_import.proofs.Taking.{finish-book}

@@ -1,3 +1,4 @@
+-- `import`: a start, the text as one piece, and the end.
 use borrow.Author.Needs.{needs}
 use Rattle.xsb_import.proofs.Taking.{imported}
 use Rattle.xsb_import.proofs.import.import.Statement.{statement}

@@ -1,3 +1,4 @@
+-- `own`: at each turn the bytes so far are the same.
 use Rattle.xsb_import.proofs.import.own.Statement.{statement}
 use Rattle.xsb_import.proofs.Feeding.{copy-next, copied}
 use Prim.Native.Nat.{_≤_, _-_}

@@ -1,3 +1,4 @@
+-- `start`: the first state, with no rule and no byte.
 use Rattle.xsb_import.proofs.import.start.Statement.{statement}
 use Rattle.xsb_import.proofs.Feeding.{started}
 use Rattle.xsb_import.proofs.import.start.Tie as tie

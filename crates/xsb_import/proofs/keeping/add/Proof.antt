@@ -1,3 +1,4 @@
+-- `add`: a ninth literal is over the limit, and another is written behind the rest.
 use borrow.Author.Needs.{needs}
 use Rattle.xsb_import.proofs.Growing.{over-told, added-told}
 use Rattle.xsb_import.proofs.keeping.add.Statement.{statement}

@@ -1,3 +1,4 @@
+-- `begin`: a rule over a limit, or one that is written behind the rest.
 use borrow.Author.Needs.{needs}
 use Rattle.xsb_import.proofs.Holding.{begin-clauses, begin-goals}
 use Rattle.xsb_import.proofs.Growing.{begin-keeps}

@@ -1,3 +1,4 @@
+-- `goal_commands`: at each turn the commands of the goals so far are written.
 use Rattle.xsb_import.proofs.keeping.goal_commands.Statement.{statement}
 use Rattle.xsb_import.proofs.Filling.{goals-none, goals-next, goals-all}
 use Prim.Native.Nat.{_≤_, _-_}

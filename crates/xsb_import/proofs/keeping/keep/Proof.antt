@@ -1,3 +1,4 @@
+-- `keep`: by what the last byte ended.
 use borrow.Author.Needs.{needs}
 use Rattle.xsb_import.proofs.Holding.{keeps-none, keeps-over}
 use Rattle.xsb_import.proofs.Growing.{one-told}

@@ -1,3 +1,4 @@
+-- `literal`: the bytes of a literal, by its sign.
 use borrow.Author.Needs.{needs}
 use Rattle.xsb_import.proofs.Filling.{writes-as, positive-bytes, negative-bytes}
 use Rattle.xsb_import.proofs.keeping.literal.Statement.{statement}

@@ -1,3 +1,4 @@
+-- `put`: a byte, if there is room.
 use borrow.Author.Needs.{needs}
 use Rattle.xsb_import.proofs.Filling.{put-room, put-full}
 use Rattle.xsb_import.proofs.keeping.put.Statement.{statement}

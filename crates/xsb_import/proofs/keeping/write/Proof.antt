@@ -1,3 +1,4 @@
+-- `write`: at each turn the bytes so far are written.
 use Rattle.xsb_import.proofs.keeping.write.Statement.{statement}
 use Rattle.xsb_import.proofs.Filling.{writes-none, writes-next, writes-all}
 use Prim.Native.Nat.{_≤_, _-_}

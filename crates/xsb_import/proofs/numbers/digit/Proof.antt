@@ -1,3 +1,4 @@
+-- `digit`: a first digit, one behind a 0, and one more.
 use borrow.Author.Needs.{needs}
 use Rattle.xsb_import.proofs.Numbering.{digit-first, digit-none, digit-more}
 use Rattle.xsb_import.proofs.numbers.digit.Statement.{statement}

@@ -1,3 +1,4 @@
+-- `ends`: by what the number is of.
 use borrow.Author.Needs.{needs}
 use Rattle.xsb_import.proofs.Ending.{positive-ends}
 use Rattle.xsb_import.proofs.numbers.ends.Statement.{statement}

@@ -1,3 +1,4 @@
+-- `ends_head`: heads without a table line, below the last one, and the two bytes that may stand behind a head.
 use borrow.Author.Needs.{needs}
 use Rattle.xsb_import.proofs.Ending.{head-past, head-below, head-fact, head-rule, head-other}
 use Rattle.xsb_import.proofs.numbers.ends_head.Statement.{statement}

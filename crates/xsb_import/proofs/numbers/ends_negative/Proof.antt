@@ -1,3 +1,4 @@
+-- `ends_negative`: the bracket behind a "not".
 use borrow.Author.Needs.{needs}
 use Rattle.xsb_import.proofs.Ending.{negative-other, negative-ends}
 use Rattle.xsb_import.proofs.numbers.ends_negative.Statement.{statement}

@@ -1,3 +1,4 @@
+-- `ends_table`: the next table's number and the byte behind it.
 use borrow.Author.Needs.{needs}
 use Rattle.xsb_import.proofs.Numbering.{table-other, table-wrong, table-right}
 use Rattle.xsb_import.proofs.numbers.ends_table.Statement.{statement}

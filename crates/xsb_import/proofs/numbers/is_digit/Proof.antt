@@ -1,3 +1,4 @@
+-- `is_digit`: the tests of the definitions, one by one.
 use Rattle.xsb_import.proofs.numbers.is_digit.Statement.{statement}
 use Rattle.xsb_import.proofs.Numbering.{below-digits, from-digits}
 use Rattle.xsb_import.proofs.numbers.is_digit.Tie as tie

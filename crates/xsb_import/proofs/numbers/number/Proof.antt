@@ -1,3 +1,4 @@
+-- `number`: a digit, or the byte behind a number that was read.
 use borrow.Author.Needs.{needs}
 use Rattle.xsb_import.proofs.Numbering.{no-number, digit-low, digit-high, other-byte}
 use Rattle.xsb_import.proofs.numbers.number.Statement.{statement}

@@ -1,3 +1,4 @@
+-- `behind`: a full stop, a comma, or neither.
 use borrow.Author.Needs.{needs}
 use Rattle.xsb_import.proofs.Ending.{behind-dot, behind-comma, behind-other}
 use Rattle.xsb_import.proofs.places.behind.Statement.{statement}

@@ -1,3 +1,4 @@
+-- `fixed`: the byte that must come, or another.
 use borrow.Author.Needs.{needs}
 use Rattle.xsb_import.proofs.Placing.{fixed-other, fixed-same}
 use Rattle.xsb_import.proofs.places.fixed.Statement.{statement}

@@ -1,3 +1,4 @@
+-- `line`: a rule, a table line before all rules, or neither.
 use borrow.Author.Needs.{needs}
 use Rattle.xsb_import.proofs.Placing.{line-head, line-other, line-late, line-table}
 use Rattle.xsb_import.proofs.places.line.Statement.{statement}

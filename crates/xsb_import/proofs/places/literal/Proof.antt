@@ -1,3 +1,4 @@
+-- `literal`: the first byte of a literal, or neither of them.
 use borrow.Author.Needs.{needs}
 use Rattle.xsb_import.proofs.Placing.{literal-positive, literal-negative, literal-other}
 use Rattle.xsb_import.proofs.places.literal.Statement.{statement}

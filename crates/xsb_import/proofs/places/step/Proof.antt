@@ -1,3 +1,4 @@
+-- `step`: by the place.
 use borrow.Author.Needs.{needs}
 use Rattle.xsb_import.proofs.Ending.{broken-steps, unknown-steps, unbroken, behind-ends}
 use Rattle.xsb_import.proofs.places.step.Statement.{statement}
