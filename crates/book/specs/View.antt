@@ -9,6 +9,7 @@ use Rattle.laws.specs.Spans.{span}
 use Rattle.definitions.specs.Refusal.{Refusable, refused, accepted}
 use Rattle.definitions.specs.Book as said
 use Rattle.definitions.specs.Desk.{desk}
+use Rattle.definitions.specs.Mend.{read-loosely}
 use Rattle.book.specs.declared.Book.{Book}
 use Rattle.book.specs.declared.Reading.{Reading}
 use Rattle.book.specs.declared.Literal.{Literal}
@@ -107,6 +108,16 @@ pub record Sound (b : Book) : Type 0 where
   pub tiles : Tiles (b .«goal_first») (b .«goal_len») 0 (b .goals) 0 (b .clauses)
   pub named : said.goals-name (b .goals) (view b) ≡ true
 
+-- sound, but that its literals may name goals that it has not
+pub record Formed (b : Book) : Type 0 where
+  pub full : Full b
+  pub ranged : Ranged b
+  pub some-goal : 0 < b .goals
+  pub few-goals : b .goals ≤ 64
+  pub few-clauses : b .clauses ≤ 256
+  pub few-literals : (c : ℕ) → getD (b .«clause_len») c 0 ≤ 8
+  pub tiles : Tiles (b .«goal_first») (b .«goal_len») 0 (b .goals) 0 (b .clauses)
+
 abbrev pub blank : Book
 blank = record {
   goals = 0;
@@ -143,3 +154,9 @@ Read bytes r = Gives (said.read bytes) r
 -- at the desk
 abbrev pub Taken : (bytes : List ℕ) → Reading → Type 0
 Taken bytes r = Gives (desk bytes) r
+
+-- without the test for 6
+pub record ReadLoosely (bytes : List ℕ) (r : Reading) : Type 0 where
+  pub means : seen r ≡ read-loosely bytes
+  pub formed : r .number ≡ 0 → Formed (r .book)
+  pub bare : (r .number ≡ 0 → ⊥) → r .book ≡ blank

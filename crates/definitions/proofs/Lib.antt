@@ -17,5 +17,9 @@ pub mod Digits
 pub mod XsbShows
 pub mod XsbReads
 pub mod XsbBooks
+pub mod MendBooks
+pub mod MendReads
+pub mod MendCopies
+pub mod Mend
 pub mod XsbOrder
 pub mod Xsb

@@ -31,6 +31,7 @@ pub mod Levels
 pub mod LevelCases
 pub mod Xsb
 pub mod XsbCases
+pub mod Mend
 pub mod Claim
 pub mod Instances
 
