@@ -13,5 +13,6 @@ pub mod Limits
 pub mod SameClauses
 pub mod ClauseKeys
 pub mod Twice
+pub mod Shown
 pub mod TwiceInBook
 pub mod AtDesk

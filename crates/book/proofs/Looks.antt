@@ -77,6 +77,32 @@ module _ (n : ℕ) where
           (omega arith) (omega (arith, ltb-true c (at + getD len g 0) q))
       by false q behind = behind (ltb-false c (at + getD len g 0) q)
 
+-- The literals of a clause whose literals name goals below n, which the byte that a goal is read into can hold.
+
+module _ (b : Book) (n c : ℕ) (small : n ≤ 64) (inside : c < 256) (few : getD (b .«clause_len») c 0 ≤ 8)
+    (names : literals-name n (clause-viewed b c .literals) ≡ true) (j : ℕ) (l : j < getD (b .«clause_len») c 0) where
+  goal-below : getD (b .«literal_goal») (8 * c + j) 0 < n
+  goal-below =
+      subst (λ (g : ℕ). g < n)
+      (goal-of-kept (getD (b .«literal_kind») (8 * c + j) 0) (getD (b .«literal_goal») (8 * c + j) 0)
+      (getD (b .«literal_want») (8 * c + j) 0))
+      (named-literal n (literal-viewed b) (8 * c) (getD (b .«clause_len») c 0) j names l)
+
+  goal-fits : getD (b .«literal_goal») (8 * c + j) 0 % 256 ≡ getD (b .«literal_goal») (8 * c + j) 0
+  goal-fits = omega (arith, goal-below, small)
+
+  here : literal-read (b .«literal_kind») (b .«literal_goal») (b .«literal_want») c j
+      ≡ literal-there (b .«literal_kind») (b .«literal_goal») (b .«literal_want») (8 * c + j)
+  here = literal-in (b .«literal_kind») (b .«literal_goal») (b .«literal_want») c j inside (omega (arith, few, l))
+
+  pub literal-shown : meant (literal-read (b .«literal_kind») (b .«literal_goal») (b .«literal_want») c j) ≡ literal-viewed b (8 * c + j)
+  literal-shown =
+      ap meant here
+      ∙ ap (λ (g : ℕ). kept (getD (b .«literal_kind») (8 * c + j) 0) g (getD (b .«literal_want») (8 * c + j) 0)) goal-fits
+
+  pub literal-below : literal-read (b .«literal_kind») (b .«literal_goal») (b .«literal_want») c j .goal < n
+  literal-below = subst (λ (x : Literal). x .goal < n) (sym here) (subst (λ (g : ℕ). g < n) (sym goal-fits) goal-below)
+
 -- The book.
 
 module _ (b : Book) (s : Sound b) where
@@ -129,36 +155,18 @@ module _ (b : Book) (s : Sound b) where
         entry-in 256 (b .«clause_len») c (omega (arith, s .few-clauses))
         ∙ sym (length-span (literal-viewed b) (8 * c) (getD (b .«clause_len») c 0))
 
+    pub clause-names : literals-name (b .goals) (clause-viewed b c .literals) ≡ true
+    clause-names =
+        named-tiles (b .goals) (clause-viewed b) (b .«goal_flags») (b .«goal_first») (b .«goal_len») (b .goals) 0 0 (b .clauses) c
+        (s .tiles) (s .named) (omega arith) h
+
     module _ (j : ℕ) (l : j < getD (b .«clause_len») c 0) where
-      goal-named : getD (b .«literal_goal») (8 * c + j) 0 < b .goals
-      goal-named =
-          let in-clause : literals-name (b .goals) (clause-viewed b c .literals) ≡ true =
-          named-tiles (b .goals) (clause-viewed b) (b .«goal_flags») (b .«goal_first») (b .«goal_len») (b .goals) 0 0 (b .clauses) c
-          (s .tiles) (s .named) (omega arith) h in
-          let named : goal-of (literal-viewed b (8 * c + j)) < b .goals =
-          named-literal (b .goals) (literal-viewed b) (8 * c) (getD (b .«clause_len») c 0) j in-clause l in
-          subst (λ (n : ℕ). n < b .goals)
-          (goal-of-kept (getD (b .«literal_kind») (8 * c + j) 0) (getD (b .«literal_goal») (8 * c + j) 0)
-          (getD (b .«literal_want») (8 * c + j) 0)) named
-
-      -- it fits the byte that it is kept in
-      goal-fits : getD (b .«literal_goal») (8 * c + j) 0 % 256 ≡ getD (b .«literal_goal») (8 * c + j) 0
-      goal-fits = omega (arith, goal-named, s .few-goals)
-
-      here : literal-read (b .«literal_kind») (b .«literal_goal») (b .«literal_want») c j
-          ≡ literal-there (b .«literal_kind») (b .«literal_goal») (b .«literal_want») (8 * c + j)
-      here =
-          literal-in (b .«literal_kind») (b .«literal_goal») (b .«literal_want») c j (omega (arith, s .few-clauses))
-          (omega (arith, s .few-literals c))
-
       pub literal-is : (d : said.Literal)
           → meant (literal-read (b .«literal_kind») (b .«literal_goal») (b .«literal_want») c j) ≡ getD (clause-viewed b c .literals) j d
       literal-is d =
-          ap meant here
-          ∙ ap (λ (n : ℕ). kept (getD (b .«literal_kind») (8 * c + j) 0) n (getD (b .«literal_want») (8 * c + j) 0)) goal-fits
+          literal-shown b (b .goals) c (s .few-goals) (omega (arith, s .few-clauses)) (s .few-literals c) clause-names j l
           ∙ sym (getD-span (literal-viewed b) (8 * c) (getD (b .«clause_len») c 0) j d l)
 
       -- a literal names a goal of the book
       pub literal-names : literal-read (b .«literal_kind») (b .«literal_goal») (b .«literal_want») c j .goal < b .goals
-      literal-names =
-          subst (λ (x : Literal). x .goal < b .goals) (sym here) (subst (λ (n : ℕ). n < b .goals) (sym goal-fits) goal-named)
+      literal-names = literal-below b (b .goals) c (s .few-goals) (omega (arith, s .few-clauses)) (s .few-literals c) clause-names j l

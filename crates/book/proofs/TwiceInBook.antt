@@ -1,5 +1,5 @@
--- A sound book's clauses, as they are read from its arrays, are those that it shows; so the search through the arrays is the definitions'.
-use Prim.Native.Nat.{ℕ, _+_, _*_, _-_, _≤_, _<_}
+-- The search for a clause that stands twice, through the arrays of a sound book, is the definitions' search through the book that they show.
+use Prim.Native.Nat.{ℕ, _+_, _-_, _≤_, _<_}
 use native.Mathlib.Omega.{arith}
 use mathlib.Core.Path.{_≡_, sym, ap, ap₂, _∙_}
 use mathlib.Core.Bool.{Bool, true, false}
@@ -7,19 +7,16 @@ use mathlib.Core.Option.{some}
 use mathlib.Core.List.{List, []}
 use lib.ListN.{getD}
 use Rattle.laws.specs.Spans.{span}
-use Rattle.laws.proofs.Spans.{getD-span, span-ext, span-moved}
-use Rattle.definitions.specs.Book as said
+use Rattle.laws.proofs.Spans.{span-ext}
 use Rattle.definitions.specs.Desk.{repeat-behind, repeat-from, first-repeat}
 use Rattle.book.specs.declared.Book.{Book}
 use Rattle.book.specs.declared.Repeat.{Repeat}
-use Rattle.book.specs.Access.{entry, literal-read}
-use Rattle.book.specs.View.{meant, literal-viewed, clause-viewed, goal-viewed, view, Sound}
-use Rattle.book.specs.Repeats.{Lent, lent, Keys, clause-read, no-repeat, repeat-by, repeat-seen}
-use Rattle.book.proofs.Looks.{entry-in, variant-is, cannot-prove-is, outsized-is, literal-is, clauses-within}
+use Rattle.book.specs.Access.{entry}
+use Rattle.book.specs.View.{clause-viewed, goal-viewed, view, Sound}
+use Rattle.book.specs.Repeats.{Keys, clause-read, no-repeat, repeat-by, repeat-seen}
+use Rattle.book.proofs.Looks.{entry-in, clauses-within}
+use Rattle.book.proofs.Shown.{lent-by, clause-shown}
 use Rattle.book.proofs.Twice.{from-again, from-found, from-over}
-
-abbrev pub lent-by : Book → Lent
-lent-by b = lent (b .«clause_variant») (b .«clause_flags») (b .«clause_len») (b .«literal_kind») (b .«literal_goal») (b .«literal_want»)
 
 -- the goals behind goal g decide, as long as none before it has a clause twice
 abbrev pub FromGoal : Book → (g : ℕ) → Type 0
@@ -31,29 +28,6 @@ from-first b =
     ap (λ (n : ℕ). repeat-from 0 (span (goal-viewed b) 0 n)) z
 
 module _ (b : Book) (s : Sound b) where
-  pub clause-shown : (c : ℕ) → c < b .clauses → clause-read (lent-by b) c ≡ clause-viewed b c
-  clause-shown c h =
-      let v = variant-is b s c h in
-      let x = cannot-prove-is b s c h in
-      let y = outsized-is b s c h in
-      λ i. record { variant = v i; cannot-prove = x i; outsized = y i; literals = all i }
-    where
-      n : ℕ
-      n = getD (b .«clause_len») c 0
-
-      read-at : ℕ → said.Literal
-      read-at j = meant (literal-read (b .«literal_kind») (b .«literal_goal») (b .«literal_want») c j)
-
-      one : (j : ℕ) → j < n → read-at (0 + j) ≡ literal-viewed b (8 * c + j)
-      one j l =
-          let z : 0 + j ≡ j = omega arith in
-          ap read-at z ∙ literal-is b s c h j l (literal-viewed b 0) ∙ getD-span (literal-viewed b) (8 * c) n j (literal-viewed b 0) l
-
-      all : span read-at 0 (entry 256 (b .«clause_len») c) ≡ span (literal-viewed b) (8 * c) n
-      all =
-          ap (λ (m : ℕ). span read-at 0 m) (entry-in 256 (b .«clause_len») c (omega (arith, s .few-clauses)))
-          ∙ span-moved read-at (literal-viewed b) 0 (8 * c) n one
-
   -- a goal by its first place and the number of its clauses
   module _ (g first count : ℕ) (h : g < b .goals) (hf : first ≡ entry 64 (b .«goal_first») g)
       (hc : count ≡ entry 64 (b .«goal_len») g) where
@@ -78,7 +52,7 @@ module _ (b : Book) (s : Sound b) where
 
     pub goal-shown : span (clause-read (lent-by b)) first count ≡ goal-viewed b g .clauses
     goal-shown =
-        span-ext (clause-read (lent-by b)) (clause-viewed b) first count (λ i x y. clause-shown i (omega (arith, goal-inside)))
+        span-ext (clause-read (lent-by b)) (clause-viewed b) first count (λ i x y. clause-shown b s i (omega (arith, goal-inside)))
         ∙ ap₂ (λ (m n : ℕ). span (clause-viewed b) m n) first-there count-there
 
     module _ (left : FromGoal b g) (r : Repeat) (e : repeat-seen r ≡ repeat-behind g [] (span (clause-read (lent-by b)) first count)) where

@@ -8,7 +8,7 @@ pub mod fitting;
 mod keys;
 mod reader;
 mod repeats;
-mod same;
+pub mod same;
 mod widths;
 
 pub use crate::reader::read;

@@ -96,7 +96,7 @@ fn same_literals(
     true
 }
 
-pub(crate) fn same_clause(
+pub fn same_clause(
     variants: &[u16; 256],
     flags: &[u8; 256],
     len: &[u8; 256],

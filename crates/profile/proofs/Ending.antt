@@ -22,7 +22,8 @@ use Rattle.book.specs.declared.Book.{Book}
 use Rattle.book.specs.View.{goal-viewed, view, Sound}
 use Rattle.book.specs.Access.{entry}
 use Rattle.book.specs.Repeats.{clause-read}
-use Rattle.book.proofs.TwiceInBook.{lent-by, goal-few, goal-shown}
+use Rattle.book.proofs.Shown.{lent-by}
+use Rattle.book.proofs.TwiceInBook.{goal-few, goal-shown}
 use Rattle.profile.specs.Asks.{Low, PassGives, ClausesInside, SameLevels, Settles}
 use Rattle.profile.proofs.Asking.{clauses-most}
 use Rattle.profile.proofs.Members.{clauses-in, clauses-past}

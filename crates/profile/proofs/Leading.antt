@@ -19,7 +19,7 @@ use Rattle.book.specs.declared.Literal.{Literal}
 use Rattle.book.specs.Access.{entry, literal-read}
 use Rattle.book.specs.View.{meant, goal-viewed, view, Sound}
 use Rattle.book.specs.Repeats.{clause-read}
-use Rattle.book.proofs.TwiceInBook.{lent-by}
+use Rattle.book.proofs.Shown.{lent-by}
 use Rattle.profile.specs.Reach.{cell, Raised, Here, Names, said-literal, NamesFew, ClauseLeads, GoalLeads, Leads, NotStep, Edges}
 use Rattle.profile.proofs.Raising.{Steps, raised-as, raised-more, raised-then}
 use Rattle.profile.proofs.Members.{goal-of-meant, has-clause, clause-placed, placed-clause, literal-placed, placed-literal}

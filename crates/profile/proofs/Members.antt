@@ -15,7 +15,8 @@ use Rattle.book.specs.Access.{entry, literal-read}
 use Rattle.book.specs.View.{signed, meant, goal-viewed, view, Sound}
 use Rattle.book.specs.Repeats.{clause-read}
 use Rattle.book.proofs.Looks.{entry-in, literal-names}
-use Rattle.book.proofs.TwiceInBook.{lent-by, goal-inside, goal-shown}
+use Rattle.book.proofs.Shown.{lent-by}
+use Rattle.book.proofs.TwiceInBook.{goal-inside, goal-shown}
 use Rattle.definitions.proofs.Members.{clause-inside}
 use Rattle.profile.specs.Reach.{said-literal, NamesFew}
 

@@ -19,7 +19,8 @@ use Rattle.book.specs.View.{meant, signed, wanted, bit2, goal-viewed, view, Sou
 use Rattle.book.specs.Access.{entry, literal-read}
 use Rattle.book.specs.Repeats.{Lent, clause-read, literals-read}
 use Rattle.book.proofs.Looks.{entry-in}
-use Rattle.book.proofs.TwiceInBook.{lent-by, goal-shown}
+use Rattle.book.proofs.Shown.{lent-by}
+use Rattle.book.proofs.TwiceInBook.{goal-shown}
 
 -- A literal.
 

@@ -26,7 +26,8 @@ use Rattle.book.specs.declared.Reading.{Reading}
 use Rattle.book.specs.Access.{entry, literal-read}
 use Rattle.book.specs.View.{meant, signed, wanted, bit2, goal-viewed, view, seen-by, Sound, Gives}
 use Rattle.book.specs.Repeats.{Lent, literals-read, clause-read}
-use Rattle.book.proofs.TwiceInBook.{lent-by, goal-shown}
+use Rattle.book.proofs.Shown.{lent-by}
+use Rattle.book.proofs.TwiceInBook.{goal-shown}
 use Rattle.profile.specs.Paper.{plain-paper}
 use Rattle.profile.proofs.Papers.{of-paper, export-in, export-of-paper, gave}
 use Rattle.xsb_export.specs.Exporting.{exported, literal-said, rule-read}
