@@ -1,25 +1,28 @@
 -- Reading a book: what holds before each command, that each command keeps it, and what it gives where reading stops.
-use Prim.Native.Nat.{ℕ, suc, _+_, _-_, _*_, _/_, _%_, _≤_, _<_}
+use Prim.Native.Nat.{ℕ, suc, _+_, _-_, _%_, _≤_, _<_}
 use native.Mathlib.Omega.{arith}
 use mathlib.Core.Path.{_≡_, refl, sym, ap, ap₂, subst, _∙_}
-use mathlib.Core.Bool.{Bool, true, false, not}
+use mathlib.Core.Bool.{Bool, false}
 use mathlib.Core.List.{List, [], _∷_, _++_}
 use lib.ListN.{length, getD, drop, length-replicate}
 use lib.Dec.{ltb, leb, eqb, leb·zero}
-use borrow.Author.Tests.{ltb-false, leb-false, eqb-false, ne-eqb, not-false}
+use borrow.Author.Tests.{ltb-false, leb-false, eqb-false, ne-eqb}
 use Rattle.definitions.specs.Refusal.{_refuses_}
 use Rattle.definitions.specs.Book as said
 use Rattle.definitions.specs.Book.{goal, clause, positive, ranged, negative, end, unknown, command, width, byte, u16, bit0, crossed}
 use Rattle.definitions.specs.Book.{want-of, between, Positive, Negative}
-use Rattle.definitions.specs.Book.{add-clause, add-literal, read-from}
+use Rattle.definitions.specs.Book.{add-clause, add-literal}
+use Rattle.definitions.specs.Mend.{loose-from, read-loosely}
 use Rattle.laws.proofs.Lists.{getD-zeros}
 use Rattle.definitions.proofs.Book.{want-straight}
 use Rattle.book.specs.declared.Book.{Book}
 use Rattle.book.specs.declared.Reading.{Reading}
 use Rattle.book.specs.declared.decode.Operands.{Operands}
-use Rattle.book.specs.View.{wanted, bit2, numbered, view, signed, kept, Full, Ranged, blank, seen-by, Read}
-use Rattle.book.specs.Faults.{fault, marked, counts, next-fault, literal-tests, end-tests, largest}
+use Rattle.book.specs.View.{numbered, view, kept, Full, Ranged, blank, seen-by}
+use Rattle.book.specs.Faults.{fault, marked, counts, next-fault, literal-tests, largest}
+use Rattle.book.specs.Naming.{ReadNamed}
 use Rattle.book.specs.Operands.{kind-by, want-at, high-at, OperandsAt}
+use Rattle.book.proofs.LiteralKinds.{kept-ends, positive-literal, ranged-literal, negative-literal, kind-small}
 use Rattle.book.proofs.Tests.{OfLiteral, of-positive, of-ranged, of-negative, of-literal, byte-after, u16-after}
 use Rattle.book.proofs.Tests.{marked-unknown, marked-known}
 use Rattle.book.proofs.Held.{Held}
@@ -27,44 +30,6 @@ use Rattle.book.proofs.MoreGoals.{with-goal, bare-goal, goal-view, goal
 use Rattle.book.proofs.MoreClauses.{with-clause, bare-clause, clause-view, clause-held, ends as clauses-end}
 use Rattle.book.proofs.MoreLiterals.{with-literal, literal-view, literal-held}
 use Rattle.book.proofs.Turns.{passes, done, turn-refused, some-left, operands-within, tests-passed, turn-end, turn-on}
-
--- A literal's kind says its sign, its flag and whether it wants a range.
-
--- the two ends, out of the number that keeps them
-kept-ends : (k g want high : ℕ) → want < 65536 → kept k g (want + 65536 * high) ≡ numbered k g want high
-kept-ends k g want high h =
-    let l : (want + 65536 * high) % 65536 ≡ want = omega arith in
-    let m : (want + 65536 * high) / 65536 ≡ high = omega arith in
-    ap₂ (numbered k g) l m
-
-positive-literal : (f g w h : ℕ) → numbered (f % 2) g w h ≡ Positive g (want-of w) (bit0 f)
-positive-literal f g w h =
-    let n : f % 2 / 2 % 2 ≡ 0 = omega arith in
-    let r : f % 2 / 4 % 2 ≡ 0 = omega arith in
-    let o : f % 2 % 2 ≡ f % 2 = omega arith in
-    ap (λ (k : ℕ). signed (eqb k 1) g (wanted (bit2 (f % 2)) w h) (bit0 (f % 2))) n
-    ∙ ap (λ (k : ℕ). Positive g (wanted (eqb k 1) w h) (bit0 (f % 2))) r
-    ∙ ap (λ (k : ℕ). Positive g (want-of w) (eqb k 1)) o
-
-ranged-literal : (f g w h : ℕ) → numbered (f % 2 + 4) g w h ≡ Positive g (between w h) (bit0 f)
-ranged-literal f g w h =
-    let n : (f % 2 + 4) / 2 % 2 ≡ 0 = omega arith in
-    let r : (f % 2 + 4) / 4 % 2 ≡ 1 = omega arith in
-    let o : (f % 2 + 4) % 2 ≡ f % 2 = omega arith in
-    ap (λ (k : ℕ). signed (eqb k 1) g (wanted (bit2 (f % 2 + 4)) w h) (bit0 (f % 2 + 4))) n
-    ∙ ap (λ (k : ℕ). Positive g (wanted (eqb k 1) w h) (bit0 (f % 2 + 4))) r
-    ∙ ap (λ (k : ℕ). Positive g (between w h) (eqb k 1)) o
-
-negative-literal : (f g w h : ℕ) → numbered (f % 2 + 2) g w h ≡ Negative g (bit0 f)
-negative-literal f g w h =
-    let n : (f % 2 + 2) / 2 % 2 ≡ 1 = omega arith in
-    let o : (f % 2 + 2) % 2 ≡ f % 2 = omega arith in
-    ap (λ (k : ℕ). signed (eqb k 1) g (wanted (bit2 (f % 2 + 2)) w h) (bit0 (f % 2 + 2))) n ∙ ap (λ (k : ℕ). Negative g (eqb k 1)) o
-
-kind-small : (p q : Bool) (f : ℕ) → kind-by p q f ≤ 5
-kind-small true q f = omega arith
-kind-small false true f = omega arith
-kind-small false false f = omega arith
 
 -- what the tests of a literal command leave
 record Room (clauses literals : ℕ) (crossing : Bool) : Type 0 where
@@ -75,7 +40,7 @@ record Room (clauses literals : ℕ) (crossing : Bool) : Type 0 where
 -- the arrays hold what was read before a place, and the rest of the bytes is still to be read
 pub record SoFar (bs : List ℕ) (b : Book) (literals named at : ℕ) : Type 0 where
   pub held : Held b literals named
-  pub rest : read-from (drop at bs) 0 (view b) ≡ said.read bs
+  pub rest : loose-from (drop at bs) 0 (view b) ≡ read-loosely bs
 
 -- Where reading starts.
 
@@ -120,20 +85,22 @@ start bs b e = subst (λ (x : Book). SoFar bs x 0 0 0) (sym e) (record { held = 
 
 module _ (bs : List ℕ) (b : Book) (literals named at : ℕ) (s : SoFar bs b literals named at) where
   -- a refusal
-  pub stops : (r : Reading) (k : ℕ) → (k ≡ 0 → ⊥) → k ≡ next-fault (drop at bs) (counts (b .goals) (b .clauses) literals named)
-      → r .number ≡ k
-      → r .book ≡ blank → Read bs r
+  pub stops : (r : Reading) (k : ℕ) → (k ≡ 0 → ⊥) → k ≡ next-fault (drop at bs) (counts (b .goals) (b .clauses) literals)
+      → r .number ≡ k → r .book ≡ blank → ReadNamed bs (record { reading = r; named = named })
   stops r k n e q z =
       let m : r .number ≡ 0 → ⊥ = λ y. n (sym q ∙ y) in
       record {
-        means =
-            ap (λ (t : Bool). seen-by t r) (ne-eqb (r .number) 0 m)
-            ∙ sym (turn-refused b literals named (s .held) bs at (r .number) m (sym e ∙ sym q)) ∙ s .rest;
-        sound = λ y. absurd (m y);
-        bare = λ y. z;
+        reads = record {
+          means =
+              ap (λ (t : Bool). seen-by t r) (ne-eqb (r .number) 0 m)
+              ∙ sym (turn-refused b literals named (s .held) bs at (r .number) m (sym e ∙ sym q)) ∙ s .rest;
+          formed = λ y. absurd (m y);
+          bare = λ y. z;
+        };
+        naming = λ y. absurd (m y);
       }
 
-  module _ (fine : 0 ≡ next-fault (drop at bs) (counts (b .goals) (b .clauses) literals named)) where
+  module _ (fine : 0 ≡ next-fault (drop at bs) (counts (b .goals) (b .clauses) literals)) where
     abbrev after : List ℕ
     after = drop (suc at) bs
 
@@ -154,41 +121,31 @@ module _ (bs : List ℕ) (b : Book) (literals named at : ℕ) (s : SoFar bs b li
 
     -- the end command
     module _ (is : byte bs at ≡ 0x45) where
-      passed : fault (end-tests (length after) (b .goals) named) ≡ 0
-      passed = tests-passed b literals named (s .held) bs at (sym fine) end (ap command is)
-
       some-goals : 0 < b .goals
       some-goals =
-          let p =
-          passes (ltb 0 (length after) refuses 7) (eqb (b .goals) 0 refuses 8 ∷ not (leb named (b .goals)) refuses 6 ∷ []) (omega arith)
-          passed in
-          let q = passes (eqb (b .goals) 0 refuses 8) (not (leb named (b .goals)) refuses 6 ∷ []) (omega arith) (p .1) in
+          let t = tests-passed b literals named (s .held) bs at (sym fine) end (ap command is) in
+          let p = passes (ltb 0 (length after) refuses 7) (eqb (b .goals) 0 refuses 8 ∷ []) (omega arith) t in
+          let q = passes (eqb (b .goals) 0 refuses 8) [] (omega arith) (p .1) in
           omega (arith, eqb-false (b .goals) 0 (q .0))
 
-      all-named : leb named (b .goals) ≡ true
-      all-named =
-          let p =
-          passes (ltb 0 (length after) refuses 7) (eqb (b .goals) 0 refuses 8 ∷ not (leb named (b .goals)) refuses 6 ∷ []) (omega arith)
-          passed in
-          let q = passes (eqb (b .goals) 0 refuses 8) (not (leb named (b .goals)) refuses 6 ∷ []) (omega arith) (p .1) in
-          not-false (leb named (b .goals)) (passes (not (leb named (b .goals)) refuses 6) [] (omega arith) (q .1) .0)
-
-      pub ends : Read bs (record { number = 0; book = b })
+      pub ends : ReadNamed bs (record { reading = record { number = 0; book = b }; named = named })
       ends =
           let h = s .held in
           record {
-            means = sym (turn-end b literals named h bs at (sym fine) end (ap command is) refl) ∙ s .rest;
-            sound = λ z. record {
-              full = h .full;
-              ranged = h .ranged;
-              some-goal = some-goals;
-              few-goals = h .few-goals;
-              few-clauses = h .few-clauses;
-              few-literals = h .few-literals;
-              tiles = h .tiles;
-              named = h .naming (b .goals) ∙ all-named;
+            reads = record {
+              means = sym (turn-end b literals named h bs at (sym fine) end (ap command is) refl) ∙ s .rest;
+              formed = λ z. record {
+                full = h .full;
+                ranged = h .ranged;
+                some-goal = some-goals;
+                few-goals = h .few-goals;
+                few-clauses = h .few-clauses;
+                few-literals = h .few-literals;
+                tiles = h .tiles;
+              };
+              bare = λ n. absurd (n refl);
             };
-            bare = λ n. absurd (n refl);
+            naming = λ z. h .naming;
           }
 
     module _ (o : Operands) (ops : OperandsAt bs at o) where
@@ -394,7 +351,7 @@ module _ (bs : List ℕ) (b : Book) (literals named at : ℕ) (s : SoFar bs b li
               (straight-of which)
               ∙ ap (λ (k : said.Literal). add-literal k (view b)) e
 
-          goes-on : OfLiteral x → read-from (drop (o .next) bs) 0 (view grown) ≡ read-from (drop at bs) 0 (view b)
+          goes-on : OfLiteral x → loose-from (drop (o .next) bs) 0 (view grown) ≡ loose-from (drop at bs) 0 (view b)
           goes-on (of-positive e) =
               turn-on b literals named (s .held) bs at (sym fine) positive (code 0x50 e) refl grown (seen _ (kept-positive e)) (o .next)
               (ops .next-is ∙ ap (λ (y : ℕ). at + marked (command y) + 1) e)

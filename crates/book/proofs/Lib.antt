@@ -6,7 +6,9 @@ pub mod MoreGoals
 pub mod MoreClauses
 pub mod MoreLiterals
 pub mod Turns
+pub mod LiteralKinds
 pub mod Course
+pub mod Naming
 pub mod Fits
 pub mod Looks
 pub mod Limits

@@ -169,11 +169,11 @@ module _ (bs : List ℕ) (at : ℕ) (n : Counts) where
           ap (λ (f : ℕ). fault (clause-tests f (n .goals) (n .clauses))) (flags-at 2 (omega arith))
           ∙ sym (whole clause (ap command e) refl l)
 
-      pub fault-end : b ≡ 0x45 → fault (end-tests (length bs - (at + 1)) (n .goals) (n .named)) ≡ next-fault (drop at bs) n
+      pub fault-end : b ≡ 0x45 → fault (end-tests (length bs - (at + 1)) (n .goals)) ≡ next-fault (drop at bs) n
       fault-end e =
           let d : length (drop (suc at) bs) ≡ length bs - suc at = length-drop (suc at) bs in
           let s : length bs - (at + 1) ≡ length (drop (suc at) bs) = omega arith in
-          ap (λ (x : ℕ). fault (end-tests x (n .goals) (n .named))) s ∙ sym (whole end (ap command e) refl l)
+          ap (λ (x : ℕ). fault (end-tests x (n .goals))) s ∙ sym (whole end (ap command e) refl l)
 
       module _ (crossed : Bool) (ec : crossed ≡ crossed-by (eqb b 0x52) (u16 bs (at + 3)) (u16 bs (at + 5))) where
         -- a literal command whose flags are its operand k

@@ -1,4 +1,4 @@
--- The search for a clause that stands twice, through the arrays of a sound book, is the definitions' search through the book that they show.
+-- The search for a clause that stands twice, through the arrays of a sound book, is the definitions', through the book that they show.
 use Prim.Native.Nat.{ℕ, _+_, _-_, _≤_, _<_}
 use native.Mathlib.Omega.{arith}
 use mathlib.Core.Path.{_≡_, sym, ap, ap₂, _∙_}

@@ -1,6 +1,6 @@
 -- The refusals of one command as numbers, by what the reader has in hand.
 use Prim.Native.Nat.{ℕ}
-use mathlib.Core.Bool.{Bool, true, false, not}
+use mathlib.Core.Bool.{Bool, true, false}
 use mathlib.Core.List.{List, [], _∷_}
 use lib.ListN.{length}
 use lib.Dec.{ltb, leb, eqb}
@@ -48,19 +48,17 @@ abbrev pub literal-tests : (flags : ℕ) → (crossed : Bool) → (clauses liter
 literal-tests flags crossed clauses literals =
     eqb clauses 0 refuses 3 ∷ ltb 1 flags refuses 4 ∷ crossed refuses 32 ∷ leb most-literals literals refuses 5 ∷ []
 
-abbrev pub end-tests : (left goals named : ℕ) → List Test
-end-tests left goals named = ltb 0 left refuses 7 ∷ eqb goals 0 refuses 8 ∷ not (leb named goals) refuses 6 ∷ []
+abbrev pub end-tests : (left goals : ℕ) → List Test
+end-tests left goals = ltb 0 left refuses 7 ∷ eqb goals 0 refuses 8 ∷ []
 
--- what the reader has in hand: how many goals and clauses there are, how many literals the last clause has, and the least count of
--- goals that holds every goal named so far
+-- what the reader has in hand: how many goals and clauses there are, and how many literals the last clause has
 pub record Counts : Type 0 where
   pub goals : ℕ
   pub clauses : ℕ
   pub literals : ℕ
-  pub named : ℕ
 
-abbrev pub counts : ℕ → ℕ → ℕ → ℕ → Counts
-counts goals clauses literals named = record { goals = goals; clauses = clauses; literals = literals; named = named }
+abbrev pub counts : ℕ → ℕ → ℕ → Counts
+counts goals clauses literals = record { goals = goals; clauses = clauses; literals = literals }
 
 -- the tests of a command, by the bytes behind it
 abbrev pub command-tests : Command → List ℕ → Counts → List Test
@@ -69,7 +67,7 @@ command-tests clause after n = clause-tests (byte after 2) (n .goals) (n .clause
 command-tests positive after n = literal-tests (byte after 4) false (n .clauses) (n .literals)
 command-tests ranged after n = literal-tests (byte after 6) (ltb (u16 after 4) (u16 after 2)) (n .clauses) (n .literals)
 command-tests negative after n = literal-tests (byte after 2) false (n .clauses) (n .literals)
-command-tests end after n = end-tests (length after) (n .goals) (n .named)
+command-tests end after n = end-tests (length after) (n .goals)
 command-tests unknown after n = true refuses 2 ∷ []
 
 -- its operands have to be there first

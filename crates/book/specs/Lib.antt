@@ -4,3 +4,4 @@ pub mod View
 pub mod Access
 pub mod Fitting
 pub mod Repeats
+pub mod Naming

@@ -1,5 +1,5 @@
 // The refusals of a book's bytes (document 01, "Refused by the input"), in its order: for each command 1 (its byte), 2, 1 (its
-// operands), 3, 4, 32, 5, and for the end command 7, 8, 6.
+// operands), 3, 4, 32, 5, and for the end command 7, 8. The last, 6, takes the whole book: `read` tests it.
 use crate::decode::byte;
 use crate::decode::is_crossed;
 use crate::widths::CLAUSE;
@@ -53,17 +53,14 @@ fn literal_fault(flags: u8, crossed: bool, clauses: usize, literals: usize) -> u
     if literals >= 8 { 5 } else { 0 }
 }
 
-fn end_fault(left: usize, goals: usize, named: usize) -> u8
-    ensures { λ r. ⌜ r ≡ fault (end-tests left goals named) ⌝ }
+fn end_fault(left: usize, goals: usize) -> u8
+    ensures { λ r. ⌜ r ≡ fault (end-tests left goals) ⌝ }
 {
     if left > 0 {
         return 7;
     }
     if goals == 0 {
         return 8;
-    }
-    if named > goals {
-        return 6;
     }
     0
 }
@@ -75,9 +72,8 @@ pub(crate) fn next_fault(
     goals: usize,
     clauses: usize,
     literals: usize,
-    named: usize,
 ) -> u8
-    ensures { λ r. ⌜ r ≡ next-fault (drop at (now (bytes .entry))) (counts goals clauses literals named) ⌝ }
+    ensures { λ r. ⌜ r ≡ next-fault (drop at (now (bytes .entry))) (counts goals clauses literals) ⌝ }
 {
     if at >= bytes.len() {
         return 1;
@@ -101,7 +97,7 @@ pub(crate) fn next_fault(
         return clause_fault(flags, goals, clauses);
     }
     if b == END {
-        return end_fault(left, goals, named);
+        return end_fault(left, goals);
     }
     let crossed = is_crossed(bytes, at, b);
     literal_fault(flags, crossed, clauses, literals)

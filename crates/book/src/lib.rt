@@ -12,6 +12,7 @@ pub mod same;
 mod widths;
 
 pub use crate::reader::read;
+pub use crate::reader::read_loosely;
 pub use crate::reader::refused;
 
 // Goals, clauses and literals by number, so that each array can be lent alone. The clauses of goal g are the goal_len[g] clauses

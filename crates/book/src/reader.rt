@@ -7,8 +7,16 @@ use crate::widths::CLAUSE;
 use crate::widths::END;
 use crate::widths::GOAL;
 ghost use mathlib.Core.Path.{_≡_};
-ghost use Rattle.book.specs.View.{Read, blank as blankBook};
+ghost use Rattle.book.specs.View.{Read, ReadLoosely, blank as blankBook};
 ghost use Rattle.book.specs.Faults.{largest};
+ghost use Rattle.book.specs.Naming.{ReadNamed};
+
+// What is read without the test for 6; and `named` is the least count of goals that holds every goal named, so that nobody has to look
+// at the literals again.
+struct Named {
+    reading: Reading,
+    named: usize,
+}
 
 fn blank() -> Book
     ensures { λ r. ⌜ r ≡ blankBook ⌝ }
@@ -42,12 +50,9 @@ pub fn refused(number: u8) -> Reading
     Reading { number, book }
 }
 
-// The book that the bytes say, or the number by which they are refused. `Read` says that the result means what the definitions'
-// `read` gives, that an accepted book is sound, and that with a refusal the book is blank. `literals` are those of the last clause,
-// and `named` is the least count of goals that holds every goal named so far, so that the end command need not look at the literals
-// again.
-pub fn read(bytes: &[u8]) -> Reading
-    ensures { λ r. ⌜ Read (now (bytes .entry)) r ⌝ }
+// All tests but the one for 6, command by command. `literals` are those of the last clause, and `named` holds every goal named so far.
+fn read_named(bytes: &[u8]) -> Named
+    ensures { λ r. ⌜ ReadNamed (now (bytes .entry)) r ⌝ }
 {
     let mut book = blank();
     let mut literals: usize = 0;
@@ -56,13 +61,15 @@ pub fn read(bytes: &[u8]) -> Reading
     loop {
         let goals = book.goals;
         let clauses = book.clauses;
-        let fault = next_fault(bytes, at, goals, clauses, literals, named);
+        let fault = next_fault(bytes, at, goals, clauses, literals);
         if fault != 0 {
-            return refused(fault);
+            let reading = refused(fault);
+            return Named { reading, named };
         }
         let o = operands_at(bytes, at);
         if o.command == END {
-            return Reading { number: 0, book };
+            let reading = Reading { number: 0, book };
+            return Named { reading, named };
         }
         at = o.next;
         if o.command == GOAL {
@@ -87,4 +94,29 @@ pub fn read(bytes: &[u8]) -> Reading
             named = larger(named, o.number as usize + 1);
         }
     }
+}
+
+// The book that the bytes say, or the number by which they are refused. `Read` says that the result means what the definitions'
+// `read` gives, that an accepted book is sound, and that with a refusal the book is blank.
+pub fn read(bytes: &[u8]) -> Reading
+    ensures { λ r. ⌜ Read (now (bytes .entry)) r ⌝ }
+{
+    let all = read_named(bytes);
+    let reading = all.reading;
+    if reading.number != 0 {
+        return reading;
+    }
+    if all.named > reading.book.goals {
+        return refused(6);
+    }
+    reading
+}
+
+// The same without the test for 6: the literals of a book that is accepted may name goals that it has not.
+pub fn read_loosely(bytes: &[u8]) -> Reading
+    ensures { λ r. ⌜ ReadLoosely (now (bytes .entry)) r ⌝ }
+{
+    let all = read_named(bytes);
+    let reading = all.reading;
+    reading
 }

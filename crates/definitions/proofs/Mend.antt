@@ -147,7 +147,7 @@ goals-kept-once g n (h ∷ hs) =
 
 -- Reading is reading loosely, and then the test for 6.
 
-abbrev named : Refusable Book → Refusable Book
+abbrev pub named : Refusable Book → Refusable Book
 named (refused n) = refused n
 named (accepted book) = unless (not (goals-name (length book) book) refuses 6 ∷ []) book
 
@@ -164,7 +164,7 @@ end-tests false true r book e = refl
 end-tests false false true book e = ap (λ (b : Bool). unless (b refuses 6 ∷ []) book) (sym e)
 end-tests false false false book e = ap (λ (b : Bool). unless (b refuses 6 ∷ []) book) (sym e)
 
-read-named : (bs : List ℕ) (skip : ℕ) (book : Book) → read-from bs skip book ≡ named (loose-from bs skip book)
+pub read-named : (bs : List ℕ) (skip : ℕ) (book : Book) → read-from bs skip book ≡ named (loose-from bs skip book)
 read-named [] skip book = refl
 read-named (b ∷ bs) (suc skip) book = read-named bs skip book
 read-named (b ∷ bs) zero book = on (command b) (read-named bs)

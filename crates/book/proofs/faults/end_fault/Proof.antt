@@ -1,5 +1,5 @@
 -- `end_fault`: each test by its answer.
-use borrow.Author.Tests.{lt-ltb, le-ltb, le-leb, lt-leb, eq-eqb, ne-eqb}
+use borrow.Author.Tests.{lt-ltb, le-ltb, eq-eqb, ne-eqb}
 use Rattle.book.proofs.faults.end_fault.Statement.{statement}
 use Rattle.book.proofs.faults.end_fault.Tie as tie
 
@@ -10,10 +10,7 @@ returns-2 : tie.Need-returns-2
 returns-2 c = simp (le-ltb _ _ (c .before .if1 .left), eq-eqb _ _ (c .if2 .taken))
 
 returns-3 : tie.Need-returns-3
-returns-3 c = simp (le-ltb _ _ (c .before .before .if1 .left), ne-eqb _ _ (c .before .if2 .left), lt-leb _ _ (c .if3 .taken))
-
-returns-4 : tie.Need-returns-4
-returns-4 c = simp (le-ltb _ _ (c .before .before .if1 .left), ne-eqb _ _ (c .before .if2 .left), le-leb _ _ (c .if3 .left))
+returns-3 c = simp (le-ltb _ _ (c .before .if1 .left), ne-eqb _ _ (c .if2 .left))
 
 pub end-fault-spec : {M : Type 1} → statement M
-end-fault-spec = tie.close (tie.spec returns returns-2 returns-3 returns-4)
+end-fault-spec = tie.close (tie.spec returns returns-2 returns-3)

@@ -17,7 +17,7 @@ use Rattle.book.proofs.faults.next_fault.Tie as tie
 returns : tie.Need-returns
 returns c =
     let a = c .before .before .args in
-    fault-none (a .bytes .now) (a .at) (counts (a .goals) (a .clauses) (a .literals) (a .named)) (c .if1 .taken)
+    fault-none (a .bytes .now) (a .at) (counts (a .goals) (a .clauses) (a .literals)) (c .if1 .taken)
 
 byte-requires : tie.Need-byte-requires
 byte-requires c κs = search needs
@@ -30,7 +30,7 @@ returns-2 c =
     let w = c .before in
     let b = w .before in
     let a = b .before .before .before .args in
-    fault-unknown (a .bytes .now) (a .at) (counts (a .goals) (a .clauses) (a .literals) (a .named))
+    fault-unknown (a .bytes .now) (a .at) (counts (a .goals) (a .clauses) (a .literals))
     (b .before .if1 .left) (b .byte .result) (w .width .result) (b .byte .ensures) (w .width .ensures) (c .if2 .taken)
 
 add-left : tie.Need-add-left
@@ -48,7 +48,7 @@ returns-3 c =
     let w = e2 .before in
     let b = w .before in
     let a = b .before .before .before .args in
-    fault-short (a .bytes .now) (a .at) (counts (a .goals) (a .clauses) (a .literals) (a .named))
+    fault-short (a .bytes .now) (a .at) (counts (a .goals) (a .clauses) (a .literals))
     (b .before .if1 .left) (b .byte .result) (w .width .result) (b .byte .ensures) (w .width .ensures)
     (e2 .if2 .left) (c .if3 .taken)
 
@@ -70,7 +70,7 @@ returns-4 c =
     let b = w .before in
     let a = b .before .before .before .args in
     c .goal-fault .ensures
-    ∙ fault-goal (a .bytes .now) (a .at) (counts (a .goals) (a .clauses) (a .literals) (a .named))
+    ∙ fault-goal (a .bytes .now) (a .at) (counts (a .goals) (a .clauses) (a .literals))
     (b .before .if1 .left) (b .byte .result) (w .width .result) (b .byte .ensures) (w .width .ensures)
     (e3 .if3 .left) (f .byte2 .result) (f .byte2 .ensures) (c .before .if4 .taken)
 
@@ -86,7 +86,7 @@ returns-5 c =
     let b = w .before in
     let a = b .before .before .before .args in
     c .clause-fault .ensures
-    ∙ fault-clause (a .bytes .now) (a .at) (counts (a .goals) (a .clauses) (a .literals) (a .named))
+    ∙ fault-clause (a .bytes .now) (a .at) (counts (a .goals) (a .clauses) (a .literals))
     (b .before .if1 .left) (b .byte .result) (w .width .result) (b .byte .ensures) (w .width .ensures)
     (e3 .if3 .left) (f .byte2 .result) (f .byte2 .ensures) (c .before .if5 .taken)
 
@@ -102,7 +102,7 @@ returns-6 c =
     let b = w .before in
     let a = b .before .before .before .args in
     c .end-fault .ensures
-    ∙ fault-end (a .bytes .now) (a .at) (counts (a .goals) (a .clauses) (a .literals) (a .named))
+    ∙ fault-end (a .bytes .now) (a .at) (counts (a .goals) (a .clauses) (a .literals))
     (b .before .if1 .left) (b .byte .result) (w .width .result) (b .byte .ensures) (w .width .ensures)
     (e3 .if3 .left) (f .byte2 .result) (f .byte2 .ensures) (c .before .if6 .taken)
 
@@ -122,7 +122,7 @@ returns-7 c =
     let b = w .before in
     let a = b .before .before .before .args in
     c .literal-fault .ensures
-    ∙ fault-literal (a .bytes .now) (a .at) (counts (a .goals) (a .clauses) (a .literals) (a .named))
+    ∙ fault-literal (a .bytes .now) (a .at) (counts (a .goals) (a .clauses) (a .literals))
     (b .before .if1 .left) (b .byte .result) (w .width .result) (b .byte .ensures) (w .width .ensures)
     (e3 .if3 .left) (f .byte2 .result) (f .byte2 .ensures) (x .is-crossed .result) (x .is-crossed .ensures)
     (e2 .if2 .left) (x .before .before .before .if4 .left) (x .before .before .if5 .left) (x .before .if6 .left)
