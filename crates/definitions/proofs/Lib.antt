@@ -21,5 +21,6 @@ pub mod MendBooks
 pub mod MendReads
 pub mod MendCopies
 pub mod Mend
+pub mod MendRefused
 pub mod XsbOrder
 pub mod Xsb

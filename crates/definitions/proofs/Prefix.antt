@@ -27,7 +27,7 @@ use Rattle.definitions.proofs.Refusal.{not-accepted, all-pass}
 use Rattle.laws.proofs.Bools.{not-zero}
 
 -- a goal takes 2 bytes, a clause 4 and 8 literals of at most 8 each
-abbrev room : Book → ℕ
+abbrev pub room : Book → ℕ
 room book = 2 * (64 - length book) + 68 * (256 - clause-count book) + 8 * (8 - literals-so-far book)
 
 -- What a command that is accepted takes of the room.
@@ -51,7 +51,7 @@ literal-taken l flags book next e =
     subst (λ (n : Book). room n + 8 ≤ room book) (t .1)
     (literal-room book l (not-zero (clause-count book) (t .0 .0)) (leb-false 8 (literals-so-far book) (t .0 .1 .1 .1 .0)))
 
-taken : (c : Command) (after : List ℕ) (book next : Book) → is-end c ≡ false → apply-command c after book ≡ accepted next
+pub taken : (c : Command) (after : List ℕ) (book next : Book) → is-end c ≡ false → apply-command c after book ≡ accepted next
     → room next + suc (width c) ≤ room book
 taken goal after book next i e =
     let flags = byte after 0 in
