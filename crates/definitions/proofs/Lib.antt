@@ -22,5 +22,6 @@ pub mod MendReads
 pub mod MendCopies
 pub mod Mend
 pub mod MendRefused
+pub mod MendReasons
 pub mod XsbOrder
 pub mod Xsb

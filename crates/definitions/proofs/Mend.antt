@@ -60,7 +60,7 @@ drop-reasons : (n : ℕ) (before cs : List Clause) (ks : List Bool) → drop (le
 drop-reasons n before [] ks = refl
 drop-reasons n before (c ∷ cs) ks = drop-reasons n (push before c) cs ks
 
-staying-reasons : (n : ℕ) (hs : List Goal) → staying (map has-none (reasons-of n hs)) hs ≡ kept-goals n hs
+pub staying-reasons : (n : ℕ) (hs : List Goal) → staying (map has-none (reasons-of n hs)) hs ≡ kept-goals n hs
 staying-reasons n [] = refl
 staying-reasons n (h ∷ hs) =
     let rs = reasons-behind n [] (h .clauses) in
