@@ -32,6 +32,7 @@ pub mod LevelCases
 pub mod Xsb
 pub mod XsbCases
 pub mod Mend
+pub mod MendCases
 pub mod Claim
 pub mod Instances
 
