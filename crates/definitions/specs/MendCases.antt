@@ -34,6 +34,12 @@ not-mended n bytes = record { bytes = bytes; gives = refused n }
 
 -- Papers by their bytes.
 
+-- bytes behind a fact that stands twice and `0 :- 5`
+abbrev pub behind-both : List ℕ → List ℕ
+behind-both bytes =
+    0x47 ∷ 0x00 ∷ 0x43 ∷ 0x00 ∷ 0x00 ∷ 0x00 ∷ 0x43 ∷ 0x00 ∷ 0x00 ∷ 0x00
+    ∷ 0x43 ∷ 0x00 ∷ 0x00 ∷ 0x00 ∷ 0x50 ∷ 0x05 ∷ 0x00 ∷ 0x00 ∷ 0x00 ∷ 0x00 ∷ bytes
+
 abbrev pub by-bytes : List MendCase
 by-bytes =
     -- a fact twice
@@ -101,24 +107,30 @@ by-bytes =
     ∷ not-mended 3 (0x47 ∷ 0x00 ∷ 0x50 ∷ 0x05 ∷ 0x00 ∷ 0x00 ∷ 0x00 ∷ 0x00 ∷ 0x45 ∷ [])
     ∷ not-mended 4 (0x47 ∷ 0x04 ∷ 0x45 ∷ [])
     ∷ not-mended 8 (0x45 ∷ [])
-    -- every other number comes before 6 and 36: behind `0 :- 5` and a fact twice
-    ∷ map (λ (c : MendCase). record { bytes = 0x47 ∷ 0x00 ∷ 0x43 ∷ 0x00 ∷ 0x00 ∷ 0x00 ∷ 0x43 ∷ 0x00 ∷ 0x00 ∷ 0x00
-    ∷ 0x43 ∷ 0x00 ∷ 0x00 ∷ 0x00 ∷ 0x50 ∷ 0x05 ∷ 0x00 ∷ 0x00 ∷ 0x00 ∷ 0x00 ∷ c .bytes; gives = c .gives })
-    (mends (0x45 ∷ []) (0x47 ∷ 0x00 ∷ 0x43 ∷ 0x00 ∷ 0x00 ∷ 0x00 ∷ 0x45 ∷ []) (ascii "0 1 36\n0 2 6\n")
-    ∷ not-mended 1 []
-    ∷ not-mended 1 (0x43 ∷ 0x00 ∷ [])
-    ∷ not-mended 2 (0x00 ∷ [])
-    ∷ not-mended 4 (0x43 ∷ 0x00 ∷ 0x00 ∷ 0x04 ∷ 0x45 ∷ [])
-    ∷ not-mended 4 (0x4E ∷ 0x05 ∷ 0x00 ∷ 0x02 ∷ 0x45 ∷ [])
-    ∷ not-mended 32 (0x52 ∷ 0x05 ∷ 0x00 ∷ 0x03 ∷ 0x00 ∷ 0x02 ∷ 0x00 ∷ 0x00 ∷ 0x45 ∷ [])
-    ∷ not-mended 7 (0x45 ∷ 0x00 ∷ [])
-    ∷ [])
+    -- every other number comes before 6 and 36
+    ∷ mends (behind-both (0x45 ∷ [])) (0x47 ∷ 0x00 ∷ 0x43 ∷ 0x00 ∷ 0x00 ∷ 0x00 ∷ 0x45 ∷ []) (ascii "0 1 36\n0 2 6\n")
+    ∷ not-mended 1 (behind-both [])
+    ∷ not-mended 1 (behind-both (0x43 ∷ 0x00 ∷ []))
+    ∷ not-mended 2 (behind-both (0x00 ∷ []))
+    ∷ not-mended 4 (behind-both (0x43 ∷ 0x00 ∷ 0x00 ∷ 0x04 ∷ 0x45 ∷ []))
+    ∷ not-mended 4 (behind-both (0x4E ∷ 0x05 ∷ 0x00 ∷ 0x02 ∷ 0x45 ∷ []))
+    ∷ not-mended 32 (behind-both (0x52 ∷ 0x05 ∷ 0x00 ∷ 0x03 ∷ 0x00 ∷ 0x02 ∷ 0x00 ∷ 0x00 ∷ 0x45 ∷ []))
+    ∷ not-mended 7 (behind-both (0x45 ∷ 0x00 ∷ []))
+    ∷ []
 
 -- Papers by what they say.
 
 -- 8 literals, the last of which is of that goal
 abbrev pub eight : ℕ → Clause
 eight g = rule 0 (pos 0 ∷ neg 0 ∷ pos 0 ∷ range 0 1 2 ∷ pos 0 ∷ pos 0 ∷ pos 0 ∷ pos g ∷ [])
+
+-- clauses that differ in one thing alone: variant, a flag, the literals, their order, a want, a literal's flag
+abbrev pub unlike : List Clause
+unlike =
+    fact 0 ∷ fact 256 ∷ unproved 0 ∷ record { variant = 0; cannot-prove = false; outsized = true; literals = [] }
+    ∷ rule 0 (pos 0 ∷ []) ∷ rule 0 (pos 0 ∷ pos 0 ∷ []) ∷ rule 0 (pos 0 ∷ neg 0 ∷ []) ∷ rule 0 (neg 0 ∷ pos 0 ∷ [])
+    ∷ one-rule (range 0 0 65535) ∷ one-rule (range 0 3 3) ∷ one-rule (Positive 0 (exactly 3) false)
+    ∷ one-rule (Positive 0 any true) ∷ one-rule (neg 0) ∷ one-rule (Negative 0 true) ∷ []
 
 -- facts of as many variants
 abbrev pub facts : ℕ → List Clause
@@ -137,17 +149,11 @@ again-from i (suc n) = ascii "0 " ++ (decimal i ++ (ascii " 36\n" ++ again-from 
 
 abbrev pub by-books : List MendCase
 by-books =
-    -- nothing to mend: a goal alone; the same clause in two goals; a literal of the last goal, before it; of its own one
+    -- nothing to mend: a goal alone; clauses that are all unlike; the same one in two goals; a literal of the last goal, before it
     stays-as (write (none-of ∷ []))
+    ∷ stays-as (write (inductive unlike ∷ []))
     ∷ stays-as (write (by (fact 0) ∷ by (fact 0) ∷ []))
     ∷ stays-as (write (inductive (one-rule (pos 1) ∷ one-rule (neg 1) ∷ one-rule (pos 0) ∷ []) ∷ by (one-rule (pos 1)) ∷ []))
-    -- clauses that differ in one thing alone: variant, a flag, the literals, their order, a want, a literal's flag
-    ∷ stays-as (write (inductive (
-      fact 0 ∷ fact 256 ∷ unproved 0 ∷ record { variant = 0; cannot-prove = false; outsized = true; literals = [] }
-      ∷ rule 0 (pos 0 ∷ []) ∷ rule 0 (pos 0 ∷ pos 0 ∷ []) ∷ rule 0 (pos 0 ∷ neg 0 ∷ []) ∷ rule 0 (neg 0 ∷ pos 0 ∷ [])
-      ∷ one-rule (range 0 0 65535) ∷ one-rule (range 0 3 3) ∷ one-rule (Positive 0 (exactly 3) false)
-      ∷ one-rule (Positive 0 any true) ∷ one-rule (neg 0) ∷ one-rule (Negative 0 true) ∷ []
-    ) ∷ []))
     -- a literal of the goal behind the last is undefined: "not", a range and a want too
     ∷ mends-to
     (inductive (one-rule (pos 2) ∷ one-rule (pos 1) ∷ one-rule (neg 2) ∷ one-rule (range 2 0 1) ∷ one-rule (Positive 2 (exactly 1) true)
