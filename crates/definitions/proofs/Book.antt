@@ -70,7 +70,7 @@ add-clause-last c (h ∷ i ∷ gs) g = ap (λ (l : Book). h ∷ l) (add-clause-l
 
 -- A literal more.
 
-length-add-to-last : (l : Literal) (cs : List Clause) → length (add-to-last l cs) ≡ length cs
+pub length-add-to-last : (l : Literal) (cs : List Clause) → length (add-to-last l cs) ≡ length cs
 length-add-to-last l [] = refl
 length-add-to-last l (c ∷ []) = refl
 length-add-to-last l (c ∷ d ∷ cs) = ap suc (length-add-to-last l (d ∷ cs))

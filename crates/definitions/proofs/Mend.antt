@@ -1,10 +1,10 @@
 -- A mended paper is accepted by the desk, as the book without the clauses that go; an accepted paper is left as it is.
-use Prim.Native.Nat.{ℕ, zero, suc, _+_, _≤_, _<_}
+use Prim.Native.Nat.{ℕ, zero, suc}
 use native.Mathlib.Omega.{arith}
 use mathlib.Core.Path.{_≡_, refl, sym, ap, ap₂, subst, _∙_}
-use mathlib.Core.Bool.{Bool, true, false, not, false≢true}
+use mathlib.Core.Bool.{Bool, true, false, not}
 use mathlib.Core.Option.{Option, none, some}
-use mathlib.Core.List.{List, [], _∷_, _++_, map, append-nil, append-assoc, map-append}
+use mathlib.Core.List.{List, [], _∷_, _++_, map, map-append}
 use lib.Dec.{eqb, ltb}
 use lib.ListN.{length, drop}
 use borrow.Author.Tests.{le-ltb}
@@ -13,14 +13,14 @@ use Rattle.laws.proofs.Options.{no-such}
 use Rattle.laws.proofs.All.{All, end, more, all-append}
 use Rattle.definitions.specs.Refusal.{Refusable, refused, accepted, _refuses_, unless}
 use Rattle.definitions.specs.Lists.{push, position}
-use Rattle.definitions.specs.Book.{Clause, Goal, Book, command, width, with-clauses, literals-name, clauses-name, goals-name, read-from, read}
-use Rattle.definitions.specs.Book.{whole-command, is-end, end-command, Command, goal, clause, positive, ranged, negative, unknown}
+use Rattle.definitions.specs.Book.{Clause, Goal, Book, with-clauses, literals-name, clauses-name, goals-name, read-from, read}
+use Rattle.definitions.specs.Book.{Command, goal, clause, positive, ranged, negative, unknown, command, width, is-end}
+use Rattle.definitions.specs.Book.{whole-command, end-command}
 use Rattle.definitions.specs.Book.{end as end-of-book}
-use Rattle.definitions.specs.Desk.{same-clause, Repeat, repeat-behind, repeat-from, first-repeat, at-desk, desk}
-use Rattle.definitions.specs.Mend as mending
-use Rattle.definitions.specs.Mend.{loose-end, loose-from, read-loosely, repeated, reason, reasons-behind, reasons-of, reasons, kept-by}
-use Rattle.definitions.specs.Mend.{kept-behind, kept-goals, mended-book, Copying, has-none, at-clause, at-command, if-stays, copy, copied}
-use Rattle.definitions.specs.Mend.{reason-line, clause-lines, goal-lines, Mended, mended-from, mend}
+use Rattle.definitions.specs.Desk.{same-clause, Repeat, repeat-behind, repeat-from, at-desk, desk}
+use Rattle.definitions.specs.Mend.{loose-end, loose-from, read-loosely, repeated, reason, reasons-behind, reasons-of, reasons}
+use Rattle.definitions.specs.Mend.{kept-by, kept-behind, kept-goals, mended-book, Copying, has-none, at-clause, at-command}
+use Rattle.definitions.specs.Mend.{if-stays, copy, copied, reason-line, clause-lines, goal-lines, Mended, mended-from, mend}
 use Rattle.definitions.proofs.Refusal.{not-accepted, same-accepted, all-pass}
 use Rattle.definitions.proofs.Desk.{desk-took, desk-passes, none-found}
 use Rattle.definitions.proofs.MendBooks.{stay, staying}
@@ -65,7 +65,8 @@ staying-reasons n [] = refl
 staying-reasons n (h ∷ hs) =
     let rs = reasons-behind n [] (h .clauses) in
     let ks = map has-none (reasons-of n hs) in
-    ap (λ (l : List Bool). with-clauses h (stay l (h .clauses)) ∷ staying (drop (length (h .clauses)) l) hs) (map-append has-none rs (reasons-of n hs))
+    ap (λ (l : List Bool). with-clauses h (stay l (h .clauses)) ∷ staying (drop (length (h .clauses)) l) hs)
+    (map-append has-none rs (reasons-of n hs))
     ∙ ap₂ (λ (cs : List Clause) (l : List Bool). with-clauses h cs ∷ staying l hs) (stay-reasons n [] (h .clauses) ks)
     (drop-reasons n [] (h .clauses) ks)
     ∙ ap (λ (t : Book). with-clauses h (kept-behind n [] (h .clauses)) ∷ t) (staying-reasons n hs)
@@ -106,7 +107,8 @@ module _ (test : Clause → Bool) where
       on : (c : Bool) (o : Option ℕ) → position test (push l a) ≡ o
           → _≡_ {A = Option ℕ} (elim c [ true ↦ some 0 | false ↦ elim o [ none ↦ none | some i ↦ some (suc i) ] ]) none
           → (position test (push l a) ≡ none → (position test l ≡ none) × (test a ≡ false))
-          → (_≡_ {A = Option ℕ} (elim c [ true ↦ some 0 | false ↦ elim (position test l) [ none ↦ none | some i ↦ some (suc i) ] ]) none) × (test a ≡ false)
+          → (_≡_ {A = Option ℕ} (elim c [ true ↦ some 0 | false ↦ elim (position test l) [ none ↦ none | some i ↦ some (suc i) ] ]) none)
+          × (test a ≡ false)
       on true o z e f = absurd (no-such (sym e))
       on false (some i) z e f = absurd (no-such (sym e))
       on false none z e f = (ap (λ (o : Option ℕ). elim o [ none ↦ none | some i ↦ some (suc i) ]) (f z .0), f z .1)
@@ -118,7 +120,8 @@ module _ (test : Clause → Bool) where
       on : (c : Bool) (o : Option ℕ) → position test l ≡ o
           → _≡_ {A = Option ℕ} (elim c [ true ↦ some 0 | false ↦ elim o [ none ↦ none | some i ↦ some (suc i) ] ]) none
           → (position test l ≡ none → position test (push l a) ≡ none)
-          → _≡_ {A = Option ℕ} (elim c [ true ↦ some 0 | false ↦ elim (position test (push l a)) [ none ↦ none | some i ↦ some (suc i) ] ]) none
+          → _≡_ {A = Option ℕ}
+          (elim c [ true ↦ some 0 | false ↦ elim (position test (push l a)) [ none ↦ none | some i ↦ some (suc i) ] ]) none
       on true o z e f = absurd (no-such (sym e))
       on false (some i) z e f = absurd (no-such (sym e))
       on false none z e f = ap (λ (o : Option ℕ). elim o [ none ↦ none | some i ↦ some (suc i) ]) (f z)
@@ -196,7 +199,7 @@ read-named (b ∷ bs) zero book = on (command b) (read-named bs)
     on unknown ih = going unknown refl ih (whole-command unknown bs book)
     on end-of-book ih =
         ap (λ (c : Bool). onward true bs 0 (elim c [ true ↦ refused 1 | false ↦ end-command bs book ])) (le-ltb (length bs) 0 (omega arith))
-        ∙ same (unless (ltb 0 (length bs) refuses 7 ∷ eqb (length book) 0 refuses 8 ∷ not (goals-name (length book) book) refuses 6 ∷ []) book)
+        ∙ same (end-command bs book)
         ∙ end-tests (ltb 0 (length bs)) (eqb (length book) 0) (not (goals-name (length book) book)) book refl
       where
         same : (r : Refusable Book) → onward true bs 0 r ≡ onward true [] 0 r
@@ -230,31 +233,38 @@ mended-accepted bytes book e =
 abbrev NoReason : List (Option ℕ) → Type 0
 NoReason rs = All (λ (r : Option ℕ). r ≡ none) rs
 
-copy-whole : (bs : List ℕ) (skip : ℕ) (c : Copying) → c .stays ≡ true → c .last-stays ≡ true → NoReason (c .to-come) → copy bs skip c ≡ bs
+-- these bytes are copied as they are
+abbrev Whole : List ℕ → Type 0
+Whole bs = (skip : ℕ) (c : Copying) → c .stays ≡ true → c .last-stays ≡ true → NoReason (c .to-come) → copy bs skip c ≡ bs
+
+copy-whole : (bs : List ℕ) → Whole bs
 copy-whole [] skip c s l x = refl
-copy-whole (b ∷ bs) (suc skip) c s l x = ap (λ (t : Bool). if-stays t b (copy bs skip c)) s ∙ ap (λ (t : List ℕ). b ∷ t) (copy-whole bs skip c s l x)
+copy-whole (b ∷ bs) (suc skip) c s l x =
+    ap (λ (t : Bool). if-stays t b (copy bs skip c)) s ∙ ap (λ (t : List ℕ). b ∷ t) (copy-whole bs skip c s l x)
 copy-whole (b ∷ bs) zero c s l x = on (command b) (copy-whole bs)
   where
-    clause-on : (rs : List (Option ℕ)) → NoReason rs → ((skip : ℕ) (d : Copying) → d .stays ≡ true → d .last-stays ≡ true → NoReason (d .to-come)
-        → copy bs skip d ≡ bs) → if-stays (at-clause rs .stays) b (copy bs 3 (at-clause rs)) ≡ b ∷ bs
+    clause-on : (rs : List (Option ℕ)) → NoReason rs → Whole bs
+        → if-stays (at-clause rs .stays) b (copy bs 3 (at-clause rs)) ≡ b ∷ bs
     clause-on [] y ih = ap (λ (t : List ℕ). b ∷ t) (ih 3 (at-clause []) refl refl end)
     clause-on (r ∷ rs) (more e y) ih =
         let d = at-clause (r ∷ rs) in
         let k : has-none r ≡ true = ap has-none e in
         ap (λ (t : Bool). if-stays t b (copy bs 3 d)) k ∙ ap (λ (t : List ℕ). b ∷ t) (ih 3 d k k y)
 
-    on : (m : Command) → ((skip : ℕ) (d : Copying) → d .stays ≡ true → d .last-stays ≡ true → NoReason (d .to-come) → copy bs skip d ≡ bs)
-        → if-stays (at-command m c .stays) b (copy bs (width m) (at-command m c)) ≡ b ∷ bs
-    on goal ih = ap (λ (t : List ℕ). b ∷ t) (ih 1 (at-command goal c) refl l x)
+    as-whole : (m : Command) → at-command m c .stays ≡ true → at-command m c .last-stays ≡ true → NoReason (at-command m c .to-come)
+        → Whole bs → if-stays (at-command m c .stays) b (copy bs (width m) (at-command m c)) ≡ b ∷ bs
+    as-whole m s l x ih =
+        ap (λ (t : Bool). if-stays t b (copy bs (width m) (at-command m c))) s
+        ∙ ap (λ (t : List ℕ). b ∷ t) (ih (width m) (at-command m c) s l x)
+
+    on : (m : Command) → Whole bs → if-stays (at-command m c .stays) b (copy bs (width m) (at-command m c)) ≡ b ∷ bs
+    on goal ih = as-whole goal refl l x ih
     on clause ih = clause-on (c .to-come) x ih
-    on positive ih =
-        ap (λ (t : Bool). if-stays t b (copy bs 5 (at-command positive c))) l ∙ ap (λ (t : List ℕ). b ∷ t) (ih 5 (at-command positive c) l l x)
-    on ranged ih =
-        ap (λ (t : Bool). if-stays t b (copy bs 7 (at-command ranged c))) l ∙ ap (λ (t : List ℕ). b ∷ t) (ih 7 (at-command ranged c) l l x)
-    on negative ih =
-        ap (λ (t : Bool). if-stays t b (copy bs 3 (at-command negative c))) l ∙ ap (λ (t : List ℕ). b ∷ t) (ih 3 (at-command negative c) l l x)
-    on end-of-book ih = ap (λ (t : List ℕ). b ∷ t) (ih 0 (at-command end-of-book c) refl l x)
-    on unknown ih = ap (λ (t : List ℕ). b ∷ t) (ih 0 (at-command unknown c) refl l x)
+    on positive ih = as-whole positive l l x ih
+    on ranged ih = as-whole ranged l l x ih
+    on negative ih = as-whole negative l l x ih
+    on end-of-book ih = as-whole end-of-book refl l x ih
+    on unknown ih = as-whole unknown refl l x ih
 
 no-clause-line : (g i : ℕ) (rs : List (Option ℕ)) → NoReason rs → clause-lines g i rs ≡ []
 no-clause-line g i [] x = refl
@@ -307,7 +317,8 @@ mended-same bytes book e =
     (copy-whole bytes 0 (record { stays = true; last-stays = true; to-come = reasons book }) refl refl (n .0)) (n .1)
 
 -- mending twice is mending once
-pub mended-twice : (bytes : List ℕ) (m : Mended) → mend bytes ≡ accepted m → mend (m .bytes) ≡ accepted (record { bytes = m .bytes; lines = [] })
+pub mended-twice : (bytes : List ℕ) (m : Mended) → mend bytes ≡ accepted m
+    → mend (m .bytes) ≡ accepted (record { bytes = m .bytes; lines = [] })
 mended-twice bytes m e = on (read-loosely bytes) refl e
   where
     on : (r : Refusable Book) → read-loosely bytes ≡ r → mended-from bytes r ≡ accepted m

@@ -1,16 +1,17 @@
 -- A book of which some clauses go: what a command does to it is what it does to the whole book, or nothing.
-use Prim.Native.Nat.{ℕ, zero, suc, _+_, _-_, _≤_, _<_}
+use Prim.Native.Nat.{ℕ, zero, suc, _+_, _≤_, _<_}
 use native.Mathlib.Omega.{arith}
-use mathlib.Core.Path.{_≡_, refl, sym, ap, ap₂, subst, _∙_}
+use mathlib.Core.Path.{_≡_, refl, sym, ap, ap₂, _∙_}
 use mathlib.Core.Bool.{Bool, true, false, false≢true}
-use mathlib.Core.List.{List, [], _∷_, _++_}
+use mathlib.Core.List.{List, [], _∷_}
 use lib.Dec.{eqb}
 use lib.Seq.{getD-drop}
-use lib.ListN.{length, drop, getD, length-append}
+use lib.ListN.{length, drop, getD}
 use borrow.Author.Tests.{eq-eqb, ne-eqb, eqb-true, eqb-false}
 use Rattle.definitions.specs.Lists.{push}
 use Rattle.definitions.specs.Book.{Literal, Clause, Goal, Book, clause-count, with-clauses, add-clause, add-to-last, add-literal}
 use Rattle.definitions.specs.Book.{last-literals, literals-so-far}
+use Rattle.definitions.proofs.Book.{length-add-to-last}
 
 -- clauses that stay, by a flag for each; one without a flag stays
 abbrev pub stay : List Bool → List Clause → List Clause
@@ -144,17 +145,12 @@ stay-last (true ∷ ks) (c ∷ d ∷ cs) (suc i) h e =
     behind c (d ∷ cs) h = refl
 stay-last (false ∷ ks) (c ∷ d ∷ cs) (suc i) h e = stay-last ks (d ∷ cs) i (omega arith) e
 
-last-length : (l : Literal) (cs : List Clause) → length (add-to-last l cs) ≡ length cs
-last-length l [] = refl
-last-length l (c ∷ []) = refl
-last-length l (c ∷ d ∷ cs) = ap suc (last-length l (d ∷ cs))
-
 -- In a book the last clause is in the first goal, or behind it.
 
 record Behind (n m i : ℕ) : Type 0 where
-  pub rest : ℕ
-  pub many : m ≡ suc rest
-  pub place : i ≡ n + rest
+  rest : ℕ
+  many : m ≡ suc rest
+  place : i ≡ n + rest
 
 behind-first : (n m i : ℕ) → n + m ≡ suc i → (m ≡ 0 → ⊥) → Behind n m i
 behind-first n zero i h z = absurd (z refl)
@@ -194,7 +190,7 @@ literal-stays ks (g ∷ gs) l i h e = on (eqb (clause-count gs) 0) refl (literal
         let none-left : eqb (clause-count (staying (drop (length (g .clauses)) ks) gs)) 0 ≡ true
         = eq-eqb (clause-count (staying (drop (length (g .clauses)) ks) gs)) 0 (omega arith) in
         ap₂ (λ (cs : List Clause) (n : ℕ). with-clauses g cs ∷ staying (drop n ks) gs)
-        (stay-literal ks (g .clauses) l i (omega arith) e) (last-length l (g .clauses))
+        (stay-literal ks (g .clauses) l i (omega arith) e) (length-add-to-last l (g .clauses))
         ∙ sym (ap (λ (b : Bool). elim b [
           | true ↦ with-clauses g (add-to-last l (stay ks (g .clauses))) ∷ staying (drop (length (g .clauses)) ks) gs
           | false ↦ with-clauses g (stay ks (g .clauses)) ∷ add-literal l (staying (drop (length (g .clauses)) ks) gs)
@@ -222,7 +218,7 @@ literal-goes ks (g ∷ gs) l i h e = on (eqb (clause-count gs) 0) refl (literal-
     on true z f =
         let z0 = eqb-true (clause-count gs) 0 z in
         ap₂ (λ (cs : List Clause) (n : ℕ). with-clauses g cs ∷ staying (drop n ks) gs)
-        (stay-no-literal ks (g .clauses) l i (omega arith) e) (last-length l (g .clauses))
+        (stay-no-literal ks (g .clauses) l i (omega arith) e) (length-add-to-last l (g .clauses))
     on false z f =
         let b = behind-first (length (g .clauses)) (clause-count gs) i h (eqb-false (clause-count gs) 0 z) in
         ap (λ (t : Book). with-clauses g (stay ks (g .clauses)) ∷ t)

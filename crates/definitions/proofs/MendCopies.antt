@@ -1,23 +1,24 @@
 -- Copying a paper's commands, beside its reading.
-use Prim.Native.Nat.{ℕ, zero, suc, _+_, _-_, _≤_, _<_}
+use Prim.Native.Nat.{ℕ, zero, suc, _≤_}
 use native.Mathlib.Omega.{arith}
-use mathlib.Core.Path.{_≡_, refl, sym, ap, ap₂, subst, _∙_}
+use mathlib.Core.Path.{_≡_, refl, sym, ap, _∙_}
 use mathlib.Core.Bool.{Bool, true, false, false≢true}
 use mathlib.Core.List.{List, [], _∷_, _++_}
 use lib.Dec.{eqb, ltb, leb}
 use lib.ListN.{length, getD}
-use borrow.Author.Tests.{eq-eqb, ltb-false, le-ltb, lt-ltb, eqb-false}
+use borrow.Author.Tests.{ltb-false, le-ltb, lt-ltb}
 use Rattle.definitions.specs.Refusal.{Refusable, refused, accepted, _refuses_, unless}
-use Rattle.definitions.specs.Book.{Literal, Positive, Negative, between, Clause, Goal, Book, most-goals, most-clauses, most-literals}
-use Rattle.definitions.specs.Book.{Command, goal, clause, positive, ranged, negative, end, unknown, command, width, byte, u16, bit0, bit1}
+use Rattle.definitions.specs.Book.{Literal, Positive, Negative, between, Goal, Book, most-goals, most-clauses, most-literals}
+use Rattle.definitions.specs.Book.{Command, goal, clause, positive, ranged, negative, end, unknown, command, width}
 use Rattle.definitions.specs.Book.{clause-count, add-clause, add-literal, literals-so-far, crossed, want-of, is-end, apply-command}
-use Rattle.definitions.specs.Book.{goal-command, clause-command, literal-command, whole-command}
+use Rattle.definitions.specs.Book.{byte, u16, bit0, bit1, literal-command, whole-command}
 use Rattle.definitions.specs.Mend.{loose-end, loose-from, Copying, at-clause, at-literal, at-other, at-command, if-stays, copy}
+use Rattle.laws.proofs.Bools.{not-zero}
 use Rattle.definitions.proofs.Refusal.{not-accepted, all-pass}
+use Rattle.definitions.proofs.Book.{clause-count-goal, clause-count-add-clause, added}
 use Rattle.definitions.proofs.MendBooks.{staying, staying-length}
 use Rattle.definitions.proofs.MendReads.{operand, long-enough, operands-same, goal-on, clause-on, clause-off, new-clause, literal-on}
-use Rattle.definitions.proofs.MendReads.{literal-off, has-clause, count-append, count-clause, count-literal, Along, clause-flag, flag-here}
-use Rattle.definitions.proofs.MendReads.{along-clause, along-same}
+use Rattle.definitions.proofs.MendReads.{literal-off, has-clause, Along, clause-flag, flag-here, along-clause, along-same}
 
 -- One command.
 
@@ -31,12 +32,13 @@ abbrev tested : Bool → Command → List ℕ → Book → Refusable Book
 tested b m bs book = elim b [ true ↦ refused 1 | false ↦ apply-command m bs book ]
 
 record Taken (m : Command) (bs : List ℕ) (book final : Book) : Type 0 where
-  pub next : Book
-  pub long : width m ≤ length bs
-  pub applied : apply-command m bs book ≡ accepted next
-  pub then : loose-from bs (width m) next ≡ accepted final
+  next : Book
+  long : width m ≤ length bs
+  applied : apply-command m bs book ≡ accepted next
+  then : loose-from bs (width m) next ≡ accepted final
 
-taken : (m : Command) (bs : List ℕ) (book final : Book) → is-end m ≡ false → loose-command m bs book ≡ accepted final → Taken m bs book final
+taken : (m : Command) (bs : List ℕ) (book final : Book) → is-end m ≡ false → loose-command m bs book ≡ accepted final
+    → Taken m bs book final
 taken m bs book final z e =
     on (ltb (length bs) (width m)) refl
     (sym (ap (λ (b : Bool). elim b [
@@ -122,10 +124,10 @@ goal-copied : (ks : List Bool) (b : ℕ) (bs : List ℕ) (c : Copying) (book fin
     → loose-from (b ∷ copy bs 1 (at-other c)) 0 (staying ks book) ≡ accepted (staying ks final)
 goal-copied ks b bs c book final m al ih e =
     let t = taken goal bs book final refl e in
-    let a = all-pass (ltb 3 (byte bs 0) refuses 4 ∷ leb most-goals (length book) refuses 5 ∷ [])
-    (book ++ (record { coinductive = bit0 (byte bs 0); floundered = bit1 (byte bs 0); clauses = [] } ∷ [])) (t .next) (t .applied) in
-    let n = count-append book (record { coinductive = bit0 (byte bs 0); floundered = bit1 (byte bs 0); clauses = [] } ∷ []) in
-    let same : clause-count (t .next) ≡ clause-count book = omega (arith, ap clause-count (a .1)) in
+    let g : Goal = record { coinductive = bit0 (byte bs 0); floundered = bit1 (byte bs 0); clauses = [] } in
+    let a = all-pass (ltb 3 (byte bs 0) refuses 4 ∷ leb most-goals (length book) refuses 5 ∷ []) (book ++ (g ∷ [])) (t .next)
+    (t .applied) in
+    let same : clause-count (t .next) ≡ clause-count book = ap clause-count (sym (a .1)) ∙ clause-count-goal book g refl in
     stays-on goal b bs (at-other c) (staying ks book) (staying ks (t .next)) (accepted (staying ks final)) m refl refl (t .long)
     (goal-on ks bs book (t .next) (t .applied))
     (ih 1 (at-other c) (t .next) (along-same ks book (t .next) c (at-other c) al same refl refl) (t .then))
@@ -140,20 +142,21 @@ clause-copied ks b bs c book final m al ih e =
     let a = all-pass (eqb (length book) 0 refuses 3 ∷ ltb 3 (byte bs 2) refuses 4 ∷ leb most-clauses (clause-count book) refuses 5 ∷ [])
     (add-clause (new-clause bs) book) (t .next) (t .applied) in
     let more : clause-count (t .next) ≡ suc (clause-count book)
-    = ap clause-count (sym (a .1)) ∙ count-clause (new-clause bs) book (eqb-false (length book) 0 (a .0 .0)) in
+    = ap clause-count (sym (a .1)) ∙ clause-count-add-clause (new-clause bs) book (not-zero (length book) (a .0 .0)) in
     let rest = ih 3 d (t .next) (along-clause ks book (t .next) c al more) (t .then) in
     let flag : d .stays ≡ getD ks (clause-count book) true = clause-flag (c .to-come) ∙ flag-here ks book c al in
     on t rest flag (getD ks (clause-count book) true) refl
   where
     on : (t : Taken clause bs book final)
-        → loose-from (copy bs 3 (at-clause (c .to-come))) (left (at-clause (c .to-come) .stays) 3) (staying ks (t .next)) ≡ accepted (staying ks final)
+        → loose-from (copy bs 3 (at-clause (c .to-come))) (left (at-clause (c .to-come) .stays) 3) (staying ks (t .next))
+        ≡ accepted (staying ks final)
         → at-clause (c .to-come) .stays ≡ getD ks (clause-count book) true
         → (k : Bool) → getD ks (clause-count book) true ≡ k
         → loose-from (if-stays (at-clause (c .to-come) .stays) b (copy bs 3 (at-clause (c .to-come)))) 0 (staying ks book)
         ≡ accepted (staying ks final)
     on t rest flag true k =
-        stays-on clause b bs (at-clause (c .to-come)) (staying ks book) (staying ks (t .next)) (accepted (staying ks final)) m refl (flag ∙ k)
-        (t .long) (clause-on ks bs book (t .next) k (t .applied)) rest
+        stays-on clause b bs (at-clause (c .to-come)) (staying ks book) (staying ks (t .next)) (accepted (staying ks final)) m refl
+        (flag ∙ k) (t .long) (clause-on ks bs book (t .next) k (t .applied)) rest
     on t rest flag false k =
         goes-on clause b bs (at-clause (c .to-come)) (staying ks book) (staying ks (t .next)) (accepted (staying ks final)) (flag ∙ k)
         (clause-off ks bs book (t .next) k (t .applied)) rest
@@ -168,12 +171,13 @@ literal-copied m l flags ks b bs c book final z does k al ih e =
     let i = has-clause l flags book (t .next) applied in
     let a = all-pass (eqb (clause-count book) 0 refuses 3 ∷ ltb 1 flags refuses 4 ∷ crossed l refuses 32
     ∷ leb most-literals (literals-so-far book) refuses 5 ∷ []) (add-literal l book) (t .next) applied in
-    let same : clause-count (t .next) ≡ clause-count book = ap clause-count (sym (a .1)) ∙ count-literal l book in
+    let same : clause-count (t .next) ≡ clause-count book = ap clause-count (sym (a .1)) ∙ added l book .same-clauses in
     let rest = ih (width m) (at-literal c) (t .next) (along-same ks book (t .next) c (at-literal c) al same refl refl) (t .then) in
     on t applied (i .0) (i .1) rest (al .last (i .0) (i .1)) (getD ks (i .0) true) refl
   where
     on : (t : Taken m bs book final) → literal-command l flags book ≡ accepted (t .next) → (i : ℕ) → clause-count book ≡ suc i
-        → loose-from (copy bs (width m) (at-literal c)) (left (c .last-stays) (width m)) (staying ks (t .next)) ≡ accepted (staying ks final)
+        → loose-from (copy bs (width m) (at-literal c)) (left (c .last-stays) (width m)) (staying ks (t .next))
+        ≡ accepted (staying ks final)
         → c .last-stays ≡ getD ks i true → (q : Bool) → getD ks i true ≡ q
         → loose-from (if-stays (c .last-stays) b (copy bs (width m) (at-literal c))) 0 (staying ks book) ≡ accepted (staying ks final)
     on t applied i n rest flag true q =
@@ -191,10 +195,11 @@ by-command : (ks : List Bool) (m : Command) (b : ℕ) (bs : List ℕ) (c : Copyi
 by-command ks goal b bs c book final k al ih e = goal-copied ks b bs c book final k al ih e
 by-command ks clause b bs c book final k al ih e = clause-copied ks b bs c book final k al ih e
 by-command ks positive b bs c book final k al ih e =
-    literal-copied positive (Positive (u16 bs 0) (want-of (u16 bs 2)) (bit0 (byte bs 4))) (byte bs 4) ks b bs c book final refl (λ g. refl) k al ih e
+    literal-copied positive (Positive (u16 bs 0) (want-of (u16 bs 2)) (bit0 (byte bs 4))) (byte bs 4)
+    ks b bs c book final refl (λ g. refl) k al ih e
 by-command ks ranged b bs c book final k al ih e =
-    literal-copied ranged (Positive (u16 bs 0) (between (u16 bs 2) (u16 bs 4)) (bit0 (byte bs 6))) (byte bs 6) ks b bs c book final refl (λ g. refl)
-    k al ih e
+    literal-copied ranged (Positive (u16 bs 0) (between (u16 bs 2) (u16 bs 4)) (bit0 (byte bs 6))) (byte bs 6)
+    ks b bs c book final refl (λ g. refl) k al ih e
 by-command ks negative b bs c book final k al ih e =
     literal-copied negative (Negative (u16 bs 0) (bit0 (byte bs 2))) (byte bs 2) ks b bs c book final refl (λ g. refl) k al ih e
 by-command ks end b bs c book final k al ih e = end-copied ks b bs c book final k e

@@ -1,31 +1,31 @@
 -- The bytes of a mended paper are read as its book without the clauses that go.
-use Prim.Native.Nat.{ℕ, zero, suc, _+_, _-_, _*_, _≤_, _<_}
+use Prim.Native.Nat.{ℕ, zero, suc, _+_, _*_, _≤_, _<_}
 use native.Mathlib.Omega.{arith}
-use mathlib.Core.Path.{_≡_, refl, sym, ap, ap₂, subst, _∙_}
+use mathlib.Core.Path.{_≡_, refl, sym, ap, ap₂, _∙_}
 use mathlib.Core.Bool.{Bool, true, false, false≢true}
-use mathlib.Core.Option.{Option, none, some}
+use mathlib.Core.Option.{Option}
 use mathlib.Core.List.{List, [], _∷_, _++_, map}
 use lib.Dec.{eqb, ltb, leb}
 use lib.Seq.{getD-drop, drop-drop}
-use lib.ListN.{length, drop, getD, length-append}
-use borrow.Author.Tests.{eq-eqb, ne-eqb, eqb-false, ltb-false, le-ltb, leb-false, lt-leb}
-use Rattle.definitions.specs.Refusal.{Refusable, refused, accepted, _refuses_, unless}
-use Rattle.definitions.specs.Lists.{push}
+use lib.ListN.{length, drop, getD}
+use borrow.Author.Tests.{ne-eqb, eqb-false, leb-false, lt-leb}
+use Rattle.definitions.specs.Refusal.{accepted, _refuses_, unless}
 use Rattle.definitions.specs.Book.{Literal, Positive, Negative, between, Clause, Goal, Book, most-goals, most-clauses, most-literals}
-use Rattle.definitions.specs.Book.{Command, goal, clause, positive, ranged, negative, end, unknown, command, width, byte, u16, bit0, bit1}
+use Rattle.definitions.specs.Book.{Command, goal, clause, positive, ranged, negative, end, unknown, width, byte, u16, bit0, bit1}
 use Rattle.definitions.specs.Book.{clause-count, add-clause, add-literal, literals-so-far, crossed, want-of, is-end, apply-command}
-use Rattle.definitions.specs.Book.{with-clauses, add-to-last, goal-command, clause-command, literal-command, whole-command}
-use Rattle.definitions.specs.Mend.{loose-end, loose-from, Copying, has-none, at-clause, at-command, if-stays, copy}
-use Rattle.definitions.proofs.Refusal.{not-accepted, all-pass}
-use Rattle.definitions.proofs.MendBooks.{staying, staying-length, staying-fewer, staying-goal, clause-stays, clause-goes, staying-some}
-use Rattle.definitions.proofs.MendBooks.{literal-stays, literal-goes, last-stays}
+use Rattle.definitions.specs.Book.{goal-command, clause-command, literal-command}
+use Rattle.definitions.specs.Mend.{Copying, has-none, at-clause, if-stays, copy}
+use Rattle.definitions.proofs.Refusal.{all-pass}
+use Rattle.definitions.proofs.MendBooks.{staying, staying-length, staying-fewer, staying-goal, clause-stays, clause-goes}
+use Rattle.definitions.proofs.MendBooks.{staying-some, literal-stays, literal-goes, last-stays}
 
 -- Operands of a command that stays.
 
 copy-on : (b : ℕ) (bs : List ℕ) (n : ℕ) (d : Copying) → d .stays ≡ true → copy (b ∷ bs) (suc n) d ≡ b ∷ copy bs n d
 copy-on b bs n d e = ap (λ (s : Bool). if-stays s b (copy bs n d)) e
 
-pub operand : (n i : ℕ) (bs : List ℕ) (d : Copying) → d .stays ≡ true → n ≤ length bs → i < n → _≡_ {A = ℕ} (getD (copy bs n d) i 0) (getD bs i 0)
+pub operand : (n i : ℕ) (bs : List ℕ) (d : Copying) → d .stays ≡ true → n ≤ length bs → i < n
+    → _≡_ {A = ℕ} (getD (copy bs n d) i 0) (getD bs i 0)
 operand zero i bs d e h k = absurd (omega arith)
 operand (suc n) i [] d e h k = absurd (omega arith)
 operand (suc n) zero (b ∷ bs) d e h k = ap (λ (l : List ℕ). getD l 0 0) (copy-on b bs n d e)
@@ -134,32 +134,6 @@ has-clause l flags book next e = on (clause-count book) refl
         ∷ leb most-literals (literals-so-far book) refuses 5 ∷ []) (add-literal l book) next e in
         absurd (eqb-false (clause-count book) 0 (a .0 .0) z)
     on (suc i) z = (i, z)
-
--- How many clauses there are then.
-
-pub count-append : (gs hs : Book) → clause-count (gs ++ hs) ≡ clause-count gs + clause-count hs
-count-append [] hs = let e : clause-count hs ≡ 0 + clause-count hs = omega arith in e
-count-append (g ∷ gs) hs = let e = count-append gs hs in omega arith
-
-pub count-clause : (c : Clause) (gs : Book) → (length gs ≡ 0 → ⊥) → clause-count (add-clause c gs) ≡ suc (clause-count gs)
-count-clause c [] n = absurd (n refl)
-count-clause c (g ∷ []) n = let e = length-append (g .clauses) (c ∷ []) in omega arith
-count-clause c (g ∷ h ∷ gs) n = let e = count-clause c (h ∷ gs) (λ z. omega arith) in omega arith
-
-last-length : (l : Literal) (cs : List Clause) → length (add-to-last l cs) ≡ length cs
-last-length l [] = refl
-last-length l (c ∷ []) = refl
-last-length l (c ∷ d ∷ cs) = ap suc (last-length l (d ∷ cs))
-
-pub count-literal : (l : Literal) (gs : Book) → clause-count (add-literal l gs) ≡ clause-count gs
-count-literal l [] = refl
-count-literal l (g ∷ gs) = on (eqb (clause-count gs) 0) (count-literal l gs)
-  where
-    on : (b : Bool) → clause-count (add-literal l gs) ≡ clause-count gs
-        → clause-count (elim b [ true ↦ with-clauses g (add-to-last l (g .clauses)) ∷ gs | false ↦ g ∷ add-literal l gs ])
-        ≡ length (g .clauses) + clause-count gs
-    on true e = ap (λ (n : ℕ). n + clause-count gs) (last-length l (g .clauses))
-    on false e = ap (λ (n : ℕ). length (g .clauses) + n) e
 
 -- Copying keeps beside reading.
 

@@ -9,8 +9,8 @@ use lib.ListN.{length}
 use lib.Dec.{eqb, ltb}
 use Rattle.definitions.specs.Refusal.{Refusable, refused, accepted, _refuses_, unless}
 use Rattle.definitions.specs.Lists.{push, position}
-use Rattle.definitions.specs.Book.{Clause, Goal, Book, Command, goal, clause, positive, ranged, negative, end, unknown, command, width}
-use Rattle.definitions.specs.Book.{with-clauses, literals-name, whole-command, is-end}
+use Rattle.definitions.specs.Book.{Clause, Goal, Book, Command, goal, clause, positive, ranged, negative, end, unknown, command}
+use Rattle.definitions.specs.Book.{width, with-clauses, literals-name, whole-command, is-end}
 use Rattle.definitions.specs.Desk.{same-clause}
 use Rattle.definitions.specs.Ascii.{ascii}
 use Rattle.definitions.specs.Listing.{decimal}
