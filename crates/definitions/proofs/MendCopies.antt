@@ -1,4 +1,4 @@
--- Copying a paper's commands, beside its reading.
+-- The bytes of a mended paper are read as its book without the clauses that go: its commands are copied beside its reading.
 use Prim.Native.Nat.{ℕ, zero, suc, _≤_}
 use native.Mathlib.Omega.{arith}
 use mathlib.Core.Path.{_≡_, refl, sym, ap, _∙_}

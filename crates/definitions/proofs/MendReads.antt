@@ -1,4 +1,4 @@
--- The bytes of a mended paper are read as its book without the clauses that go.
+-- What a command does to a book of which some clauses go, by the operands that are copied, and how copying keeps beside reading.
 use Prim.Native.Nat.{ℕ, zero, suc, _+_, _*_, _≤_, _<_}
 use native.Mathlib.Omega.{arith}
 use mathlib.Core.Path.{_≡_, refl, sym, ap, ap₂, _∙_}
