@@ -9,7 +9,7 @@ mod keys;
 mod reader;
 mod repeats;
 pub mod same;
-mod widths;
+pub mod widths;
 
 pub use crate::reader::read;
 pub use crate::reader::read_loosely;

@@ -4,20 +4,20 @@ ghost use mathlib.Core.Path.{_≡_};
 ghost use Rattle.definitions.specs.Book.{command};
 ghost use Rattle.book.specs.Faults.{marked};
 
-pub(crate) const GOAL: u8 = 0x47;
+pub const GOAL: u8 = 0x47;
 
-pub(crate) const CLAUSE: u8 = 0x43;
+pub const CLAUSE: u8 = 0x43;
 
-pub(crate) const POSITIVE: u8 = 0x50;
+pub const POSITIVE: u8 = 0x50;
 
-pub(crate) const RANGED: u8 = 0x52;
+pub const RANGED: u8 = 0x52;
 
-pub(crate) const NEGATIVE: u8 = 0x4E;
+pub const NEGATIVE: u8 = 0x4E;
 
-pub(crate) const END: u8 = 0x45;
+pub const END: u8 = 0x45;
 
 // the mark of a byte that is no command
-pub(crate) const UNKNOWN: u8 = 255;
+pub const UNKNOWN: u8 = 255;
 
 const WIDTHS: [u8; 256] = [
     255,
@@ -278,7 +278,7 @@ const WIDTHS: [u8; 256] = [
     255,
 ];
 
-pub(crate) fn width(b: u8) -> u8
+pub fn width(b: u8) -> u8
     ensures { λ r. ⌜ r ≡ marked (command b) ⌝ }
 {
     let k = b as usize;

@@ -1,0 +1,34 @@
+-- `refusal_line`: .
+use Rattle.mending.proofs.Mends.{refusal-told}
+use borrow.Author.Needs.{needs}
+use Rattle.mending.proofs.mend.refusal_line.Statement.{statement}
+use Rattle.mending.proofs.mend.refusal_line.Tie as tie
+
+slice-aggregate-counted : tie.Need-slice-aggregate-counted
+slice-aggregate-counted c = search needs
+
+counted-requires : tie.Need-counted-requires
+counted-requires c κs = search needs
+
+slice-aggregate-text : tie.Need-slice-aggregate-text
+slice-aggregate-text c = search needs
+
+text-requires : tie.Need-text-requires
+text-requires c κs = search needs
+
+same-length : tie.Need-same-length
+same-length c = search needs
+
+returns : tie.Need-returns
+returns c = search refusal-told
+
+pub refusal-line-spec : {M : Type 1} → statement M
+refusal-line-spec =
+    tie.close
+    (tie.spec
+    slice-aggregate-counted
+    counted-requires
+    slice-aggregate-text
+    text-requires
+    same-length
+    returns)
