@@ -116,7 +116,5 @@ pub fn read(bytes: &[u8]) -> Reading
 pub fn read_loosely(bytes: &[u8]) -> Reading
     ensures { λ r. ⌜ ReadLoosely (now (bytes .entry)) r ⌝ }
 {
-    let all = read_named(bytes);
-    let reading = all.reading;
-    reading
+    read_named(bytes).reading
 }

@@ -63,13 +63,15 @@ clause-fits a e =
     clause-room (bytes l) (l .loop .book) (l .loop .literals) (l .loop .named) (l .loop .at) (l .loop .inv) (fine (a .before))
     (a .operands-at .result) (a .operands-at .ensures) e
 
-literal-fits : (a : tie.After-operands-at Inv-loop μ-loop) → (a .operands-at .result .command ≡ 0x45 → ⊥)
-    → (a .operands-at .result .command ≡ 0x47 → ⊥) → (a .operands-at .result .command ≡ 0x43 → ⊥)
-    → (0 < a .before .before .before .loop .book .clauses) × (a .before .before .before .loop .literals < 8)
-literal-fits a e g k =
+literal-fits : (e : tie.Else4 Inv-loop μ-loop)
+    → (0 < e .before .before .before .before .before .before .before .before .before .loop .book .clauses)
+    × (e .before .before .before .before .before .before .before .before .before .loop .literals < 8)
+literal-fits e =
+    let a = e .before .before .before .before .before .before in
     let l = a .before .before .before in
     literal-room (bytes l) (l .loop .book) (l .loop .literals) (l .loop .named) (l .loop .at) (l .loop .inv) (fine (a .before))
-    (a .operands-at .result) (a .operands-at .ensures) g k e
+    (a .operands-at .result) (a .operands-at .ensures) (e .before .before .if3 .left) (e .if4 .left)
+    (e .before .before .before .before .if2 .left)
 
 blank-requires : tie.Need-blank-requires Inv-loop μ-loop
 blank-requires c κs = search needs
@@ -228,102 +230,72 @@ loop-again-2 c =
 
 sub-place : tie.Need-sub-place Inv-loop μ-loop
 sub-place c =
-    let r =
-    literal-fits (c .before .before .before .before .before .before) (c .before .before .before .before .if2 .left)
-    (c .before .before .if3 .left) (c .if4 .left) in
+    let r = literal-fits c in
     search needs
 
 mul-place : tie.Need-mul-place Inv-loop μ-loop
 mul-place c =
-    let r =
-    literal-fits (c .before .before .before .before .before .before) (c .before .before .before .before .if2 .left)
-    (c .before .before .if3 .left) (c .if4 .left) in
+    let r = literal-fits c in
     search needs
 
 add-place : tie.Need-add-place Inv-loop μ-loop
 add-place c =
-    let r =
-    literal-fits (c .before .before .before .before .before .before) (c .before .before .before .before .if2 .left)
-    (c .before .before .if3 .left) (c .if4 .left) in
+    let r = literal-fits c in
     search needs
 
 element-write-book-8 : tie.Need-element-write-book-8 Inv-loop μ-loop
 element-write-book-8 c =
-    let r =
-    literal-fits (c .before .before .before .before .before .before) (c .before .before .before .before .if2 .left)
-    (c .before .before .if3 .left) (c .if4 .left) in
+    let r = literal-fits c in
     search needs
 
 mul-book-6 : tie.Need-mul-book-6 Inv-loop μ-loop
 mul-book-6 c =
-    let r =
-    literal-fits (c .before .before .before .before .before .before) (c .before .before .before .before .if2 .left)
-    (c .before .before .if3 .left) (c .if4 .left) in
+    let r = literal-fits c in
     search needs
 
 element-write-book-9 : tie.Need-element-write-book-9 Inv-loop μ-loop
 element-write-book-9 c =
-    let r =
-    literal-fits (c .before .before .before .before .before .before) (c .before .before .before .before .if2 .left)
-    (c .before .before .if3 .left) (c .if4 .left) in
+    let r = literal-fits c in
     search needs
 
 mul-book-7 : tie.Need-mul-book-7 Inv-loop μ-loop
 mul-book-7 c =
-    let r =
-    literal-fits (c .before .before .before .before .before .before) (c .before .before .before .before .if2 .left)
-    (c .before .before .if3 .left) (c .if4 .left) in
+    let r = literal-fits c in
     search needs
 
 element-write-book-10 : tie.Need-element-write-book-10 Inv-loop μ-loop
 element-write-book-10 c =
-    let r =
-    literal-fits (c .before .before .before .before .before .before) (c .before .before .before .before .if2 .left)
-    (c .before .before .if3 .left) (c .if4 .left) in
+    let r = literal-fits c in
     search needs
 
 add-literals : tie.Need-add-literals Inv-loop μ-loop
 add-literals c =
-    let r =
-    literal-fits (c .before .before .before .before .before .before) (c .before .before .before .before .if2 .left)
-    (c .before .before .if3 .left) (c .if4 .left) in
+    let r = literal-fits c in
     search needs
 
 cast-book-2 : tie.Need-cast-book-2 Inv-loop μ-loop
 cast-book-2 c =
-    let r =
-    literal-fits (c .before .before .before .before .before .before) (c .before .before .before .before .if2 .left)
-    (c .before .before .if3 .left) (c .if4 .left) in
+    let r = literal-fits c in
     search needs
 
 sub-book-3 : tie.Need-sub-book-3 Inv-loop μ-loop
 sub-book-3 c =
-    let r =
-    literal-fits (c .before .before .before .before .before .before) (c .before .before .before .before .if2 .left)
-    (c .before .before .if3 .left) (c .if4 .left) in
+    let r = literal-fits c in
     search needs
 
 element-write-book-11 : tie.Need-element-write-book-11 Inv-loop μ-loop
 element-write-book-11 c =
-    let r =
-    literal-fits (c .before .before .before .before .before .before) (c .before .before .before .before .if2 .left)
-    (c .before .before .if3 .left) (c .if4 .left) in
+    let r = literal-fits c in
     search needs
 
 cast-larger : tie.Need-cast-larger Inv-loop μ-loop
 cast-larger c =
-    let e = c .before in
-    let r =
-    literal-fits (e .before .before .before .before .before .before) (e .before .before .before .before .if2 .left)
-    (e .before .before .if3 .left) (e .if4 .left) in
+    let r = literal-fits (c .before) in
     search needs
 
 add-larger : tie.Need-add-larger Inv-loop μ-loop
 add-larger c =
-    let e = c .before in
-    let r =
-    literal-fits (e .before .before .before .before .before .before) (e .before .before .before .before .if2 .left)
-    (e .before .before .if3 .left) (e .if4 .left) in
+    let r = literal-fits (c .before) in
     search needs
 
 larger-requires : tie.Need-larger-requires Inv-loop μ-loop
@@ -338,7 +310,7 @@ loop-again-3 c =
     let a = e .before .before .before .before .before .before in
     let l = a .before .before .before in
     let o = a .operands-at .result in
-    let r = literal-fits a (e .before .before .before .before .if2 .left) (e .before .before .if3 .left) (e .if4 .left) in
+    let r = literal-fits e in
     subst
     (λ (n : ℕ). SoFar (bytes l) (with-literal (l .loop .book) (l .loop .book .clauses - 1) (l .loop .literals) (o .kind) (o .number)
     (o .want)) (l .loop .literals + 1) n (o .next))
