@@ -132,7 +132,8 @@ module _ (b : Book) (literals named : ℕ) (h : Held b literals named) where
       ∙ ap (λ (n : ℕ). unless (literal-tests flags crossed (b .clauses) n) next) literals-counted
 
   -- the definition's tests are those of the counts
-  whole-is : (c : Command) (after : List ℕ) → apply-command c after (view b) ≡ unless (command-tests c after now-counts) (done c after (view b))
+  whole-is : (c : Command) (after : List ℕ)
+      → apply-command c after (view b) ≡ unless (command-tests c after now-counts) (done c after (view b))
       → whole-command c after (view b) ≡ unless (whole-tests c after now-counts) (done c after (view b))
   whole-is c after e = ap (λ (r : Refusable said.Book). elim (ltb (length after) (width c)) [ true ↦ refused 1 | false ↦ r ]) e
 

@@ -112,7 +112,8 @@ pub fn read(bytes: &[u8]) -> Reading
     reading
 }
 
-// The same without the test for 6: the literals of a book that is accepted may name goals that it has not.
+// The same without the test for 6: the literals of a book that is accepted may name goals that it has not, up to 65535, where `literal_at`
+// gives the low byte alone.
 pub fn read_loosely(bytes: &[u8]) -> Reading
     ensures { λ r. ⌜ ReadLoosely (now (bytes .entry)) r ⌝ }
 {
