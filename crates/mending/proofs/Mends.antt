@@ -94,6 +94,9 @@ module _ (bytes : List ℕ) (reading : Reading) (given : ReadLoosely bytes readi
   by-number t e =
       ap (mended-from bytes) (sym (given .means)) ∙ ap (λ (x : Bool). mended-from bytes (seen-by x reading)) e
 
+  pub book-formed : reading .number ≡ 0 → Formed (reading .book)
+  book-formed z = given .formed z
+
   pub refused-mended : (n : ℕ) (out p q : Pen) → n ≡ reading .number → (reading .number ≡ 0 → ⊥) → q ≡ put-all (refusal-line n) p
       → _≡_ {A = ℕ × Pen × Pen} (n, out, q) (mends (mend bytes) out p)
   refused-mended n out p q e some f =
