@@ -62,12 +62,17 @@ for kind in plain few; do
 done
 "$oracle" numberings 11 20000
 
-say "plain books as XSB text, and back"
-cargo test --offline --locked --quiet xsb >"$work/tests" 2>&1 || {
-    cat "$work/tests"
-    exit 1
-}
-grep '^test result' "$work/tests"
+say "plain books as XSB text, and back; papers mended"
+for tests in xsb mend; do
+    cargo test --offline --locked --quiet $tests >"$work/tests" 2>&1 || {
+        cat "$work/tests"
+        exit 1
+    }
+    grep '^test result' "$work/tests"
+done
+"$oracle" books 11 5000 torn >"$work/books"
+"$oracle" books 11 5000 torn | cmp - "$work/books"
+"$oracle" mend damaged 11 100000
 
 say "demand 3"
 "$oracle" demand3 11 100000

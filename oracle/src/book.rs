@@ -129,6 +129,16 @@ impl Reader<'_> {
 impl Book {
     /// Each command is tested in the order 1 (its byte), 2, 1 (operands), 3, 4, 32, 5; the end in the order 7, 8, 6.
     pub fn read(bytes: &[u8]) -> Result<Book, u8> {
+        let book = Book::loosely(bytes)?;
+        let mut literals = book.clauses.iter().flat_map(|clause| &clause.literals);
+        if literals.any(|literal| usize::from(literal.goal) >= book.goals.len()) {
+            return Err(6);
+        }
+        Ok(book)
+    }
+
+    /// All tests but the last: a literal may name a goal that is not there.
+    pub fn loosely(bytes: &[u8]) -> Result<Book, u8> {
         let mut reader = Reader { bytes, at: 0 };
         let mut book = Book::default();
         loop {
@@ -179,10 +189,6 @@ impl Book {
                     }
                     if book.goals.is_empty() {
                         return Err(8);
-                    }
-                    let mut literals = book.clauses.iter().flat_map(|clause| &clause.literals);
-                    if literals.any(|literal| usize::from(literal.goal) >= book.goals.len()) {
-                        return Err(6);
                     }
                     return Ok(book);
                 }

@@ -7,9 +7,11 @@ mod books;
 mod calls;
 mod plain;
 mod rare;
+mod torn;
 
 pub use books::{damaged_book, plain_book};
 pub use plain::{few_goals, named_so, nearly_plain};
+pub use torn::torn_paper;
 
 use crate::book::Entry;
 use crate::rng::Rng;

@@ -8,6 +8,7 @@ mod demand3;
 mod gen;
 mod levels;
 mod list;
+mod mend;
 mod numberings;
 mod peeks;
 mod rng;
@@ -27,12 +28,15 @@ const USAGE: &str = "usage: oracle list [hex] < BOOK
        oracle to-xsb lines < LINES OF HEX
        oracle from-xsb [hex] < TEXT
        oracle from-xsb lines < LINES OF HEX
+       oracle mend [hex] < BOOK
+       oracle mend lines < LINES OF HEX
+       oracle mend damaged SEED COUNT
        oracle numberings SEED COUNT
        oracle run [batch] [quiet|bare|counted] < SCRIPT
        oracle searches < SCRIPT
        oracle read < LINES OF HEX
        oracle gen SEED COUNT [mix|plain|tiny|bytes|answers|small|limits|large|lines]
-       oracle books SEED COUNT [damaged|plain|few]
+       oracle books SEED COUNT [damaged|plain|few|torn]
        oracle check [CALLS [SEED]]
        oracle demand3 SEED COUNT
        oracle bench [PROGRAM [ARGUMENT..]]
@@ -88,6 +92,20 @@ fn given(said: Result<Vec<u8>, u8>) -> Result<(), String> {
         Ok(bytes) => io::stdout().write_all(&bytes).map_err(|e| e.to_string()),
         Err(number) => {
             eprint!("{}", xsb::refusal(number));
+            Ok(())
+        }
+    }
+}
+
+/// A line on standard error for each clause that goes, and then the rest of the book; of a refusal the number alone.
+fn mended(said: Result<mend::Mended, u8>) -> Result<(), String> {
+    match said {
+        Ok(mended) => {
+            eprint!("{}", mended.lines());
+            io::stdout().write_all(&mended.bytes).map_err(|e| e.to_string())
+        }
+        Err(number) => {
+            eprint!("{}", mend::refusal(number));
             Ok(())
         }
     }
@@ -153,6 +171,12 @@ fn command(words: &[&str]) -> Result<(), String> {
         ["to-xsb", rest @ ..] => given(xsb::export(&input(rest)?).map(String::into_bytes)),
         ["from-xsb", "lines"] => each_book(|text| Ok(xsb::book_line(text))),
         ["from-xsb", rest @ ..] => given(xsb::import(&input(rest)?).map(|book| book.bytes())),
+        ["mend", "lines"] => each_book(|bytes| Ok(mend::said(bytes))),
+        ["mend", "damaged", seed, count] => {
+            print!("{}", mend::damaged::damaged(number(seed)?, number(count)?)?.told());
+            Ok(())
+        }
+        ["mend", rest @ ..] => mended(mend::mend(&input(rest)?)),
         ["numberings", seed, count] => {
             let [every, few, larger] = numberings::numberings(number(seed)?, number(count)?)?;
             println!("every way to name each other, up to three goals: {}", every.told());
@@ -177,6 +201,7 @@ fn command(words: &[&str]) -> Result<(), String> {
         ["books", seed, count, "few"] => {
             books(number(seed)?, number(count)?, |rng| gen::few_goals(rng).bytes())
         }
+        ["books", seed, count, "torn"] => books(number(seed)?, number(count)?, gen::torn_paper),
         ["check"] => check::check(check::STANDARD_CALLS, check::STANDARD_SEED),
         ["check", calls] => check::check(number(calls)?, check::STANDARD_SEED),
         ["check", calls, seed] => check::check(number(calls)?, number(seed)?),

@@ -468,6 +468,12 @@ pub fn damaged_book(rng: &mut Rng) -> Vec<u8> {
             book.bytes()
         }
     };
+    damage(rng, &mut bytes);
+    bytes
+}
+
+/// Damage in none, one or two places.
+pub fn damage(rng: &mut Rng, bytes: &mut Vec<u8>) {
     for _ in 0..rng.below(3) {
         if bytes.is_empty() {
             break;
@@ -488,5 +494,4 @@ pub fn damaged_book(rng: &mut Rng) -> Vec<u8> {
             }
         }
     }
-    bytes
 }
