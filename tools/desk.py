@@ -136,9 +136,10 @@ BOOKS = {
     ]),
 }
 # Papers with a clause twice, and the place; of all others the desk says what the old entry says.
-TWICE = {"equal-clauses": (1, 2, 0), "clauses-256-twice": (0, 255, 0)}
+TWICE = {"equal-clauses": (1, 2, 0), "clauses-256-twice": (0, 255, 0), "mend-256": (0, 1, 0)}
 # Papers that the old entry refuses.
-REFUSED = {"p9-empty": 1, "p9-end": 8, "goals-65": 5, "clauses-257": 5, "literals-9": 5, "range-crossed": 32, "largest-and-a-byte": 7}
+REFUSED = {"p9-empty": 1, "p9-end": 8, "goals-65": 5, "clauses-257": 5, "literals-9": 5, "range-crossed": 32, "largest-and-a-byte": 7,
+           "mend-both": 6, "mend-261": 6, "largest-undefined": 6}
 
 
 def all_books():

@@ -172,6 +172,7 @@ PAPERS = {
     "clauses-257": 5, "literals-8": [0] * 9, "literals-9": 5, "range-3-7": 37, "range-crossed": 32, "equal-clauses": 36,
     "levels-p1": [1, 0, 0], "levels-not": (1, 2), "levels-chain": list(range(63, -1, -1)), "levels-cycle": tuple(range(64)),
     "clauses-256-alike": 37, "clauses-256-twice": 36, "largest": 37, "largest-and-a-byte": 7, "largest-wants": 37,
+    "mend-behind": [0, 0], "mend-both": 6, "mend-261": 6, "mend-256": 36, "largest-undefined": 6,
 }
 
 

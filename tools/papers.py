@@ -155,6 +155,24 @@ def not_the_next(last):
     return "\n".join(out + ["goal 63", "63 :- " + ", ".join([last] * 8)])
 
 
+def largest_undefined():
+    """The largest book, in which the last literal of each clause names a goal that is not there: the next one, or one whose low byte is
+    that of a goal which is."""
+    lines = []
+    for n, line in enumerate(LARGEST.splitlines()):
+        head, comma, last = line.rpartition(", ")
+        lines.append(head + comma + re.sub(r"^\d+", str((64, 256 + n % 64)[n % 2]), last) if comma else line)
+    return "\n".join(lines)
+
+
+def to_be_mended():
+    """Goals 0 to 4, with literals that stand behind a later goal than their clause's: of a clause that goes and of one that stays."""
+    clause = lambda variant, *literals: b"\x43" + u16(variant) + b"\0" + b"".join(map(literal, literals))
+    goal, undefined = b"\x47\0", clause(2, "not 9")
+    first = goal + 2 * clause(1, "2/3-7") + clause(2) + goal + literal("1") + goal + literal("not 9")
+    return first + undefined + clause(3) + goal + literal("not 1") + literal("3/1") + goal + 2 * undefined + 2 * clause(3) + b"\x45"
+
+
 def three_to_seven():
     variants = (2, 3, 7, 8, 0)
     rest = ["goal %d\n%d :- %s" % (g, g, ranged(g + 5, 3, 7)) for g in range(5)]
@@ -235,8 +253,16 @@ PAPERS = [
      not_the_next("not 0")),
     ("clauses-256-alike", "256 clauses of one goal, different in the last of 8 ranges alone: the desk takes it", alike(range(256))),
     ("clauses-256-twice", "the same, the last clause equal to the first: the desk refuses it with 36", alike([*range(255), 0])),
+    ("mend-behind", "a literal behind a later goal is the clause's before it: accepted, and so unchanged by mending",
+     bytes.fromhex("47 00 43 00 00 00 47 00 50 00 00 00 00 00 45")),
+    ("mend-both", "clauses that must go, for 6, for 36 and for both, and literals behind later goals, which go or stay: refused 6",
+     to_be_mended()),
+    ("mend-261", "six goals, and a clause on goal 261, which is no goal 5: refused 6",
+     "goal 0\n0 :- 5\n0 :- 261\n" + "\n".join("goal %d" % g for g in range(1, 6))),
+    ("mend-256", "the same fact 256 times: the desk refuses it with 36", "goal 0\n" + "\n".join(["0"] * 256)),
     ("largest", "the largest book there can be: 64 goals, 256 clauses of 8 ranges each, with every mark", LARGEST),
     ("largest-and-a-byte", "the same and a byte after it: refused 7", book(LARGEST) + b"\0"),
+    ("largest-undefined", "the largest book, each of its clauses with a literal of no goal: refused 6", largest_undefined()),
     ("largest-wants", "the largest book without a range: the same with a want in place of each", largest(numbered)),
 ]
 
@@ -258,9 +284,10 @@ TEXTS = [
 HEADER = """# Sample papers
 
 Each file `NAME.book` holds the bytes of a book. p1 to p9 are the cases of document 01, `release` is a paper as the
-workshop has it; the others are the sizes at the limits and one past them, ranges, the same clause twice, levels, and the largest
-book. A paper that is refused here is refused by both entries, but where the desk is named. `inspect` prints what a book says, `listing`
-what follows from it, `levels` its levels, where it is plain and has some. A file `NAME.xsb` is a text for a Prolog with tabling: `to_xsb`
+workshop has it; the others are the sizes at the limits and one past them, ranges, the same clause twice, levels, papers to be mended, and
+the largest book. A paper that is refused here is refused by both entries, but where the desk is named. `inspect` prints what a book says, `listing`
+what follows from it, `levels` its levels, where it is plain and has some; `mend` leaves out the clauses for which the desk refuses it
+with 6 or 36. A file `NAME.xsb` is a text for a Prolog with tabling: `to_xsb`
 writes such a text of a plain book, `from_xsb` the book of such a text. `tools/papers.py` makes the files and this page from a notation
 that can be read; `tools/papers.py --check` says whether they are those.
 
