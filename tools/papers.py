@@ -285,11 +285,11 @@ HEADER = """# Sample papers
 
 Each file `NAME.book` holds the bytes of a book. p1 to p9 are the cases of document 01, `release` is a paper as the
 workshop has it; the others are the sizes at the limits and one past them, ranges, the same clause twice, levels, papers to be mended, and
-the largest book. A paper that is refused here is refused by both entries, but where the desk is named. `inspect` prints what a book says, `listing`
-what follows from it, `levels` its levels, where it is plain and has some; `mend` leaves out the clauses for which the desk refuses it
-with 6 or 36. A file `NAME.xsb` is a text for a Prolog with tabling: `to_xsb`
-writes such a text of a plain book, `from_xsb` the book of such a text. `tools/papers.py` makes the files and this page from a notation
-that can be read; `tools/papers.py --check` says whether they are those.
+the largest book. A paper that is refused here is refused by both entries, but where the desk is named. `inspect` prints what a book says,
+`listing` what follows from it, `levels` its levels, where it is plain and has some; `mend` leaves out the clauses for which the desk
+refuses it with 6 or 36. A file `NAME.xsb` is a text for a Prolog with tabling: `to_xsb` writes such a text of a plain book, `from_xsb` the
+book of such a text. `tools/papers.py` makes the files and this page from a notation that can be read; `tools/papers.py --check` says
+whether they are those.
 
 | file | bytes | what it is | in hex |
 |---|---|---|---|
