@@ -18,14 +18,14 @@ def with_listing(p):
     return p.parse_args()
 
 
-def installed(a):
+def installed(a, names=tuple(PACKAGES)):
     """The peers that are there. One that is not ends the run, or with --installed it is left out."""
-    missing = [name for name in PACKAGES if not shutil.which(name)]
+    missing = [name for name in names if not shutil.which(name)]
     for name in missing:
         print("peers: %s is not installed (Debian's package %s)%s" % (name, PACKAGES[name], ": left out" if a.installed else ""))
     if missing and not a.installed:
         sys.exit(2)
-    return [name for name in PACKAGES if name not in missing]
+    return [name for name in names if name not in missing]
 
 
 class Listing:
