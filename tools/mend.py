@@ -28,7 +28,7 @@ import papers
 import sides
 import tree
 from rules import timed
-from xsb import PIECES, in_pieces, run, shown
+from xsb import PIECES, in_pieces, run
 
 CANT_READ, CANT_WRITE = b"mend: the input can't be read\n", b"mend: the book can't be written\n"
 TIMED = ("mend-behind", "mend-both", "largest", "largest-undefined", "clauses-256-alike", "clauses-256-twice", "mend-256")
@@ -36,13 +36,18 @@ TIMED = ("mend-behind", "mend-both", "largest", "largest-undefined", "clauses-25
 TO_LEVELS = 500
 
 
-def wanted(data, said):
+def wanted(said):
     """What a program must do: what it writes, on standard output and on standard error, and its status."""
     return (b"", b"refused %d\n" % said, 0) if isinstance(said, int) else (said[1], said[0].encode(), 0)
 
 
+def shown(said):
+    out, err, status = said
+    return "%s and on standard error %r%s" % (out.hex()[:600] or "nothing", err[:300], " (status %d)" % status if status else "")
+
+
 def by_hand():
-    return [(title, data, wanted(data, said)) for title, data, said in mend_books.every_paper()]
+    return [(title, data, wanted(said)) for title, data, said in mend_books.every_paper()]
 
 
 def each(a, words, some, ask=run):
