@@ -162,8 +162,7 @@ module _ (b : Book) (formed : Formed b) (codes : List ℕ) (coded : Coded b code
   flat-from (suc n) g at stop t h =
       let k = getD (b .«goal_len») g 0 in
       let rest = flat-from n (suc g) (at + k) stop (t .1) (omega arith) in
-      let z : stop - at ≡ k + (stop - (at + k)) = omega (arith, rest .0) in
-      (
+      let z : stop - at ≡ k + (stop - (at + k)) = omega (arith, rest .0) in (
         omega (arith, rest .0),
         ap₂ (λ (x y : List (Option ℕ)). x ++ y)
             (coded .own g (omega arith) ∙ ap (λ (s : ℕ). span (reason-at codes) s k) (t .0)) (rest .1)

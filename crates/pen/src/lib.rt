@@ -34,6 +34,13 @@ pub fn flush(out: &[u8], at: usize) -> bool
     send(1, out, at)
 }
 
+// The same to standard error.
+pub fn tell(out: &[u8], at: usize) -> bool
+    ensures { λ r. ⌜ (length (now (out .entry)) < at → r ≡ false) ⌝ }
+{
+    send(2, out, at)
+}
+
 pub fn byte(out: &mut [u8], at: usize, b: u8) -> usize
     ensures { λ r. ⌜ pen (now (out .exit)) r ≡ put b (pen (now (out .entry)) at) ⌝ }
 {
