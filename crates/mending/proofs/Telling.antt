@@ -45,21 +45,23 @@ module _ (codes : List ℕ) (g first n : ℕ) where
   abbrev pub clauses-left : ℕ → List ℕ
   clauses-left k = clause-lines g k (span (reason-at codes) (first + k) (n - k))
 
-  pub clauses-step : (k r : ℕ) (p q start : Pen) → k < n → r ≡ getD codes (first + k) 0
+  pub clauses-step : (k c r : ℕ) (p q start : Pen) → c ≡ first + k → c < first + n → r ≡ getD codes c 0
       → put-all (clauses-left k) p ≡ put-all (clauses-left 0) start → q ≡ put-all (reason-line g k (reason-in r)) p
       → put-all (clauses-left (k + 1)) q ≡ put-all (clauses-left 0) start
-  clauses-step k r p q start h e i f =
+  clauses-step k c r p q start at l e i f =
+      let h : k < n = omega arith in
       let next : first + (k + 1) ≡ first + k + 1 = omega arith in
       let one : k + 1 ≡ suc k = omega arith in
       let rest = clause-lines g (suc k) (span (reason-at codes) (first + k + 1) (n - (k + 1))) in
       ap₂ (λ (a m : ℕ). put-all (clause-lines g a (span (reason-at codes) m (n - (k + 1)))) q) one next
       ∙ put-left (reason-line g k (reason-at codes (first + k))) rest p q
-      (f ∙ ap (λ (m : ℕ). put-all (reason-line g k (reason-in m)) p) e)
+      (f ∙ ap (λ (m : ℕ). put-all (reason-line g k (reason-in m)) p) (e ∙ ap (λ (d : ℕ). getD codes d 0) at))
       ∙ ap (λ (rs : List (Option ℕ)). put-all (clause-lines g k rs) p) (sym (span-left (reason-at codes) (first + k) n k h)) ∙ i
 
-  pub clauses-said : (k : ℕ) (p q : Pen) → n ≤ k → put-all (clauses-left k) q ≡ put-all (clauses-left 0) p
+  pub clauses-said : (k c : ℕ) (p q : Pen) → c ≡ first + k → first + n ≤ c → put-all (clauses-left k) q ≡ put-all (clauses-left 0) p
       → q ≡ put-all (clause-lines g 0 (span (reason-at codes) first n)) p
-  clauses-said k p q h i =
+  clauses-said k c p q at l i =
+      let h : n ≤ k = omega arith in
       let start : first + 0 ≡ first = omega arith in
       let whole : n - 0 ≡ n = omega arith in
       put-ended (clauses-left k) (clauses-left 0) p q (ap (clause-lines g k) (span-done (reason-at codes) (first + k) n k h)) i

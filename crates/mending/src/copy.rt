@@ -27,10 +27,11 @@ struct Copying {
 fn at_other(c: Copying, skip: u8) -> Copying
     ensures { λ r. ⌜ (r .skip ≡ skip) × ((codes : List ℕ) → copying codes r ≡ at-other (copying codes c)) ⌝ }
 {
+    let last_stays = c.last_stays;
     Copying {
         skip,
         stays: true,
-        last_stays: c.last_stays,
+        last_stays,
         clauses: c.clauses,
     }
 }

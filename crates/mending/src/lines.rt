@@ -23,7 +23,7 @@ fn reason_line(out: &mut [u8], at: usize, goal: usize, clause: usize, reason: u8
     pen::text(out, of_reason, b"\n")
 }
 
-// The lines of a goal's clauses, so many from `first` on.
+// The lines of a goal's clauses, so many from `first` on. Their numbers are those of the old paper: whoever goes is counted too.
 fn clause_lines(
     out: &mut [u8],
     at: usize,
@@ -37,10 +37,13 @@ fn clause_lines(
         ≡ put-all (clause-lines goal 0 (span (reason-at (now (codes .entry))) first count)) (pen (now (out .entry)) at) ⌝ }
 {
     let mut used = at;
-    let mut k: usize = 0;
-    while k < count {
-        used = reason_line(out, used, goal, k, codes[first + k]);
-        k += 1;
+    let mut number: usize = 0;
+    let mut c = first;
+    while c < first + count {
+        let code = codes[c];
+        used = reason_line(out, used, goal, number, code);
+        number += 1;
+        c += 1;
     }
     used
 }
