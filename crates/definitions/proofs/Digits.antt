@@ -1,8 +1,10 @@
--- The decimal digits of a number, with one more.
-use Prim.Native.Nat.{ℕ, zero, suc, _+_, _*_, _/_, _%_, _<_}
+-- The decimal digits of a number, with one more; and how many there are.
+use Prim.Native.Nat.{ℕ, zero, suc, _+_, _*_, _/_, _%_, _<_, _≤_}
 use native.Mathlib.Omega.{arith}
+use native.Mathlib.Decide.{decLt}
 use mathlib.Core.Path.{_≡_, refl, ap, _∙_}
 use mathlib.Core.List.{List, [], _∷_, _++_}
+use lib.ListN.{length, length-append}
 use Rattle.definitions.specs.Listing.{digits, decimal}
 
 -- the digits stand before what was there
@@ -48,3 +50,27 @@ decimal-more n d p h =
     on zero e r f = absurd (omega arith)
     on (suc t) e r f = ap (λ (x : ℕ). digits (10 * n + d) (suc t) ((48 + x) ∷ [])) f
         ∙ ap (λ (x : ℕ). digits (10 * n + d) x ((48 + d) ∷ [])) e
+
+-- A number has at most one digit more than its tenth.
+
+decimal-tenth : (n m : ℕ) → length (decimal (n / 10)) ≤ m → 0 < m → length (decimal n) ≤ suc m
+decimal-tenth n m h p = on (decLt n 10)
+  where
+    on : Dec (n < 10) → length (decimal n) ≤ suc m
+    on (yes k) = omega (arith, ap length (decimal-one n k))
+    on (no k) =
+        let whole : n ≡ 10 * (n / 10) + n % 10 = omega arith in
+        omega (
+          arith,
+          ap length (ap decimal whole ∙ decimal-more (n / 10) (n % 10) (omega arith) (omega arith)),
+          length-append (decimal (n / 10)) ((48 + n % 10) ∷ []),
+        )
+
+decimal-short-1 : (n : ℕ) → n < 10 → length (decimal n) ≤ 1
+decimal-short-1 n h = omega (arith, ap length (decimal-one n h))
+
+pub decimal-short-2 : (n : ℕ) → n < 100 → length (decimal n) ≤ 2
+decimal-short-2 n h = decimal-tenth n 1 (decimal-short-1 (n / 10) (omega arith)) (omega arith)
+
+pub decimal-short-3 : (n : ℕ) → n < 1000 → length (decimal n) ≤ 3
+decimal-short-3 n h = decimal-tenth n 2 (decimal-short-2 (n / 10) (omega arith)) (omega arith)

@@ -23,5 +23,6 @@ pub mod MendCopies
 pub mod Mend
 pub mod MendRefused
 pub mod MendReasons
+pub mod MendFits
 pub mod XsbOrder
 pub mod Xsb

@@ -140,7 +140,8 @@ mend-accepted bytes m e book k =
 
 -- The first 20,480 bytes settle it.
 
-applied : (c : Command) (bs : List ℕ) (book next : Book) → whole-command c bs book ≡ accepted next → apply-command c bs book ≡ accepted next
+pub applied : (c : Command) (bs : List ℕ) (book next : Book) → whole-command c bs book ≡ accepted next
+    → apply-command c bs book ≡ accepted next
 applied c bs book next e = on (ltb (length bs) (width c)) e
   where
     on : (short : Bool) → elim short [ true ↦ refused 1 | false ↦ apply-command c bs book ] ≡ accepted next
@@ -149,7 +150,7 @@ applied c bs book next e = on (ltb (length bs) (width c)) e
     on false f = f
 
 -- what is read loosely is no longer than the room of a book, and the end command
-loose-short : (bytes : List ℕ) (skip : ℕ) (book final : Book) → loose-from bytes skip book ≡ accepted final
+pub loose-short : (bytes : List ℕ) (skip : ℕ) (book final : Book) → loose-from bytes skip book ≡ accepted final
     → length bytes ≤ room book + skip + 1
 loose-short [] skip book final e = absurd (not-accepted e)
 loose-short (b ∷ bs) (suc skip) book final e = omega (arith, loose-short bs skip book final e)
