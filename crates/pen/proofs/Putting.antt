@@ -1,11 +1,12 @@
 -- What the proofs of the pen's functions cite: where a byte goes, and that bytes put down one after the other are put down as one list.
--- Assumes nothing.
-use Prim.Native.Nat.{ℕ, _+_, _<_, _≤_}
-use mathlib.Core.Path.{_≡_, refl, sym, ap, _∙_}
-use mathlib.Core.List.{List, [], _∷_, _++_}
+-- And that a text that fits stands in the buffer as it is (`put-fits`, at the end). Assumes nothing.
+use Prim.Native.Nat.{ℕ, suc, _+_, _<_, _≤_}
+use native.Mathlib.Omega.{arith}
+use mathlib.Core.Path.{_≡_, refl, sym, ap, subst, _∙_}
+use mathlib.Core.List.{List, [], _∷_, _++_, append-nil, append-assoc}
 use native.Mathlib.Numerals.{add-one}
-use lib.ListN.{length, set, take, getD}
-use lib.Seq.{take-suc, take-all}
+use lib.ListN.{length, length-set, set, take, getD}
+use lib.Seq.{take-suc, take-suc-set, take-all}
 use borrow.Author.Tests.{lt-ltb, le-ltb}
 use Rattle.pen.specs.Pen.{Pen, pen, anew, put, put-all}
 
@@ -56,3 +57,33 @@ put-left a d p q e = ap (put-all d) e ∙ sym (put-all-append a d p)
 
 pub put-ended : (a d : List ℕ) (p q : Pen) → a ≡ [] → put-all a q ≡ put-all d p → q ≡ put-all d p
 put-ended a d p q e f = sym (put-nothing q) ∙ ap (λ (w : List ℕ). put-all w q) (sym e) ∙ f
+
+-- A text put down from `at` on, with room for all of it: nothing is written out early, and it stands behind what was there.
+
+pub record Stands (l buffer : List ℕ) (at : ℕ) (p : Pen) : Type 0 where
+  pub same-length : length (p .buffer) ≡ length buffer
+  pub ends : p .used ≡ at + length l
+  pub holds : take (at + length l) (p .buffer) ≡ take at buffer ++ l
+
+pub put-fits : (l buffer : List ℕ) (at : ℕ) → at + length l ≤ length buffer → Stands l buffer at (put-all l (pen buffer at))
+unfolding put-all
+put-fits [] buffer at h =
+    let none-more : at + 0 ≡ at = omega arith in
+    record {
+      same-length = refl;
+      ends = sym none-more;
+      holds = ap (λ (n : ℕ). take n buffer) none-more ∙ sym (append-nil (take at buffer));
+    }
+put-fits (b ∷ l) buffer at h =
+    let one : at + 1 ≡ suc at = omega arith in
+    let sum : at + suc (length l) ≡ at + 1 + length l = omega arith in
+    let f = put-fits l (set buffer at b) (at + 1) (omega (arith, length-set buffer at b)) in
+    subst (λ (p : Pen). Stands (b ∷ l) buffer at (put-all l p)) (put-room buffer at b (omega arith)) (record {
+      same-length = f .same-length ∙ length-set buffer at b;
+      ends = f .ends ∙ sym sum;
+      holds = ap (λ (n : ℕ). take n (put-all l (pen (set buffer at b) (at + 1)) .buffer)) sum
+          ∙ f .holds
+          ∙ ap (λ (n : ℕ). take n (set buffer at b) ++ l) one
+          ∙ ap (λ (x : List ℕ). x ++ l) (take-suc-set buffer at b (omega arith))
+          ∙ append-assoc (take at buffer) (b ∷ []) l;
+    })
