@@ -2,7 +2,7 @@
 -- Assumes nothing.
 use Prim.Native.Nat.{ℕ, zero, suc, _+_, _*_, _≤_, _<_}
 use native.Mathlib.Omega.{arith}
-use mathlib.Core.Path.{_≡_, refl, subst}
+use mathlib.Core.Path.{_≡_, refl, sym, subst}
 use mathlib.Core.Bool.{Bool, true, false, true≢false}
 use mathlib.Core.Option.{Option, none, some}
 use mathlib.Core.List.{List, [], _∷_, _++_}
@@ -16,14 +16,15 @@ use Rattle.definitions.specs.Book.{Literal, Positive, Negative, between,
 use Rattle.definitions.specs.Book.{Command, goal, clause, positive, ranged, negative, end, unknown, command, width, is-end}
 use Rattle.definitions.specs.Book.{byte, u16, bit0, bit1, want-of, crossed, add-clause, add-literal, literals-so-far}
 use Rattle.definitions.specs.Book.{literal-command, apply-command, whole-command, most-goals, most-clauses, most-literals}
-use Rattle.definitions.specs.Desk.{same-clause}
+use Rattle.definitions.specs.Desk.{same-clause, desk}
 use Rattle.definitions.specs.Listing.{decimal}
 use Rattle.definitions.specs.Mend.{loose-end, loose-from, read-loosely, repeated, reason, reasons-behind, reasons, Copying}
 use Rattle.definitions.specs.Mend.{at-command, if-stays, copy, reason-line, clause-lines, goal-lines, Mended, mended-from, mend}
-use Rattle.definitions.proofs.Refusal.{not-accepted, same-accepted, all-pass}
+use Rattle.definitions.proofs.Refusal.{not-accepted, same-accepted, same-refused, all-pass}
 use Rattle.definitions.proofs.Book.{clause-count-goal, length-add-clause, clause-count-add-clause, added}
 use Rattle.definitions.proofs.Digits.{decimal-short-2, decimal-short-3}
-use Rattle.definitions.proofs.MendRefused.{applied, loose-short}
+use Rattle.definitions.proofs.DeskNumbers.{Below, by-number, desk-below}
+use Rattle.definitions.proofs.MendRefused.{mend-refused, applied, loose-short}
 
 -- A book that is read loosely is within the limits of goals and clauses.
 
@@ -160,3 +161,12 @@ mend-fits bytes m e = on (read-loosely bytes) refl e
           omega (arith, copy-short bytes 0 start, loose-short bytes 0 [] book k),
           omega (arith, w .1, goals-short (length book) 0 book (omega (arith, w .0)) (omega (arith, w .1))),
         )
+
+-- And the number of a refusal is below 37.
+
+pub mend-number : (bytes : List ℕ) (n : ℕ) → mend bytes ≡ refused n → n < 37
+mend-number bytes n e = on (desk bytes) (desk-below bytes) (mend-refused bytes n e .0)
+  where
+    on : (r : Refusable Book) → Below r → r ≡ refused n → n < 37
+    on (refused m) (by-number h) k = omega (arith, same-refused k)
+    on (accepted book) b k = absurd (not-accepted (sym k))

@@ -5,3 +5,4 @@ pub mod Coding
 pub mod Reasoned
 pub mod AllReasons
 pub mod Mends
+pub mod Fits

@@ -6,7 +6,7 @@ use mathlib.Core.Path.{_≡_, refl, sym, ap, subst, _∙_}
 use mathlib.Core.List.{List, [], _∷_, _++_, append-nil, append-assoc}
 use native.Mathlib.Numerals.{add-one}
 use lib.ListN.{length, length-set, set, take, getD}
-use lib.Seq.{take-suc, take-suc-set, take-all}
+use lib.Seq.{take-suc, take-suc-set, take-all, length-take-le}
 use borrow.Author.Tests.{lt-ltb, le-ltb}
 use Rattle.pen.specs.Pen.{Pen, pen, anew, put, put-all}
 
@@ -58,7 +58,7 @@ put-left a d p q e = ap (put-all d) e ∙ sym (put-all-append a d p)
 pub put-ended : (a d : List ℕ) (p q : Pen) → a ≡ [] → put-all a q ≡ put-all d p → q ≡ put-all d p
 put-ended a d p q e f = sym (put-nothing q) ∙ ap (λ (w : List ℕ). put-all w q) (sym e) ∙ f
 
--- A text put down from `at` on, with room for all of it: nothing is written out early, and it stands behind what was there.
+-- A text put down from `at` on, with room for all of it, stands behind what was there.
 
 pub record Stands (l buffer : List ℕ) (at : ℕ) (p : Pen) : Type 0 where
   pub same-length : length (p .buffer) ≡ length buffer
@@ -87,3 +87,11 @@ put-fits (b ∷ l) buffer at h =
           ∙ ap (λ (x : List ℕ). x ++ l) (take-suc-set buffer at b (omega arith))
           ∙ append-assoc (take at buffer) (b ∷ []) l;
     })
+
+-- and none of its bytes finds the buffer full, so that nothing is written out early
+pub put-finds-room : (l buffer : List ℕ) (at i : ℕ) → at + length l ≤ length buffer → i < length l
+    → put-all (take i l) (pen buffer at) .used < length (put-all (take i l) (pen buffer at) .buffer)
+put-finds-room l buffer at i h k =
+    let few : length (take i l) ≡ i = length-take-le i l (omega arith) in
+    let f = put-fits (take i l) buffer at (omega arith) in
+    omega (arith, f .same-length, f .ends)
