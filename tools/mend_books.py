@@ -206,7 +206,7 @@ PAPERS = {
     "clauses-256-twice": ("0 255 36", papers.alike(range(255))),
     "mend-both": ("0 1 36, 0 2 6, 2 0 6, 4 0 6, 4 1 6, 4 3 36", "47 00 43 01 00 00 52 02 00 03 00 07 00 00 47 00 47 00 43 03 00 00"
                   "47 00 4E 01 00 00 50 03 00 01 00 00 47 00 43 03 00 00 45"),
-    "mend-261": ("0 1 6", lines("goal 0", "0 :- 5", ["goal %d" % g for g in range(1, 6)])),
+    "mend-261": ("0 0 6, 0 2 6", lines("goal 0", "0 :- 5", ["goal %d" % g for g in range(1, 6)])),
     "mend-256": (numbered(0, range(1, 256), 36), lines("goal 0", "0")),
     "largest-undefined": (",".join(numbered(g, range(4), 6) for g in range(64)),
                           lines(["goal %d%s" % (g, papers.marked(g, papers.GOAL_MARKS)) for g in range(64)])),

@@ -3,25 +3,21 @@ use Prim.Native.Nat.{ℕ, zero, suc, _+_, _-_, _<_, _≤_}
 use native.Mathlib.Omega.{arith}
 use mathlib.Core.Path.{_≡_, refl, sym, ap, ap₂, subst, _∙_}
 use mathlib.Core.Bool.{Bool, true, false}
-use mathlib.Core.Option.{Option, none}
+use mathlib.Core.Option.{Option}
 use mathlib.Core.List.{List, [], _∷_, _++_}
 use lib.ListN.{length, getD}
 use lib.Dec.{ltb}
 use borrow.Author.Tests.{ltb-true, ltb-false}
 use Rattle.laws.specs.Spans.{span}
-use Rattle.laws.proofs.Lists.{getD-zeros}
 use Rattle.laws.proofs.Spans.{span-ext}
-use Rattle.laws.proofs.All.{All, end, more}
-use Rattle.definitions.specs.Book.{Command, goal, clause, positive, ranged, negative, unknown, command, width}
-use Rattle.definitions.specs.Book as said
-use Rattle.definitions.specs.Mend.{Copying, at-command, if-stays, copy, copied, reasons-behind, reasons-of, reasons}
+use Rattle.definitions.specs.Mend.{reasons-behind, reasons-of, reasons}
 use Rattle.book.specs.declared.Book.{Book}
 use Rattle.book.specs.Access.{entry}
 use Rattle.book.specs.View.{clause-viewed, goal-viewed, view, Tiles, Formed}
 use Rattle.book.proofs.Shown.{lent-by}
 use Rattle.book.proofs.Held.{goal-within, goals-counted}
 use Rattle.mending.specs.Reasons.{codes-from, reason-in, reason-at, Coded}
-use Rattle.mending.proofs.Telling.{first-there, count-there, goal-few}
+use Rattle.mending.proofs.Telling.{first-there, count-there}
 use Rattle.mending.proofs.Reasoned.{Known, Found, goal-found, goal-reasons}
 
 -- Goals that lie side by side are in their order.

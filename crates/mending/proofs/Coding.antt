@@ -1,11 +1,11 @@
 -- What the proofs of `reasons` cite of one clause: whether its goals are there, and whether an earlier one is the same. Assumes nothing.
-use Prim.Native.Nat.{ℕ, zero, suc, _+_, _*_, _-_, _<_, _≤_}
+use Prim.Native.Nat.{ℕ, suc, _+_, _*_, _-_, _<_, _≤_}
 use native.Mathlib.Omega.{arith}
-use mathlib.Core.Path.{_≡_, refl, sym, ap, ap₂, _∙_}
+use mathlib.Core.Path.{_≡_, sym, ap, ap₂, _∙_}
 use mathlib.Core.Bool.{Bool, true, false}
 use mathlib.Core.List.{List}
 use lib.ListN.{getD, set}
-use lib.Dec.{ltb, eqb}
+use lib.Dec.{ltb}
 use borrow.Author.Tests.{lt-ltb, le-ltb, eq-eqb, ne-eqb}
 use Rattle.laws.specs.Spans.{span}
 use Rattle.laws.proofs.Spans.{span-left, span-done}
@@ -62,7 +62,8 @@ module _ (lens goals : List ℕ) (n c : ℕ) where
 module _ (a : Lent) (codes : List ℕ) (c d : ℕ) where
   pub passed-over : getD codes d 0 ≡ 6 → false ≡ repeats-at a codes c d
   passed-over e =
-      sym (ap (λ (t : Bool). elim t [ true ↦ false | false ↦ same-clause (clause-read a c) (clause-read a d) ]) (eq-eqb (getD codes d 0) 6 e))
+      sym (ap (λ (t : Bool). elim t [ true ↦ false | false ↦ same-clause (clause-read a c) (clause-read a d) ])
+      (eq-eqb (getD codes d 0) 6 e))
 
   pub compared : (r : Bool) → (getD codes d 0 ≡ 6 → ⊥) → r ≡ same-clause (clause-read a c) (clause-read a d) → r ≡ repeats-at a codes c d
   compared r n e =

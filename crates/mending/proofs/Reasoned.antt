@@ -8,7 +8,7 @@ use mathlib.Core.Option.{Option, none, some}
 use mathlib.Core.List.{List, [], _∷_}
 use lib.ListN.{length, getD, set, length-set}
 use lib.Seq.{getD-set-same, getD-set-other}
-use lib.Dec.{ltb, eqb}
+use lib.Dec.{ltb}
 use borrow.Author.Tests.{ltb-true, ltb-false, eq-eqb, ne-eqb}
 use Rattle.laws.specs.Spans.{span}
 use Rattle.laws.proofs.Spans.{span-snoc}
@@ -22,7 +22,7 @@ use Rattle.book.specs.declared.Book.{Book}
 use Rattle.book.specs.View.{Formed, signed, wanted, bit2, literal-viewed, clause-viewed}
 use Rattle.book.specs.Repeats.{clause-read}
 use Rattle.book.proofs.Shown.{lent-by, formed-shown}
-use Rattle.mending.specs.Reasons.{all-below, goals-named, one-passes, repeats-at, repeats, code-by, code-at, codes-from}
+use Rattle.mending.specs.Reasons.{all-below, one-passes, repeats-at, repeats, code-by, code-at, codes-from}
 use Rattle.mending.specs.Reasons.{reason-in, reason-at}
 
 -- a reason in a byte
@@ -192,7 +192,9 @@ module _ (b : Book) (formed : Formed b) where
           on false e =
               let x = ltb-false i k e in
               let y : k ≡ i = omega arith in
-              subst (λ (j : ℕ). getD (set codes (first + k) code) (first + j) 0 ≡ coded (reason (b .goals) (span v first j) (v (first + j)))) y
+              subst
+              (λ (j : ℕ). getD (set codes (first + k) code) (first + j) 0 ≡ coded (reason (b .goals) (span v first j) (v (first + j))))
+              y
               (getD-set-same codes (first + k) code 0 (omega (arith, formed .few-clauses))
               ∙ code-is first k codes (omega arith) known)
 

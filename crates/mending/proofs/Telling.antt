@@ -1,7 +1,7 @@
 -- What the proofs of `lines` cite: the lines put down one after the other are those of the clauses that go. Assumes nothing.
-use Prim.Native.Nat.{ℕ, zero, suc, _+_, _-_, _<_, _≤_}
+use Prim.Native.Nat.{ℕ, suc, _+_, _-_, _<_, _≤_}
 use native.Mathlib.Omega.{arith}
-use mathlib.Core.Path.{_≡_, refl, sym, ap, ap₂, _∙_}
+use mathlib.Core.Path.{_≡_, sym, ap, ap₂, _∙_}
 use mathlib.Core.Option.{Option, some}
 use mathlib.Core.List.{List, _++_}
 use lib.ListN.{getD}
@@ -74,7 +74,8 @@ module _ (b : Book) where
   abbrev pub goals-left : ℕ → List ℕ
   goals-left g = goal-lines (b .goals) g (span (goal-viewed b) g (b .goals - g))
 
-  module _ (formed : Formed b) (g first count : ℕ) (h : g < b .goals) (hf : first ≡ entry 64 (b .«goal_first») g) (hc : count ≡ entry 64 (b .«goal_len») g) where
+  module _ (formed : Formed b) (g first count : ℕ) (h : g < b .goals) (hf : first ≡ entry 64 (b .«goal_first») g)
+      (hc : count ≡ entry 64 (b .«goal_len») g) where
     pub first-there : first ≡ getD (b .«goal_first») g 0
     first-there = hf ∙ entry-in 64 (b .«goal_first») g (omega (arith, formed .few-goals))
 

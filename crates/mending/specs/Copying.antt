@@ -10,7 +10,11 @@ use Rattle.mending.specs.Reasons.{reason-at}
 
 -- the reasons of the clauses that are to come are those from its place on
 abbrev pub copying : (codes : List ℕ) → Copying → said.Copying
-copying codes c = record { stays = c .stays; last-stays = c .«last_stays»; to-come = span (reason-at codes) (c .clauses) (256 - c .clauses) }
+copying codes c = record {
+  stays = c .stays;
+  last-stays = c .«last_stays»;
+  to-come = span (reason-at codes) (c .clauses) (256 - c .clauses);
+}
 
 -- what is copied of some bytes from there on
 abbrev pub copy-on : (codes : List ℕ) → Copying → (bytes : List ℕ) → List ℕ

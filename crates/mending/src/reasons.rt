@@ -10,7 +10,8 @@ ghost use lib.ListN.{getD};
 ghost use Prim.Native.Nat.{_+_, _<_, _≤_};
 ghost use Rattle.book.specs.View.{Formed};
 ghost use Rattle.book.specs.Repeats.{lent};
-ghost use Rattle.mending.specs.Reasons.{all-below, goals-named, repeats-at, repeats as repeatsOf, code-at, codes-from, FewLiterals, Coded};
+ghost use Rattle.mending.specs.Reasons.{all-below, goals-named, repeats-at, repeats as repeatsOf, code-at, codes-from};
+ghost use Rattle.mending.specs.Reasons.{FewLiterals, Coded};
 
 fn goal_at(goal: &[u16; 2048], place: usize) -> u16
     requires { ⌜ place < 2048 ⌝ }

@@ -1,4 +1,4 @@
--- `at_clause`: .
+-- `at_clause`: by whether the book can have such a clause.
 use Rattle.mending.proofs.Copies.{clause-goes, clause-past}
 use Prim.Native.Nat.{_+_}
 use mathlib.Core.Path.{refl}

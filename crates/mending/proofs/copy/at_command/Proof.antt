@@ -1,4 +1,4 @@
--- `at_command`: .
+-- `at_command`: by what the byte says.
 use Rattle.mending.proofs.Copies.{unknown-goes, clause-command, goal-command, end-command, literal-command}
 use mathlib.Core.Path.{refl}
 use Rattle.mending.specs.declared.copy.Copying.{Copying}
@@ -15,7 +15,8 @@ at-other-requires c κs = search needs
 returns : tie.Need-returns
 returns c =
     let a = c .before .before in
-    unknown-goes (a .before .args .codes .now) (a .before .args .c) (c .at-other .result) (a .before .args .b) (a .width .result) (a .width .ensures) (c .before .if1 .taken) (c .at-other .ensures .0) (c .at-other .ensures .1)
+    unknown-goes (a .before .args .codes .now) (a .before .args .c) (c .at-other .result) (a .before .args .b) (a .width .result)
+    (a .width .ensures) (c .before .if1 .taken) (c .at-other .ensures .0) (c .at-other .ensures .1)
 
 at-clause-requires : tie.Need-at-clause-requires
 at-clause-requires c κs = search needs
@@ -23,7 +24,8 @@ at-clause-requires c κs = search needs
 returns-2 : tie.Need-returns-2
 returns-2 c =
     let a = c .before .before .before in
-    clause-command (a .before .args .codes .now) (a .before .args .c) (c .at-clause .result) (a .before .args .b) (a .width .result) (a .width .ensures) (c .before .before .if1 .left) (c .at-clause .ensures .0) (c .before .if2 .taken) (c .at-clause .ensures .1)
+    clause-command (a .before .args .codes .now) (a .before .args .c) (c .at-clause .result) (a .before .args .b) (a .width .result)
+    (a .width .ensures) (c .before .before .if1 .left) (c .at-clause .ensures .0) (c .before .if2 .taken) (c .at-clause .ensures .1)
 
 at-other-requires-2 : tie.Need-at-other-requires-2
 at-other-requires-2 c κs = search needs
@@ -31,7 +33,8 @@ at-other-requires-2 c κs = search needs
 returns-3 : tie.Need-returns-3
 returns-3 c =
     let a = c .before .before .before .before in
-    goal-command (a .before .args .codes .now) (a .before .args .c) (c .at-other2 .result) (a .before .args .b) (a .width .result) (a .width .ensures) (c .before .before .before .if1 .left) (c .at-other2 .ensures .0) (c .before .if3 .taken) (c .at-other2 .ensures .1)
+    goal-command (a .before .args .codes .now) (a .before .args .c) (c .at-other2 .result) (a .before .args .b) (a .width .result)
+    (a .width .ensures) (c .before .before .before .if1 .left) (c .at-other2 .ensures .0) (c .before .if3 .taken) (c .at-other2 .ensures .1)
 
 at-other-requires-3 : tie.Need-at-other-requires-3
 at-other-requires-3 c κs = search needs
@@ -39,7 +42,9 @@ at-other-requires-3 c κs = search needs
 returns-4 : tie.Need-returns-4
 returns-4 c =
     let a = c .before .before .before .before .before in
-    end-command (a .before .args .codes .now) (a .before .args .c) (c .at-other3 .result) (a .before .args .b) (a .width .result) (a .width .ensures) (c .before .before .before .before .if1 .left) (c .at-other3 .ensures .0) (c .before .if4 .taken) (c .at-other3 .ensures .1)
+    end-command (a .before .args .codes .now) (a .before .args .c) (c .at-other3 .result) (a .before .args .b) (a .width .result)
+    (a .width .ensures) (c .before .before .before .before .if1 .left) (c .at-other3 .ensures .0)
+    (c .before .if4 .taken) (c .at-other3 .ensures .1)
 
 returns-5 : tie.Need-returns-5
 returns-5 c =
@@ -47,8 +52,8 @@ returns-5 c =
     let from = a .before .args .c in
     let to : Copying =
     record { skip = a .width .result; stays = from .«last_stays»; «last_stays» = from .«last_stays»; clauses = from .clauses } in
-    literal-command (a .before .args .codes .now) from to (a .before .args .b) (a .width .result) (a .width .ensures)
-    (c .before .before .before .if1 .left) refl (c .before .if3 .left) (c .before .before .if2 .left) (c .if4 .left) refl refl refl
+    literal-command (a .before .args .codes .now) from to (a .before .args .b) (a .width .result)
+    (a .width .ensures) (c .before .before .before .if1 .left) refl (c .before .if3 .left) (c .before .before .if2 .left) (c .if4 .left) refl refl refl
 
 pub at-command-spec : {M : Type 1} → statement M
 at-command-spec =

@@ -1,4 +1,4 @@
--- `copy`: .
+-- `copy`: at each turn what is left to copy, put down from where the pen is, is all that there is to copy.
 use Prim.Native.Nat.{_-_}
 use mathlib.Core.Path.{_≡_, refl}
 use lib.ListN.{length, drop}
@@ -24,28 +24,28 @@ loop-holds : tie.Need-loop-holds Inv-loop μ-loop
 loop-holds c = (refl, refl)
 
 shared-slice-read-b : tie.Need-shared-slice-read-b Inv-loop μ-loop
-shared-slice-read-b c = search (copy-step, copy-done, needs)
+shared-slice-read-b c = search needs
 
 at-byte-requires : tie.Need-at-byte-requires Inv-loop μ-loop
-at-byte-requires c κs = search (copy-step, copy-done, needs)
+at-byte-requires c κs = search needs
 
 put-if-requires : tie.Need-put-if-requires Inv-loop μ-loop
-put-if-requires c κs = search (copy-step, copy-done, needs)
+put-if-requires c κs = search needs
 
 add-i : tie.Need-add-i Inv-loop μ-loop
-add-i c = search (copy-step, copy-done, needs)
+add-i c = search needs
 
 loop-less : tie.Need-loop-less Inv-loop μ-loop
-loop-less c = search (copy-step, copy-done, needs)
+loop-less c = search needs
 
 loop-again : tie.Need-loop-again Inv-loop μ-loop
-loop-again c = search (copy-step, copy-done, needs)
+loop-again c = search (copy-step, needs)
 
 same-length : tie.Need-same-length Inv-loop μ-loop
-same-length c = search (copy-step, copy-done, needs)
+same-length c = search needs
 
 returns : tie.Need-returns Inv-loop μ-loop
-returns c = search (copy-step, copy-done, needs)
+returns c = search copy-done
 
 pub copy-spec : {M : Type 1} → statement M
 copy-spec =

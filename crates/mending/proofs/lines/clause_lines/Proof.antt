@@ -1,4 +1,4 @@
--- `clause_lines`: .
+-- `clause_lines`: at each turn the lines that are left, put down from where the pen is, are all that there is to say.
 use Prim.Native.Nat.{_+_, _-_}
 use mathlib.Core.Path.{_≡_, refl}
 use lib.ListN.{length}

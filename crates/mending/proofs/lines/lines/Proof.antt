@@ -1,4 +1,4 @@
--- `lines`: .
+-- `lines`: at each turn the goals that are left, put down from where the pen is, are all that there is to say.
 use Prim.Native.Nat.{_-_}
 use mathlib.Core.Path.{_≡_, refl}
 use lib.ListN.{length}
@@ -19,19 +19,19 @@ loop-holds : tie.Need-loop-holds Inv-loop μ-loop
 loop-holds c = (refl, refl)
 
 first-clause-requires : tie.Need-first-clause-requires Inv-loop μ-loop
-first-clause-requires c κs = search (goals-step, goals-said, goal-few, needs)
+first-clause-requires c κs = search needs
 
 clause-count-requires : tie.Need-clause-count-requires Inv-loop μ-loop
-clause-count-requires c κs = search (goals-step, goals-said, goal-few, needs)
+clause-count-requires c κs = search needs
 
 clause-lines-requires : tie.Need-clause-lines-requires Inv-loop μ-loop
-clause-lines-requires c κs = search (goals-step, goals-said, goal-few, needs)
+clause-lines-requires c κs = search goal-few
 
 add-g : tie.Need-add-g Inv-loop μ-loop
-add-g c = search (goals-step, goals-said, goal-few, needs)
+add-g c = search needs
 
 loop-less : tie.Need-loop-less Inv-loop μ-loop
-loop-less c = search (goals-step, goals-said, goal-few, needs)
+loop-less c = search needs
 
 loop-again : tie.Need-loop-again Inv-loop μ-loop
 loop-again c =
@@ -47,10 +47,10 @@ loop-again c =
     )
 
 same-length : tie.Need-same-length Inv-loop μ-loop
-same-length c = search (goals-step, goals-said, goal-few, needs)
+same-length c = search needs
 
 returns : tie.Need-returns Inv-loop μ-loop
-returns c = search (goals-step, goals-said, goal-few, needs)
+returns c = search goals-said
 
 pub lines-spec : {M : Type 1} → statement M
 lines-spec =

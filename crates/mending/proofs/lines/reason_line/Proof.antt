@@ -1,11 +1,11 @@
--- `reason_line`: .
+-- `reason_line`: by whether there is a reason.
 use Rattle.mending.proofs.Telling.{no-line, line-said}
 use borrow.Author.Needs.{needs}
 use Rattle.mending.proofs.lines.reason_line.Statement.{statement}
 use Rattle.mending.proofs.lines.reason_line.Tie as tie
 
 returns : tie.Need-returns
-returns c = search (no-line, line-said)
+returns c = search no-line
 
 number-requires : tie.Need-number-requires
 number-requires c κs = search needs
@@ -32,7 +32,7 @@ same-length : tie.Need-same-length
 same-length c = search needs
 
 returns-2 : tie.Need-returns-2
-returns-2 c = search (no-line, line-said)
+returns-2 c = search line-said
 
 pub reason-line-spec : {M : Type 1} → statement M
 reason-line-spec =

@@ -1,4 +1,4 @@
--- `mend`: .
+-- `mend`: by whether the paper is refused.
 use Rattle.mending.proofs.Mends.{book-formed, refused-mended, book-mended}
 use borrow.Author.Needs.{needs}
 use Rattle.mending.proofs.mend.mend.Statement.{statement}

@@ -1,4 +1,4 @@
--- `refusal_line`: .
+-- `refusal_line`: two texts, one behind the other.
 use Rattle.mending.proofs.Mends.{refusal-told}
 use borrow.Author.Needs.{needs}
 use Rattle.mending.proofs.mend.refusal_line.Statement.{statement}

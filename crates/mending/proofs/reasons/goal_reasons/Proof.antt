@@ -1,4 +1,4 @@
--- `goal_reasons`: .
+-- `goal_reasons`: at each turn the reasons that are left, found from there on, make up all.
 use Prim.Native.Nat.{_-_}
 use mathlib.Core.Path.{_≡_}
 use Rattle.book.specs.Repeats.{lent}

@@ -1,4 +1,4 @@
--- `names`: .
+-- `names`: at each turn the goals that are left decide.
 use Prim.Native.Nat.{_-_, _≤_}
 use mathlib.Core.Path.{_≡_}
 use Rattle.mending.specs.Reasons.{all-below, goals-named}

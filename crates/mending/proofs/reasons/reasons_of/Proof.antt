@@ -1,4 +1,4 @@
--- `reasons_of`: .
+-- `reasons_of`: at each turn the goals before have their reasons, and behind them there is none (`CodedTo`).
 use Prim.Native.Nat.{ℕ, _-_}
 use mathlib.Core.Path.{sym, subst}
 use lib.ListN.{length-replicate}
@@ -29,8 +29,10 @@ goal-reasons-requires c κs =
     let counted = c .before .before .before .before .before .before .before in
     let first = counted .before .before in
     let turn = first .before .before in
-    let start = turn .before .before .before .before .before .before .before .before .before .before .before in
-    (goal-few _ (start .pre) _ _ _ (turn .if1 .taken) (first .first-clause .ensures) (counted .clause-count .ensures), start .pre .few-literals)
+    let start = turn .before .before .before .before .before .before .before .before .before .before .before in (
+      goal-few _ (start .pre) _ _ _ (turn .if1 .taken) (first .first-clause .ensures) (counted .clause-count .ensures),
+      start .pre .few-literals,
+    )
 
 add-g : tie.Need-add-g Inv-loop μ-loop
 add-g c = search needs
@@ -46,7 +48,8 @@ loop-again c =
     let l = turn .before .before in
     let start = l .before .before .before .before .before .before .before .before .before in
     let again =
-    coded-again _ (start .pre) (l .loop .g) _ _ (turn .if1 .taken) (first .first-clause .ensures) (counted .clause-count .ensures) _ (l .loop .inv) in
+    coded-again _ (start .pre) (l .loop .g) _ _ (turn .if1 .taken) (first .first-clause .ensures) (counted .clause-count .ensures) _
+    (l .loop .inv) in
     subst (CodedTo _ _) (sym (c .goal-reasons .ensures)) again
 
 returns : tie.Need-returns Inv-loop μ-loop

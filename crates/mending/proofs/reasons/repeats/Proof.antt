@@ -1,5 +1,5 @@
--- `repeats`: .
-use Prim.Native.Nat.{_-_, _≤_}
+-- `repeats`: at each turn the clauses that are left decide.
+use Prim.Native.Nat.{_-_}
 use mathlib.Core.Path.{_≡_, refl}
 use Rattle.book.specs.Repeats.{lent}
 use Rattle.mending.specs.Reasons.{repeats as repeatsOf}
@@ -19,22 +19,22 @@ loop-holds : tie.Need-loop-holds Inv-loop μ-loop
 loop-holds c = refl
 
 repeats-at-requires : tie.Need-repeats-at-requires Inv-loop μ-loop
-repeats-at-requires c κs = search (repeats-here, repeats-again, repeats-none, needs)
+repeats-at-requires c κs = search needs
 
 returns : tie.Need-returns Inv-loop μ-loop
-returns c = search (repeats-here, repeats-again, repeats-none, needs)
+returns c = search repeats-here
 
 add-d : tie.Need-add-d Inv-loop μ-loop
-add-d c = search (repeats-here, repeats-again, repeats-none, needs)
+add-d c = search needs
 
 loop-less : tie.Need-loop-less Inv-loop μ-loop
-loop-less c = search (repeats-here, repeats-again, repeats-none, needs)
+loop-less c = search needs
 
 loop-again : tie.Need-loop-again Inv-loop μ-loop
-loop-again c = search (repeats-here, repeats-again, repeats-none, needs)
+loop-again c = search repeats-again
 
 returns-2 : tie.Need-returns-2 Inv-loop μ-loop
-returns-2 c = search (repeats-here, repeats-again, repeats-none, needs)
+returns-2 c = search repeats-none
 
 pub repeats-spec : {M : Type 1} → statement M
 repeats-spec =
