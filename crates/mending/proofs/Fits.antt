@@ -13,8 +13,9 @@ use Rattle.definitions.specs.Mend.{Mended, mend}
 use Rattle.definitions.proofs.Digits.{decimal-short-2}
 use Rattle.definitions.proofs.MendFits.{mend-fits, mend-number}
 use Rattle.pen.specs.Pen.{Pen, pen, put-all}
+use Rattle.pen.specs.Refusals.{refusal-line}
 use Rattle.pen.proofs.Putting.{put-fits, put-finds-room}
-use Rattle.mending.specs.Mending.{refusal-line, mends}
+use Rattle.mending.specs.Mending.{mends}
 
 -- A text was put down whole: it is what is in use of the buffer, and each byte of it found room.
 
@@ -36,6 +37,7 @@ put-whole text before after used h e =
     }
 
 refusal-short : (n : ℕ) → n < 100 → length (refusal-line n) ≤ 11
+unfolding refusal-line
 refusal-short n h =
     omega (
       arith,

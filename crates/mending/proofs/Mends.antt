@@ -11,8 +11,6 @@ use borrow.Author.Tests.{eq-eqb, ne-eqb}
 use Rattle.laws.specs.Spans.{span}
 use Rattle.laws.proofs.All.{All, end, more}
 use Rattle.definitions.specs.Refusal.{Refusable, refused}
-use Rattle.definitions.specs.Ascii.{ascii}
-use Rattle.definitions.specs.Listing.{decimal}
 use Rattle.definitions.specs.Book.{Command, goal, clause, positive, ranged, negative, unknown, command, width}
 use Rattle.definitions.specs.Book as said
 use Rattle.definitions.specs.Mend.{Copying, has-none, at-clause, at-command, if-stays, copy, copied, reasons, goal-lines, Mended}
@@ -22,9 +20,9 @@ use Rattle.book.specs.declared.Reading.{Reading}
 use Rattle.book.specs.View.{view, seen-by, Formed, ReadLoosely}
 use Rattle.book.proofs.Held.{goals-counted}
 use Rattle.pen.specs.Pen.{Pen, put-all}
-use Rattle.pen.proofs.Putting.{put-two}
+use Rattle.pen.specs.Refusals.{refusal-line}
 use Rattle.mending.specs.Reasons.{reason-in, reason-at, Coded}
-use Rattle.mending.specs.Mending.{refusal-line, mends}
+use Rattle.mending.specs.Mending.{mends}
 use Rattle.mending.proofs.AllReasons.{span-append, flat}
 
 -- Where clauses behind the last would all stay, they make no difference.
@@ -85,10 +83,6 @@ module _ (b : Book) (formed : Formed b) (codes : List ℕ) (coded : Coded b code
       ∙ ap (copied bytes) (sym (flat b formed codes coded))
 
 -- Each way out.
-
-pub refusal-told : (n : ℕ) (p q r : Pen) → q ≡ put-all (ascii "refused " ++ decimal n) p → r ≡ put-all (ascii "\n") q
-    → r ≡ put-all (refusal-line n) p
-refusal-told n p q r e f = put-two (ascii "refused " ++ decimal n) (ascii "\n") p q r e f
 
 module _ (bytes : List ℕ) (reading : Reading) (given : ReadLoosely bytes reading) where
   by-number : (t : Bool) → eqb (reading .number) 0 ≡ t → mend bytes ≡ mended-from bytes (seen-by t reading)

@@ -1,14 +1,9 @@
 -- What mending is to give.
 use Prim.Native.Nat.{ℕ}
-use mathlib.Core.List.{List, _++_}
 use Rattle.definitions.specs.Refusal.{Refusable, refused, accepted}
-use Rattle.definitions.specs.Ascii.{ascii}
-use Rattle.definitions.specs.Listing.{decimal}
 use Rattle.definitions.specs.Mend.{Mended}
 use Rattle.pen.specs.Pen.{Pen, put-all}
-
-abbrev pub refusal-line : ℕ → List ℕ
-refusal-line n = (ascii "refused " ++ decimal n) ++ ascii "\n"
+use Rattle.pen.specs.Refusals.{refusal-line}
 
 -- 0, and the book and the lines put down; or the number of a refusal, no book, and a line that says it
 abbrev pub mends : Refusable Mended → (out told : Pen) → ℕ × Pen × Pen

@@ -3,10 +3,11 @@ use crate::copy::copy;
 use crate::lines::lines;
 use crate::reasons::reasons_of;
 use book::read_loosely;
+use pen::refusals::refusal_line;
 ghost use mathlib.Core.Path.{_≡_};
 ghost use Rattle.definitions.specs.Mend.{mend as mendOf};
-ghost use Rattle.pen.specs.Pen.{pen, put-all};
-ghost use Rattle.mending.specs.Mending.{refusal-line, mends};
+ghost use Rattle.pen.specs.Pen.{pen};
+ghost use Rattle.mending.specs.Mending.{mends};
 
 // What mending comes to: number 0, and how much is in use of the buffer for the book, and of that for the lines; or the number of a
 // refusal, and its line.
@@ -14,13 +15,6 @@ pub struct Mended {
     pub number: u8,
     pub used: usize,
     pub told: usize,
-}
-
-fn refusal_line(out: &mut [u8], number: u8) -> usize
-    ensures { λ r. ⌜ pen (now (out .exit)) r ≡ put-all (refusal-line number) (pen (now (out .entry)) 0) ⌝ }
-{
-    let named = pen::counted(out, 0, b"refused ", number as u64);
-    pen::text(out, named, b"\n")
 }
 
 // Both are put down from the start of their buffers on: `out` is for standard output, `told` for standard error. Where the paper is
@@ -31,7 +25,7 @@ pub fn mend(out: &mut [u8], told: &mut [u8], bytes: &[u8]) -> Mended
 {
     let reading = read_loosely(bytes);
     if reading.number != 0 {
-        let line = refusal_line(told, reading.number);
+        let line = refusal_line(told, 0, reading.number);
         return Mended {
             number: reading.number,
             used: 0,

@@ -10,14 +10,17 @@ use borrow.Author.Tests.{ne-eqb}
 use Rattle.definitions.specs.Ascii.{ascii}
 use Rattle.definitions.specs.Listing.{decimal}
 use Rattle.pen.specs.Pen.{Pen, put-all}
-use Rattle.pen.specs.Refusals.{sentences, sentence-in, sentence, refusal-lines}
+use Rattle.pen.specs.Refusals.{sentences, sentence-in, sentence, refusal-line, refusal-lines}
 use Rattle.pen.proofs.Putting.{put-two}
 
-pub refusal-said : (n : ℕ) (p q r s : Pen) → q ≡ put-all (ascii "refused " ++ decimal n) p → r ≡ put-all (ascii "\n") q
-    → s ≡ put-all (sentence n) r → s ≡ put-all (refusal-lines n) p
+pub line-said : (n : ℕ) (p q r : Pen) → q ≡ put-all (ascii "refused " ++ decimal n) p → r ≡ put-all (ascii "\n") q
+    → r ≡ put-all (refusal-line n) p
+unfolding refusal-line
+line-said n p q r e f = put-two (ascii "refused " ++ decimal n) (ascii "\n") p q r e f
+
+pub refusal-said : (n : ℕ) (p q r : Pen) → q ≡ put-all (refusal-line n) p → r ≡ put-all (sentence n) q → r ≡ put-all (refusal-lines n) p
 unfolding refusal-lines
-refusal-said n p q r s e f g =
-    put-two (ascii "refused " ++ decimal n) (ascii "\n" ++ sentence n) p q s e (put-two (ascii "\n") (sentence n) q r s f g)
+refusal-said n p q r e f = put-two (refusal-line n) (sentence n) p q r e f
 
 pub sentence-is : (n k : ℕ) (p q : Pen) → n ≡ k → q ≡ put-all (sentence k) p → q ≡ put-all (sentence n) p
 sentence-is n k p q e f = rw e f

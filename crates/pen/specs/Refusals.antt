@@ -30,5 +30,8 @@ sentence-in (s ∷ ss) n = elim (eqb n (s .0)) [ true ↦ s .1 | false ↦ sente
 unfoldable pub sentence : ℕ → List ℕ
 sentence n = sentence-in sentences n
 
+unfoldable pub refusal-line : ℕ → List ℕ
+refusal-line n = (ascii "refused " ++ decimal n) ++ ascii "\n"
+
 unfoldable pub refusal-lines : ℕ → List ℕ
-refusal-lines n = (ascii "refused " ++ decimal n) ++ (ascii "\n" ++ sentence n)
+refusal-lines n = refusal-line n ++ sentence n

@@ -4,7 +4,7 @@ use crate::send;
 use crate::text;
 ghost use mathlib.Core.Path.{_≡_};
 ghost use Rattle.pen.specs.Pen.{pen, put-all};
-ghost use Rattle.pen.specs.Refusals.{sentence as sentenceOf, refusal-lines};
+ghost use Rattle.pen.specs.Refusals.{sentence as sentenceOf, refusal-line, refusal-lines};
 
 fn sentence(out: &mut [u8], at: usize, number: u8) -> usize
     ensures { λ r. ⌜ pen (now (out .exit)) r ≡ put-all (sentenceOf number) (pen (now (out .entry)) at) ⌝ }
@@ -42,11 +42,18 @@ fn sentence(out: &mut [u8], at: usize, number: u8) -> usize
     }
 }
 
+// The line alone, for a reader that goes by numbers.
+pub fn refusal_line(out: &mut [u8], at: usize, number: u8) -> usize
+    ensures { λ r. ⌜ pen (now (out .exit)) r ≡ put-all (refusal-line number) (pen (now (out .entry)) at) ⌝ }
+{
+    let named = counted(out, at, b"refused ", number as u64);
+    text(out, named, b"\n")
+}
+
 pub fn refusal(out: &mut [u8], at: usize, number: u8) -> usize
     ensures { λ r. ⌜ pen (now (out .exit)) r ≡ put-all (refusal-lines number) (pen (now (out .entry)) at) ⌝ }
 {
-    let named = counted(out, at, b"refused ", number as u64);
-    let line = text(out, named, b"\n");
+    let line = refusal_line(out, at, number);
     sentence(out, line, number)
 }
 

@@ -1,8 +1,8 @@
--- `refusal_line`: two texts, one behind the other.
-use Rattle.mending.proofs.Mends.{refusal-told}
+-- `refusal_line`: the word with the number, then the end of the line.
+use Rattle.pen.proofs.Sentences.{line-said}
 use borrow.Author.Needs.{needs}
-use Rattle.mending.proofs.mend.refusal_line.Statement.{statement}
-use Rattle.mending.proofs.mend.refusal_line.Tie as tie
+use Rattle.pen.proofs.refusals.refusal_line.Statement.{statement}
+use Rattle.pen.proofs.refusals.refusal_line.Tie as tie
 
 slice-aggregate-counted : tie.Need-slice-aggregate-counted
 slice-aggregate-counted c = search needs
@@ -20,7 +20,7 @@ same-length : tie.Need-same-length
 same-length c = search needs
 
 returns : tie.Need-returns
-returns c = search refusal-told
+returns c = search line-said
 
 pub refusal-line-spec : {M : Type 1} → statement M
 refusal-line-spec =
