@@ -28,6 +28,41 @@ module _ (f : ℕ → Clause) where
       let p : s + k ≡ e = omega arith in
       last-literals-span s k ∙ ap (λ (i : ℕ). length (f i .literals)) p
 
+module _ (first len : List ℕ) where
+  -- no goal's clauses begin before the first's
+  tiles-from : (n g at stop i : ℕ) → Tiles first len g n at stop → i < n → at ≤ getD first (g + i) 0
+  tiles-from zero g at stop i t h = absurd (omega arith)
+  tiles-from (suc n) g at stop zero t h =
+      let e : g + 0 ≡ g = omega arith in
+      let f = ap (λ (x : ℕ). getD first x 0) e ∙ t .0 in
+      omega arith
+  tiles-from (suc n) g at stop (suc i) t h =
+      let e : g + suc i ≡ suc g + i = omega arith in
+      let f = ap (λ (x : ℕ). getD first x 0) e in
+      let r = tiles-from n (suc g) (at + getD len g 0) stop i (t .1) (omega arith) in
+      omega arith
+
+  -- goals are in their order
+  pub tiles-order : (n g at stop h i : ℕ) → Tiles first len g n at stop → h < i → i < n
+      → getD first (g + h) 0 + getD len (g + h) 0 ≤ getD first (g + i) 0
+  tiles-order zero g at stop h i t l m = absurd (omega arith)
+  tiles-order (suc n) g at stop h zero t l m = absurd (omega arith)
+  tiles-order (suc n) g at stop zero (suc i) t l m =
+      let e : g + 0 ≡ g = omega arith in
+      let f = ap (λ (x : ℕ). getD first x 0 + getD len x 0) e in
+      let p = t .0 in
+      let z : g + suc i ≡ suc g + i = omega arith in
+      let y = ap (λ (x : ℕ). getD first x 0) z in
+      let r = tiles-from n (suc g) (at + getD len g 0) stop i (t .1) (omega arith) in
+      omega arith
+  tiles-order (suc n) g at stop (suc h) (suc i) t l m =
+      let e : g + suc h ≡ suc g + h = omega arith in
+      let f = ap (λ (x : ℕ). getD first x 0 + getD len x 0) e in
+      let z : g + suc i ≡ suc g + i = omega arith in
+      let y = ap (λ (x : ℕ). getD first x 0) z in
+      let r = tiles-order n (suc g) (at + getD len g 0) stop h i (t .1) (omega arith) (omega arith) in
+      omega arith
+
 module _ (f : ℕ → Clause) (flags first len : List ℕ) where
   pub tiles-count : (n g at end : ℕ) → Tiles first len g n at end → at + clause-count (span (goal-in f flags first len) g n) ≡ end
   tiles-count zero g at end t = omega arith

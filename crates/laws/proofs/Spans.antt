@@ -20,6 +20,18 @@ module _ {A : Type 0} where
       let e : suc s + n ≡ s + suc n = omega arith in
       ap (λ (l : List A). f s ∷ l) (span-snoc f (suc s) n ∙ ap (λ (i : ℕ). span f (suc s) n ++ (f i ∷ [])) e)
 
+  -- m places, and then n more
+  pub span-append : (f : ℕ → A) (s m n : ℕ) → span f s (m + n) ≡ span f s m ++ span f (s + m) n
+  span-append f s zero n =
+      let z : s + 0 ≡ s = omega arith in
+      let w : 0 + n ≡ n = omega arith in
+      ap₂ (λ (a k : ℕ). span f a k) (sym z) w
+  span-append f s (suc m) n =
+      let z : suc s + m ≡ s + suc m = omega arith in
+      let w : suc m + n ≡ suc (m + n) = omega arith in
+      ap (span f s) w
+      ∙ ap (λ (l : List A). f s ∷ l) (span-append f (suc s) m n ∙ ap (λ (a : ℕ). span f (suc s) m ++ span f a n) z)
+
   pub span-ext : (f h : ℕ → A) (s n : ℕ) → ((i : ℕ) → s ≤ i → i < s + n → f i ≡ h i) → span f s n ≡ span h s n
   span-ext f h s zero e = refl
   span-ext f h s (suc n) e =

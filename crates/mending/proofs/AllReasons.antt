@@ -4,56 +4,22 @@ use native.Mathlib.Omega.{arith}
 use mathlib.Core.Path.{_≡_, refl, sym, ap, ap₂, subst, _∙_}
 use mathlib.Core.Bool.{Bool, true, false}
 use mathlib.Core.Option.{Option}
-use mathlib.Core.List.{List, [], _∷_, _++_}
+use mathlib.Core.List.{List, [], _++_}
 use lib.ListN.{length, getD}
 use lib.Dec.{ltb}
 use borrow.Author.Tests.{ltb-true, ltb-false}
 use Rattle.laws.specs.Spans.{span}
-use Rattle.laws.proofs.Spans.{span-ext}
+use Rattle.laws.proofs.Spans.{span-ext, span-append}
 use Rattle.definitions.specs.Mend.{reasons-behind, reasons-of, reasons}
 use Rattle.book.specs.declared.Book.{Book}
 use Rattle.book.specs.Access.{entry}
 use Rattle.book.specs.View.{clause-viewed, goal-viewed, view, Tiles, Formed}
 use Rattle.book.proofs.Shown.{lent-by}
+use Rattle.book.proofs.Tilings.{tiles-order}
 use Rattle.book.proofs.Held.{goal-within, goals-counted}
 use Rattle.mending.specs.Reasons.{codes-from, reason-in, reason-at, Coded}
 use Rattle.mending.proofs.Telling.{first-there, count-there}
 use Rattle.mending.proofs.Reasoned.{Known, Found, goal-found, goal-reasons}
-
--- Goals that lie side by side are in their order.
-
-module _ (first len : List ℕ) where
-  tiles-from : (n g at stop i : ℕ) → Tiles first len g n at stop → i < n → at ≤ getD first (g + i) 0
-  tiles-from zero g at stop i t h = absurd (omega arith)
-  tiles-from (suc n) g at stop zero t h =
-      let e : g + 0 ≡ g = omega arith in
-      let f = ap (λ (x : ℕ). getD first x 0) e ∙ t .0 in
-      omega arith
-  tiles-from (suc n) g at stop (suc i) t h =
-      let e : g + suc i ≡ suc g + i = omega arith in
-      let f = ap (λ (x : ℕ). getD first x 0) e in
-      let r = tiles-from n (suc g) (at + getD len g 0) stop i (t .1) (omega arith) in
-      omega arith
-
-  tiles-order : (n g at stop h i : ℕ) → Tiles first len g n at stop → h < i → i < n
-      → getD first (g + h) 0 + getD len (g + h) 0 ≤ getD first (g + i) 0
-  tiles-order zero g at stop h i t l m = absurd (omega arith)
-  tiles-order (suc n) g at stop h zero t l m = absurd (omega arith)
-  tiles-order (suc n) g at stop zero (suc i) t l m =
-      let e : g + 0 ≡ g = omega arith in
-      let f = ap (λ (x : ℕ). getD first x 0 + getD len x 0) e in
-      let p = t .0 in
-      let z : g + suc i ≡ suc g + i = omega arith in
-      let y = ap (λ (x : ℕ). getD first x 0) z in
-      let r = tiles-from n (suc g) (at + getD len g 0) stop i (t .1) (omega arith) in
-      omega arith
-  tiles-order (suc n) g at stop (suc h) (suc i) t l m =
-      let e : g + suc h ≡ suc g + h = omega arith in
-      let f = ap (λ (x : ℕ). getD first x 0 + getD len x 0) e in
-      let z : g + suc i ≡ suc g + i = omega arith in
-      let y = ap (λ (x : ℕ). getD first x 0) z in
-      let r = tiles-order n (suc g) (at + getD len g 0) stop h i (t .1) (omega arith) (omega arith) in
-      omega arith
 
 module _ (b : Book) where
   abbrev starts : ℕ → ℕ
@@ -138,16 +104,6 @@ module _ (b : Book) where
     }
 
 -- The flat list of the reasons.
-
-pub span-append : {A : Type 0} (f : ℕ → A) (s m n : ℕ) → span f s (m + n) ≡ span f s m ++ span f (s + m) n
-span-append f s zero n =
-    let z : s + 0 ≡ s = omega arith in
-    let w : 0 + n ≡ n = omega arith in
-    ap₂ (λ (a k : ℕ). span f a k) (sym z) w
-span-append f s (suc m) n =
-    let z : suc s + m ≡ s + suc m = omega arith in
-    let w : suc m + n ≡ suc (m + n) = omega arith in
-    ap (span f s) w ∙ ap (λ (l : List _). f s ∷ l) (span-append f (suc s) m n ∙ ap (λ (a : ℕ). span f (suc s) m ++ span f a n) z)
 
 module _ (b : Book) (formed : Formed b) (codes : List ℕ) (coded : Coded b codes) where
   flat-from : (n g at stop : ℕ) → Tiles (b .«goal_first») (b .«goal_len») g n at stop → g + n ≤ b .goals

@@ -9,6 +9,7 @@ use mathlib.Core.List.{List, [], _∷_, _++_}
 use lib.Dec.{eqb}
 use borrow.Author.Tests.{eq-eqb, ne-eqb}
 use Rattle.laws.specs.Spans.{span}
+use Rattle.laws.proofs.Spans.{span-append}
 use Rattle.laws.proofs.All.{All, end, more}
 use Rattle.definitions.specs.Refusal.{Refusable, refused}
 use Rattle.definitions.specs.Book.{Command, goal, clause, positive, ranged, negative, unknown, command, width}
@@ -23,7 +24,7 @@ use Rattle.pen.specs.Pen.{Pen, put-all}
 use Rattle.pen.specs.Refusals.{refusal-line}
 use Rattle.mending.specs.Reasons.{reason-in, reason-at, Coded}
 use Rattle.mending.specs.Mending.{mends}
-use Rattle.mending.proofs.AllReasons.{span-append, flat}
+use Rattle.mending.proofs.AllReasons.{flat}
 
 -- Where clauses behind the last would all stay, they make no difference.
 
