@@ -13,6 +13,7 @@ ghost use Rattle.book.specs.Repeats.{lent};
 ghost use Rattle.mending.specs.Reasons.{all-below, goals-named, repeats-at, repeats as repeatsOf, code-at, codes-from};
 ghost use Rattle.mending.specs.Reasons.{FewLiterals, Coded};
 
+// The goal at a place of the array: in a proof a result is known to fit its type, an element of a lent array is not.
 fn goal_at(goal: &[u16; 2048], place: usize) -> u16
     requires { ⌜ place < 2048 ⌝ }
     ensures { λ r. ⌜ r ≡ getD (now (goal .entry)) place 0 ⌝ }
