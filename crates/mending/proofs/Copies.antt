@@ -67,13 +67,11 @@ module _ (codes : List ℕ) (c r : Copying) (b w : ℕ) (wide : w ≡ marked (co
         → (r .skip ≡ width (command b)) × (copying codes r ≡ at-command (command b) (copying codes c))
     clause-command e f = (wide-known, f ∙ sym (ap (λ (x : ℕ). at-command (command x) (copying codes c)) e))
 
-    pub goal-command : b ≡ 0x47 → ((cs : List ℕ) → copying cs r ≡ at-other (copying cs c))
+    -- a goal's, or the end
+    pub other-command : at-command (command b) (copying codes c) ≡ at-other (copying codes c)
+        → ((cs : List ℕ) → copying cs r ≡ at-other (copying cs c))
         → (r .skip ≡ width (command b)) × (copying codes r ≡ at-command (command b) (copying codes c))
-    goal-command e f = (wide-known, f codes ∙ sym (ap (λ (x : ℕ). at-command (command x) (copying codes c)) e))
-
-    pub end-command : b ≡ 0x45 → ((cs : List ℕ) → copying cs r ≡ at-other (copying cs c))
-        → (r .skip ≡ width (command b)) × (copying codes r ≡ at-command (command b) (copying codes c))
-    end-command e f = (wide-known, f codes ∙ sym (ap (λ (x : ℕ). at-command (command x) (copying codes c)) e))
+    other-command e f = (wide-known, f codes ∙ sym e)
 
     pub literal-command : (b ≡ 0x47 → ⊥) → (b ≡ 0x43 → ⊥) → (b ≡ 0x45 → ⊥) → r .stays ≡ c .«last_stays»
         → r .«last_stays» ≡ c .«last_stays» → r .clauses ≡ c .clauses

@@ -73,7 +73,7 @@ none-from codes s (suc n) z = more (z s (omega arith)) (none-from codes (suc s) 
 -- The copy.
 
 module _ (b : Book) (formed : Formed b) (codes : List ℕ) (coded : Coded b codes) where
-  pub copied-so : (bytes : List ℕ) → copied bytes (span (reason-at codes) 0 256) ≡ copied bytes (reasons (view b))
+  copied-so : (bytes : List ℕ) → copied bytes (span (reason-at codes) 0 256) ≡ copied bytes (reasons (view b))
   copied-so bytes =
       let z : 256 ≡ b .clauses + (256 - b .clauses) = omega (arith, formed .few-clauses) in
       let rest = span (reason-at codes) (0 + b .clauses) (256 - b .clauses) in

@@ -12,15 +12,15 @@ use lib.Dec.{ltb}
 use borrow.Author.Tests.{ltb-true, ltb-false, eq-eqb, ne-eqb}
 use Rattle.laws.specs.Spans.{span}
 use Rattle.laws.proofs.Spans.{span-snoc}
-use Rattle.definitions.specs.Book as said
-use Rattle.definitions.specs.Book.{Clause, goal-of, literals-name, bit0, bit1}
+use Rattle.definitions.specs.Book.{Clause, literals-name}
 use Rattle.definitions.specs.Desk.{same-clause}
 use Rattle.definitions.specs.Lists.{push, position}
 use Rattle.definitions.specs.Mend.{repeated, reason, reasons-behind}
 use Rattle.definitions.proofs.Desk.{same-clause-is}
 use Rattle.book.specs.declared.Book.{Book}
-use Rattle.book.specs.View.{Formed, signed, wanted, bit2, literal-viewed, clause-viewed}
+use Rattle.book.specs.View.{Formed, literal-viewed, clause-viewed}
 use Rattle.book.specs.Repeats.{clause-read}
+use Rattle.book.proofs.MoreLiterals.{goal-of-kept}
 use Rattle.book.proofs.Shown.{lent-by, formed-shown}
 use Rattle.mending.specs.Reasons.{all-below, one-passes, repeats-at, repeats, code-by, code-at, codes-from}
 use Rattle.mending.specs.Reasons.{reason-in, reason-at}
@@ -75,17 +75,12 @@ module _ (b : Book) (formed : Formed b) where
   names c = literals-name (b .goals) (v c .literals)
 
   -- the goals of a clause, by the array or by its literals
-  goal-there : (negative : Bool) (g : ℕ) (w : said.Want) (o : Bool) → goal-of (signed negative g w o) ≡ g
-  goal-there true g w o = refl
-  goal-there false g w o = refl
-
   below-names : (s m : ℕ) → all-below (b .goals) (span (λ i. getD (b .«literal_goal») i 0) s m)
       ≡ literals-name (b .goals) (span (literal-viewed b) s m)
   below-names s zero = refl
   below-names s (suc m) =
       ap₂ (λ (g : ℕ) (t : Bool). elim (ltb g (b .goals)) [ true ↦ t | false ↦ false ])
-      (sym (goal-there (bit1 (getD (b .«literal_kind») s 0)) (getD (b .«literal_goal») s 0)
-      (wanted (bit2 (getD (b .«literal_kind») s 0)) _ _) (bit0 (getD (b .«literal_kind») s 0))))
+      (sym (goal-of-kept (getD (b .«literal_kind») s 0) (getD (b .«literal_goal») s 0) (getD (b .«literal_want») s 0)))
       (below-names (suc s) m)
 
   module _ (first k : ℕ) (codes : List ℕ) (inside : first + k < b .clauses)

@@ -1,7 +1,11 @@
 -- `at_command`: by what the byte says.
-use Rattle.mending.proofs.Copies.{unknown-goes, clause-command, goal-command, end-command, literal-command}
-use mathlib.Core.Path.{refl}
+use Rattle.mending.proofs.Copies.{unknown-goes, clause-command, other-command, literal-command}
+use Prim.Native.Nat.{ℕ}
+use mathlib.Core.Path.{refl, ap}
+use Rattle.definitions.specs.Book.{command}
+use Rattle.definitions.specs.Mend.{at-command}
 use Rattle.mending.specs.declared.copy.Copying.{Copying}
+use Rattle.mending.specs.Copying.{copying}
 use borrow.Author.Needs.{needs}
 use Rattle.mending.proofs.copy.at_command.Statement.{statement}
 use Rattle.mending.proofs.copy.at_command.Tie as tie
@@ -33,8 +37,11 @@ at-other-requires-2 c κs = search needs
 returns-3 : tie.Need-returns-3
 returns-3 c =
     let a = c .before .before .before .before in
-    goal-command (a .before .args .codes .now) (a .before .args .c) (c .at-other2 .result) (a .before .args .b) (a .width .result)
-    (a .width .ensures) (c .before .before .before .if1 .left) (c .at-other2 .ensures .0) (c .before .if3 .taken) (c .at-other2 .ensures .1)
+    let codes = a .before .args .codes .now in
+    let from = a .before .args .c in
+    let stays = ap (λ (x : ℕ). at-command (command x) (copying codes from)) (c .before .if3 .taken) in
+    other-command codes from (c .at-other2 .result) (a .before .args .b) (a .width .result) (a .width .ensures)
+    (c .before .before .before .if1 .left) (c .at-other2 .ensures .0) stays (c .at-other2 .ensures .1)
 
 at-other-requires-3 : tie.Need-at-other-requires-3
 at-other-requires-3 c κs = search needs
@@ -42,9 +49,11 @@ at-other-requires-3 c κs = search needs
 returns-4 : tie.Need-returns-4
 returns-4 c =
     let a = c .before .before .before .before .before in
-    end-command (a .before .args .codes .now) (a .before .args .c) (c .at-other3 .result) (a .before .args .b) (a .width .result)
-    (a .width .ensures) (c .before .before .before .before .if1 .left) (c .at-other3 .ensures .0)
-    (c .before .if4 .taken) (c .at-other3 .ensures .1)
+    let codes = a .before .args .codes .now in
+    let from = a .before .args .c in
+    let stays = ap (λ (x : ℕ). at-command (command x) (copying codes from)) (c .before .if4 .taken) in
+    other-command codes from (c .at-other3 .result) (a .before .args .b) (a .width .result) (a .width .ensures)
+    (c .before .before .before .before .if1 .left) (c .at-other3 .ensures .0) stays (c .at-other3 .ensures .1)
 
 returns-5 : tie.Need-returns-5
 returns-5 c =
@@ -53,7 +62,8 @@ returns-5 c =
     let to : Copying =
     record { skip = a .width .result; stays = from .«last_stays»; «last_stays» = from .«last_stays»; clauses = from .clauses } in
     literal-command (a .before .args .codes .now) from to (a .before .args .b) (a .width .result)
-    (a .width .ensures) (c .before .before .before .if1 .left) refl (c .before .if3 .left) (c .before .before .if2 .left) (c .if4 .left) refl refl refl
+    (a .width .ensures) (c .before .before .before .if1 .left) refl (c .before .if3 .left) (c .before .before .if2 .left) (c .if4 .left)
+    refl refl refl
 
 pub at-command-spec : {M : Type 1} → statement M
 at-command-spec =
