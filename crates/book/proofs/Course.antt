@@ -18,7 +18,7 @@ use Rattle.definitions.proofs.Book.{want-straight}
 use Rattle.book.specs.declared.Book.{Book}
 use Rattle.book.specs.declared.Reading.{Reading}
 use Rattle.book.specs.declared.decode.Operands.{Operands}
-use Rattle.book.specs.View.{numbered, view, kept, Full, Ranged, blank, seen-by}
+use Rattle.book.specs.View.{numbered, view, kept, Full, Ranged, Sound, blank, seen-by}
 use Rattle.book.specs.Faults.{fault, marked, counts, next-fault, literal-tests, largest}
 use Rattle.book.specs.Naming.{ReadNamed}
 use Rattle.book.specs.Operands.{kind-by, want-at, high-at, OperandsAt}
@@ -80,6 +80,18 @@ blank-held = record {
   naming = λ n. sym (leb·zero n);
 }
 
+-- the book of a refusal
+pub blank-sound : Sound blank
+blank-sound = record {
+  full = blank-full;
+  ranged = blank-ranged;
+  few-goals = blank-held .few-goals;
+  few-clauses = blank-held .few-clauses;
+  few-literals = blank-held .few-literals;
+  tiles = blank-held .tiles;
+  named = blank-held .naming 0;
+}
+
 pub start : (bs : List ℕ) (b : Book) → b ≡ blank → SoFar bs b 0 0 0
 start bs b e = subst (λ (x : Book). SoFar bs x 0 0 0) (sym e) (record { held = blank-held; rest = refl })
 
@@ -121,13 +133,6 @@ module _ (bs : List ℕ) (b : Book) (literals named at : ℕ) (s : SoFar bs b li
 
     -- the end command
     module _ (is : byte bs at ≡ 0x45) where
-      some-goals : 0 < b .goals
-      some-goals =
-          let t = tests-passed b literals named (s .held) bs at (sym fine) end (ap command is) in
-          let p = passes (ltb 0 (length after) refuses 7) (eqb (b .goals) 0 refuses 8 ∷ []) (omega arith) t in
-          let q = passes (eqb (b .goals) 0 refuses 8) [] (omega arith) (p .1) in
-          omega (arith, eqb-false (b .goals) 0 (q .0))
-
       pub ends : ReadNamed bs (record { reading = record { number = 0; book = b }; named = named })
       ends =
           let h = s .held in
@@ -137,7 +142,6 @@ module _ (bs : List ℕ) (b : Book) (literals named at : ℕ) (s : SoFar bs b li
               formed = λ z. record {
                 full = h .full;
                 ranged = h .ranged;
-                some-goal = some-goals;
                 few-goals = h .few-goals;
                 few-clauses = h .few-clauses;
                 few-literals = h .few-literals;

@@ -80,9 +80,9 @@ module _ (b : Book) (s : Sound b) (n : ℕ) where
         goals-within (suc g) k (both-true first rest e .1),
       )
 
-pub sound-within : (b : Book) → Sound b → Within (view b)
-sound-within b s = record {
-  some-goal = omega (arith, s .some-goal, goals-counted b);
+pub sound-within : (b : Book) → Sound b → 0 < b .goals → Within (view b)
+sound-within b s some = record {
+  some-goal = omega (arith, some, goals-counted b);
   few-goals = omega (arith, s .few-goals, goals-counted b);
   few-clauses = omega (arith, s .few-clauses, clauses-counted b (s .tiles));
   clauses-fit = subst (λ (n : ℕ). GoalsWithin n (view b)) (sym (goals-counted b)) (goals-within b s (b .goals) 0 (b .goals) (s .named));

@@ -60,7 +60,6 @@ module _ (bytes : List ℕ) (m : Named) (h : ReadNamed bytes m) (fine : m .readi
         sound = λ _. record {
           full = f .full;
           ranged = f .ranged;
-          some-goal = f .some-goal;
           few-goals = f .few-goals;
           few-clauses = f .few-clauses;
           few-literals = f .few-literals;

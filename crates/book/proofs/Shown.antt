@@ -47,7 +47,6 @@ pub sound-formed : (b : Book) → Sound b → Formed b
 sound-formed b s = record {
   full = s .full;
   ranged = s .ranged;
-  some-goal = s .some-goal;
   few-goals = s .few-goals;
   few-clauses = s .few-clauses;
   few-literals = s .few-literals;

@@ -98,10 +98,10 @@ pub record Ranged (b : Book) : Type 0 where
   pub wants : (i : ℕ) → getD (b .«literal_want») i 0 < 4294967296
   pub straight : (i : ℕ) → said.crossed (literal-viewed b i) ≡ false
 
+-- WHAT EVERY BOOK IS that a forest or a reading holds; the blank one of a refusal too, which has no goal
 pub record Sound (b : Book) : Type 0 where
   pub full : Full b
   pub ranged : Ranged b
-  pub some-goal : 0 < b .goals
   pub few-goals : b .goals ≤ 64
   pub few-clauses : b .clauses ≤ 256
   pub few-literals : (c : ℕ) → getD (b .«clause_len») c 0 ≤ 8
@@ -112,7 +112,6 @@ pub record Sound (b : Book) : Type 0 where
 pub record Formed (b : Book) : Type 0 where
   pub full : Full b
   pub ranged : Ranged b
-  pub some-goal : 0 < b .goals
   pub few-goals : b .goals ≤ 64
   pub few-clauses : b .clauses ≤ 256
   pub few-literals : (c : ℕ) → getD (b .«clause_len») c 0 ≤ 8

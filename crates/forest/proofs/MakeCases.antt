@@ -13,12 +13,14 @@ use Rattle.definitions.specs.Forest as said
 use Rattle.definitions.specs.Refusal.{Refusable, refused, accepted, _refuses_, unless}
 use Rattle.definitions.specs.Tables as tables
 use Rattle.definitions.proofs.Desk.{desk-reads}
+use Rattle.laws.proofs.All.{end}
 use Rattle.laws.proofs.Spans.{length-span}
-use Rattle.asserts.proofs.Reading.{made-sound}
+use Rattle.asserts.proofs.Reading.{bare-sound, made-sound}
 use Rattle.asserts.proofs.Sound.{SoundForest}
 use Rattle.book.specs.View as books
 use Rattle.book.specs.declared.Book.{Book}
 use Rattle.book.specs.declared.Reading.{Reading}
+use Rattle.book.proofs.Course.{blank-sound}
 use Rattle.stores.specs.declared.queue.Strands.{Strands}
 use Rattle.stores.specs.declared.table.Answers.{Answers}
 use Rattle.stores.specs.declared.tables.Tables.{Tables}
@@ -55,9 +57,10 @@ bare-is b limit mark ts et s es a ea =
     ∙ ap (λ (u : Strands). forest-with b blank-tables u a limit mark) es
     ∙ ap (λ (u : Answers). forest-with b blank-tables blank-strands u limit mark) ea
 
-pub refused-is : (n : ℕ) (b : Book) (f : Forest) → f ≡ bare b 0 n
-    → _≡_ {A = Made} (record { making = makings.Refused n; forest = f }) (refused-with n b)
-refused-is n b f e = ap (λ (g : Forest). record { making = makings.Refused n; forest = g }) e
+pub refused-is : (n : ℕ) (b : Book) → b ≡ books.blank → (f : Forest) → f ≡ bare b 0 n
+    → _≡_ {A = Made} (record { making = makings.Refused n; forest = f }) (refused-with n)
+refused-is n b eb f e =
+    ap (λ (g : Forest). record { making = makings.Refused n; forest = g }) (e ∙ ap (λ (c : Book). bare c 0 n) eb)
 
 -- blank stores are sound, with any book
 pub bare-sounds : (b : Book) (limit mark : ℕ) → Sounds [] (stores-in (bare b limit mark))
@@ -69,11 +72,20 @@ bare-sounds b limit mark = record {
   made = λ i h. absurd (omega (arith, h));
 }
 
-refused-says : (what : Refusable tables.Forest) (n : ℕ) (b : Book) → refused n ≡ what → MadeSays what (refused-with n b)
-refused-says what n b e = record {
+-- what a refusal leaves is sound: a blank book, blank stores, and the clock at its limit of 0
+pub blank-rests : (n : ℕ) → Sound (bare books.blank 0 n)
+blank-rests n = record {
+  book = blank-sound;
+  sounds = bare-sounds books.blank 0 n;
+  empty = refl;
+  forest = bare-sound [] 0 n (omega arith) end (omega arith);
+}
+
+refused-says : (what : Refusable tables.Forest) (n : ℕ) → refused n ≡ what → MadeSays what (refused-with n)
+refused-says what n e = record {
   says = e;
-  sound = λ never. absurd (subst WasMade (sym never) tt);
-  marked = λ m same. (b, ap (bare b 0) (ap number-in same));
+  sound = blank-rests n;
+  marked = λ m same. ap (bare books.blank 0) (ap number-in same);
 }
 
 -- OF A READING
@@ -90,8 +102,8 @@ module _ (limit : ℕ) where
     what = said.make-of (books.seen r) limit
 
     -- the book's number
-    pub says-unread : 0 < r .number → (m : Made) → m ≡ refused-with (r .number) (r .book) → MakeOfSays r limit m
-    says-unread some m is = subst (MadeSays what) (sym is) (refused-says what (r .number) (r .book)
+    pub says-unread : 0 < r .number → (m : Made) → m ≡ refused-with (r .number) → MakeOfSays r limit m
+    says-unread some m is = subst (MadeSays what) (sym is) (refused-says what (r .number)
         (sym (ap (λ (b : Bool). said.make-of (books.seen-by b r) limit) (ne-eqb (r .number) 0 (λ e. omega (arith, e, some))))))
 
     module _ (read : r .number ≤ 0) where
@@ -99,16 +111,16 @@ module _ (limit : ℕ) where
       make-is = sym (ap (λ (b : Bool). said.make-of (books.seen-by b r) limit) (eq-eqb (r .number) 0 (omega (arith, read))))
 
       -- the limit's number
-      pub says-zero : limit ≡ 0 → (m : Made) → m ≡ refused-with 13 (r .book) → MakeOfSays r limit m
-      says-zero e m is = subst (MadeSays what) (sym is) (refused-says what 13 (r .book)
+      pub says-zero : limit ≡ 0 → (m : Made) → m ≡ refused-with 13 → MakeOfSays r limit m
+      says-zero e m is = subst (MadeSays what) (sym is) (refused-says what 13
           (sym (ap (λ (b : Bool). limited b (leb MAX limit) (books.view (r .book))) (eq-eqb limit 0 e)) ∙ make-is))
 
       module _ (some : limit ≡ 0 → ⊥) where
         above : limited false (leb MAX limit) (books.view (r .book)) ≡ limited (eqb limit 0) (leb MAX limit) (books.view (r .book))
         above = sym (ap (λ (b : Bool). limited b (leb MAX limit) (books.view (r .book))) (ne-eqb limit 0 some))
 
-        pub says-large : MAX ≤ limit → (m : Made) → m ≡ refused-with 13 (r .book) → MakeOfSays r limit m
-        says-large large m is = subst (MadeSays what) (sym is) (refused-says what 13 (r .book)
+        pub says-large : MAX ≤ limit → (m : Made) → m ≡ refused-with 13 → MakeOfSays r limit m
+        says-large large m is = subst (MadeSays what) (sym is) (refused-says what 13
             (sym (ap (λ (b : Bool). limited false b (books.view (r .book))) (le-leb MAX limit large)) ∙ above ∙ make-is))
 
         -- made
@@ -134,7 +146,7 @@ module _ (limit : ℕ) where
                 → MakeOfSays r limit (record { making = makings.Made; forest = f })
             says-made f is = record {
               says = ap (λ (g : Forest). accepted (view g)) is ∙ is-made ∙ make-is;
-              sound = λ _. subst Sound (sym is) rests;
+              sound = subst Sound (sym is) rests;
               marked = λ n never. absurd (subst WasMade never tt);
             }
 

@@ -33,8 +33,8 @@ abbrev pub bare : Book → (limit mark : ℕ) → Forest
 bare b limit mark = forest-with b blank-tables blank-strands blank-answers limit mark
 
 -- `refused`: what a refusal with this number leaves
-abbrev pub refused-with : (number : ℕ) → Book → Made
-refused-with n b = record { making = makings.Refused n; forest = bare b 0 n }
+abbrev pub refused-with : (number : ℕ) → Made
+refused-with n = record { making = makings.Refused n; forest = bare books.blank 0 n }
 
 abbrev pub made-by : Making → tables.Forest → Refusable tables.Forest
 made-by (makings.Refused n) f = refused n
@@ -43,12 +43,12 @@ made-by makings.Made f = accepted f
 abbrev pub made-means : Made → Refusable tables.Forest
 made-means r = made-by (r .making) (view (r .forest))
 
--- THE CONTRACT, of a way in and for every byte string and every limit: the result is the definitions', a forest that was made is sound,
--- and one that was not has nothing in it and is marked with the number, so that every later open, search and peek is refused.
+-- THE CONTRACT, of a way in and for every byte string and every limit: the result is the definitions', the forest is sound, and where
+-- none was made it has nothing in it, no book either, and is marked with the number, so that every later open, search and peek is refused.
 pub record MadeSays (what : Refusable tables.Forest) (r : Made) : Type 0 where
   pub says : made-means r ≡ what
-  pub sound : r .making ≡ makings.Made → Sound (r .forest)
-  pub marked : (n : ℕ) → r .making ≡ makings.Refused n → (b : Book) × (r .forest ≡ bare b 0 n)
+  pub sound : Sound (r .forest)
+  pub marked : (n : ℕ) → r .making ≡ makings.Refused n → r .forest ≡ bare books.blank 0 n
 
 -- `make`
 abbrev pub MakeSays : (bytes : List ℕ) → (limit : ℕ) → Made → Type 0

@@ -16,7 +16,7 @@ pub enum Making {
     Made,
 }
 
-// With a refusal the forest holds a book without goals.
+// With a refusal the forest holds a book without goals, and is marked.
 pub struct Made {
     pub making: Making,
     pub forest: Forest,
@@ -101,12 +101,14 @@ fn bare_forest(b: Book, clock_limit: u64, mark: u8) -> Forest
     }
 }
 
-// A forest that was not made is marked with the number, so that whoever calls it is refused.
-fn refused(number: u8, b: Book) -> Made
-    ensures { λ r. ⌜ r ≡ refused-with number b ⌝ }
+// A forest that was not made holds nothing and is marked with the number, so that whoever calls it is refused.
+fn refused(number: u8) -> Made
+    ensures { λ r. ⌜ r ≡ refused-with number ⌝ }
 {
     let making = Making::Refused(number);
-    let forest = bare_forest(b, 0, number);
+    let reading = book::refused(number);
+    let blank = reading.book;
+    let forest = bare_forest(blank, 0, number);
     Made { making, forest }
 }
 
@@ -115,16 +117,16 @@ fn make_of(r: Reading, clock_limit: u64) -> Made
     requires { ⌜ Stems r ⌝ }
     ensures { λ m. ⌜ MakeOfSays r «clock_limit» m ⌝ }
 {
-    let b = r.book;
     if r.number > 0 {
-        return refused(r.number, b);
+        return refused(r.number);
     }
     if clock_limit == 0 {
-        return refused(13, b);
+        return refused(13);
     }
     if clock_limit >= TimeStamp::MAX.clock {
-        return refused(13, b);
+        return refused(13);
     }
+    let b = r.book;
     let making = Making::Made;
     let forest = bare_forest(b, clock_limit, 0);
     Made { making, forest }

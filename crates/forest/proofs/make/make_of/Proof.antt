@@ -10,7 +10,7 @@ refused-requires c κs = search needs
 returns : tie.Need-returns
 returns c =
     let test = c .before in
-    let a = test .before .before .before .args in
+    let a = test .before .before .args in
     says-unread (a .clock-limit) (a .r) (test .if1 .taken) (c .refused .result) (c .refused .ensures)
 
 refused-requires-2 : tie.Need-refused-requires-2
@@ -20,7 +20,7 @@ returns-2 : tie.Need-returns-2
 returns-2 c =
     let zero = c .before in
     let test = zero .before in
-    let a = test .before .before .before .args in
+    let a = test .before .before .args in
     says-zero (a .clock-limit) (a .r) (test .if1 .left) (zero .if2 .taken) (c .refused2 .result) (c .refused2 .ensures)
 
 refused-requires-3 : tie.Need-refused-requires-3
@@ -31,7 +31,7 @@ returns-3 c =
     let large = c .before in
     let zero = large .before .before in
     let test = zero .before in
-    let a = test .before .before .before .args in
+    let a = test .before .before .args in
     says-large (a .clock-limit) (a .r) (test .if1 .left) (zero .if2 .left) (large .if3 .taken) (c .refused3 .result)
     (c .refused3 .ensures)
 
@@ -40,10 +40,10 @@ bare-forest-requires c κs = search needs
 
 returns-4 : tie.Need-returns-4
 returns-4 c =
-    let large = c .before in
+    let large = c .before .before in
     let zero = large .before .before in
     let test = zero .before in
-    let start = test .before .before .before in
+    let start = test .before .before in
     let a = start .args in
     says-made (a .clock-limit) (a .r) (test .if1 .left) (zero .if2 .left) (large .if3 .left) (start .pre) (c .bare-forest .result)
     (c .bare-forest .ensures)
