@@ -14,7 +14,9 @@ pub mod Passes
 pub mod Trails
 pub mod Levels
 pub mod Digits
+pub mod XsbCapped
 pub mod XsbShows
+pub mod XsbTold
 pub mod XsbReads
 pub mod XsbBooks
 pub mod MendBooks
@@ -26,3 +28,4 @@ pub mod MendReasons
 pub mod MendFits
 pub mod XsbOrder
 pub mod Xsb
+pub mod XsbRefusals

@@ -24,8 +24,10 @@ use Rattle.definitions.specs.Xsb.{book-of, parsed-book, import}
 use Rattle.definitions.proofs.Refusal.{not-accepted, all-pass}
 use Rattle.definitions.proofs.Desk.{desk-took, desk-passes, none-found}
 use Rattle.definitions.proofs.RoundTrip.{goals-named}
-use Rattle.definitions.proofs.XsbShows.{Small, SmallRule, parse-text}
-use Rattle.definitions.proofs.XsbReads.{BareRule, text-parsed}
+use Rattle.definitions.proofs.XsbShows.{Small, SmallRule}
+use Rattle.definitions.proofs.XsbTold.{parse-text}
+use Rattle.definitions.specs.XsbForm.{BareRule}
+use Rattle.definitions.proofs.XsbReads.{text-parsed}
 use Rattle.definitions.proofs.XsbBooks.{goals-for-length, book-back, book-ordered, rules-back}
 use Rattle.definitions.proofs.XsbOrder.{parse-fits}
 
@@ -174,7 +176,7 @@ clauses-below n g (c ∷ cs) e =
     let p = both-true (literals-name n (c .literals)) _ e in
     more (literals-below n (c .literals) (p .0)) (clauses-below n g cs (p .1))
 
-goals-below : (n g : ℕ) (hs : List Goal) → goals-name n hs ≡ true → All (BelowRule n) (rules-from g hs)
+pub goals-below : (n g : ℕ) (hs : List Goal) → goals-name n hs ≡ true → All (BelowRule n) (rules-from g hs)
 goals-below n g [] e = end
 goals-below n g (h ∷ hs) e =
     let p = both-true (clauses-name n (h .clauses)) _ e in

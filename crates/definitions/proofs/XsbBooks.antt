@@ -11,7 +11,7 @@ use Rattle.laws.proofs.All.{All, end, more, all-append, all-map}
 use Rattle.definitions.specs.Book.{Clause, Goal, Book}
 use Rattle.definitions.specs.Model.{Each, PlainClause, PlainGoal, Plain}
 use Rattle.definitions.specs.Xsb.{Rule, rules-of-goal, rules-from, clause-of, clauses-for, goals-for}
-use Rattle.definitions.proofs.XsbReads.{Ordered, no-rule, and-rule}
+use Rattle.definitions.specs.XsbForm.{Ordered, no-rule, and-rule}
 
 -- Heads.
 

@@ -22,7 +22,7 @@ use Rattle.definitions.specs.Xsb.{run, ended, at-line, parse}
 use Rattle.definitions.proofs.Lists.{all-push}
 use Rattle.definitions.proofs.Desk.{and-both}
 use Rattle.definitions.proofs.XsbShows.{When, when-so}
-use Rattle.definitions.proofs.XsbReads.{Ordered, no-rule, and-rule, BareRule}
+use Rattle.definitions.specs.XsbForm.{Ordered, no-rule, and-rule, BareRule}
 use Rattle.definitions.proofs.XsbBooks.{HeadsAre}
 
 ordered-push : {n : ℕ} (least : ℕ) (rs : List Rule) (r : Rule) → Ordered n least rs → HeadsAre (λ h. h ≤ r .head) rs → least ≤ r .head

@@ -30,6 +30,7 @@ pub mod Model
 pub mod Levels
 pub mod LevelCases
 pub mod Xsb
+pub mod XsbForm
 pub mod XsbCases
 pub mod Mend
 pub mod MendCases

@@ -142,18 +142,21 @@ import-cases =
     ∷ not-taken (ascii "g0.\n") 39
     ∷ not-taken (tabled 1 (ascii "g1.\n")) 39
     ∷ not-taken (tabled 1 (ascii "g65536.\n")) 39
+    ∷ not-taken (tabled 1 (ascii "g340282366920938463463374607431768211456.\n")) 39
     -- table lines out of order, twice, or behind a rule
     ∷ not-taken (ascii ":- table g1/0.\n:- table g0/0.\n") 39
     ∷ not-taken (ascii ":- table g1/0.\n") 39
+    ∷ not-taken (ascii ":- table g18446744073709551616/0.\n") 39
     ∷ not-taken (ascii ":- table g0/0.\n:- table g0/0.\n") 39
     ∷ not-taken (tabled 1 (ascii "g0.\n:- table g1/0.\n")) 39
     -- no goal
     ∷ not-taken [] 8
-    -- a literal without a table line, however large its number: 2 ^ 16, 2 ^ 64 and one that is longer
+    -- a literal without a table line, however large its number: 2 ^ 16, 2 ^ 64 - 1, which stands for all above it, 2 ^ 64 and a longer one
     ∷ not-taken (tabled 1 (ascii "g0 :- g1.\n")) 6
     ∷ not-taken (tabled 1 (ascii "g0 :- g7.\n")) 6
     ∷ not-taken (tabled 1 (ascii "g0 :- tnot(g7).\n")) 6
     ∷ not-taken (tabled 1 (ascii "g0 :- g65536.\n")) 6
+    ∷ not-taken (tabled 1 (ascii "g0 :- tnot(g18446744073709551615).\n")) 6
     ∷ not-taken (tabled 1 (ascii "g0 :- g18446744073709551616.\n")) 6
     ∷ not-taken (tabled 1 (ascii "g0 :- g99999999999999999999.\n")) 6
     ∷ not-taken (tabled 1 (ascii "g0 :- g0, tnot(g340282366920938463463374607431768211456).\n")) 6
