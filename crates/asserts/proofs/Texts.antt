@@ -25,7 +25,7 @@ use Rattle.definitions.proofs.Prefix.{go-on}
 use Rattle.definitions.proofs.RoundTrip.{read-write}
 use Rattle.definitions.proofs.Desk.{desk-reads, desk-takes}
 use Rattle.definitions.proofs.PlainTest.{plain-is, is-plain-of}
-use Rattle.definitions.proofs.XsbReads.{BareRule}
+use Rattle.definitions.specs.XsbForm.{BareRule}
 use Rattle.definitions.proofs.XsbBooks.{goals-for-length, rules-back}
 use Rattle.definitions.proofs.XsbOrder.{parse-fits}
 use Rattle.definitions.proofs.Xsb.{rules-length, import-export, accepts, export-import}

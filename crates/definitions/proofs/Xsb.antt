@@ -13,10 +13,8 @@ use Rattle.laws.proofs.Bools.{both-true, was-true, not-zero}
 use Rattle.laws.proofs.All.{All, end, more, all-append, all-map}
 use Rattle.definitions.specs.Refusal.{accepted, _refuses_, unless}
 use Rattle.definitions.specs.Lists.{any-passes}
-use Rattle.definitions.specs.Book.{Literal, Positive, Negative, Clause, Goal, Book}
-use Rattle.definitions.specs.Book.{most-goals, most-clauses, clause-count}
-use Rattle.definitions.specs.Book.{goal-of, literals-name, clauses-name, goals-name}
-use Rattle.definitions.specs.Book.{LiteralsWithin, ClausesWithin, GoalsWithin, Within}
+use Rattle.definitions.specs.Book.{Literal, Positive, Negative, Clause, Goal, Book, most-goals, most-clauses, clause-count, goal-of}
+use Rattle.definitions.specs.Book.{literals-name, clauses-name, goals-name, LiteralsWithin, ClausesWithin, GoalsWithin, Within}
 use Rattle.definitions.specs.Desk.{at-desk, NoRepeats}
 use Rattle.definitions.specs.Model.{Each, PlainClause, Plain}
 use Rattle.definitions.specs.Xsb.{Rule, rules-of-goal, rules-from, text-of, export, State, parse, goals-for, is-long}

@@ -1,7 +1,7 @@
 -- The refusals of an import: of a text of the form the desk's number for its rules, or their book, whatever numbers its literals have
 -- (`form-imported`); 39 of a text that is not of the form, and of no other (`import-39`).
--- Of texts of at most `most-number` bytes, 2 ^ 64 - 1: no longer one can be read here. In a longer one there may be table lines up to where
--- they are counted no further; a table line has more than 14 bytes, so that in these texts there are not.
+-- They are of texts of at most `most-number` bytes, 2 ^ 64 - 1. A longer one may have more table lines than are counted: there any larger
+-- number stands for the next one, so that a text of another form gets 5. A table line has more than 14 bytes, and so none of these has.
 use Prim.Native.Nat.{ℕ, zero, suc, _+_, _*_, _-_, _<_, _≤_}
 use native.Mathlib.Omega.{arith}
 use mathlib.Core.Path.{_≡_, refl, sym, ap, ap₂, subst, _∙_}

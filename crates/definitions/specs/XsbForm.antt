@@ -1,5 +1,5 @@
--- What a text of the form is (change request 13), said without reading one: it is what is written for so many goals and these rules, where
--- no literal has a flag or a want, each head has a table line and none comes behind a larger one. A literal may have any number.
+-- What a text of the form is (change request 13), said without reading it: the text that is written for so many goals and these rules, where
+-- each head has a table line and none comes behind a larger one. A literal may have any number, and has no flag and no want.
 use Prim.Native.Nat.{ℕ, _<_, _≤_, min}
 use mathlib.Core.Path.{_≡_}
 use mathlib.Core.Logic.{_⊎_}
@@ -19,7 +19,7 @@ pub data Ordered (n : ℕ) : (least : ℕ) → List Rule → Type 0 where
 abbrev pub BareRule : Rule → Type 0
 BareRule r = Each PlainLiteral (r .body)
 
--- A TEXT OF THE FORM
+-- A TEXT OF THE FORM. What is promised of it is in proofs/XsbRefusals.
 pub record Form (text : List ℕ) : Type 0 where
   pub goals : ℕ
   pub rules : List Rule
@@ -48,7 +48,7 @@ pub record Unknown (goals : ℕ) (rules : List Rule) : Type 0 where
 abbrev pub FormNumber : ℕ → Type 0
 FormNumber n = (n ≡ 5) ⊎ (n ≡ 8) ⊎ (n ≡ 6) ⊎ (n ≡ 36)
 
--- No state is left of these bytes: whatever follows, it is not of the form.
+-- No state is left of these bytes: whatever follows them, it is not of the form (proofs/XsbRefusals: `broken-39`).
 
 abbrev pub no-state : Option State → Bool
 no-state none = true

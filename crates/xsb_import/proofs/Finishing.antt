@@ -16,6 +16,8 @@ use Rattle.definitions.specs.Desk.{at-desk}
 use Rattle.definitions.specs.Xsb.{Rule, Place, line, State, start, if-so, run, at-line}
 use Rattle.definitions.specs.Xsb.{ended, parse, is-long, goals-for, book-of, parsed-book}
 use Rattle.definitions.specs.Xsb.{bytes-of, check-import}
+use Rattle.definitions.specs.XsbForm.{no-state}
+use Rattle.definitions.proofs.XsbRefusals.{broken-39}
 use Rattle.xsb_import.specs.declared.Spot.{Spot}
 use Rattle.xsb_import.specs.declared.Kept.{Kept}
 use Rattle.xsb_import.specs.declared.Reader.{Reader}
@@ -23,7 +25,7 @@ use Rattle.xsb_import.specs.declared.Imported.{Imported}
 use Rattle.xsb_import.specs.Places.{value-of, all-places, place-of}
 use Rattle.xsb_import.specs.Keeping.{TooMuch, goals, clauses, literals}
 use Rattle.xsb_import.specs.Reading.{begun-rules}
-use Rattle.xsb_import.specs.Importing.{Held, HoldsState, Reads, imported-by, refused-by, Sized, Imports}
+use Rattle.xsb_import.specs.Importing.{Held, HoldsState, Reads, Settles, imported-by, refused-by, Sized, Imports}
 use Rattle.xsb_import.proofs.Begun.{begun-here}
 
 -- Whether a text ends where a line may begin.
@@ -45,6 +47,18 @@ inside-ends none s k bytes n h = refl
 inside-ends (some st) s k bytes n h =
     ap (λ (c : Bool). if-so c st)
     (ap at-line (sym (h .follows .place-is)) ∙ elsewhere (s .place) (value-of (s .digits) (s .value)) (h .follows .known) n)
+
+-- A text of which no state is left.
+
+mark-is : (o : Option State) (s : Spot) (k : Kept) (bytes : List ℕ) → HoldsState o s k bytes → s .broken ≡ no-state o
+mark-is none s k bytes h = h
+mark-is (some st) s k bytes h = h .follows .whole
+
+pub settled : (reader : Reader) (text : List ℕ) → Reads text reader → Settles text (reader .spot .broken)
+settled reader text h =
+    let is : reader .spot .broken ≡ no-state (run text start)
+    = mark-is (run text start) (reader .spot) (reader .kept) (reader .bytes) h in
+    record { is = is; for-good = λ e more. ap bytes-of (broken-39 text more (sym is ∙ e)) }
 
 -- a text that ends at a line
 pub record Parsed (o : Option State) (s : Spot) (k : Kept) (bytes : List ℕ) : Type 0 where

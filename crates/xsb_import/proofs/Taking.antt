@@ -20,7 +20,8 @@ use Rattle.definitions.proofs.Desk.{desk-took}
 use Rattle.definitions.proofs.RoundTrip.{read-written}
 use Rattle.definitions.proofs.XsbBooks.{goals-for-length, rules-back}
 use Rattle.laws.proofs.All.{All}
-use Rattle.definitions.proofs.XsbReads.{BareRule, Ordered}
+use Rattle.definitions.specs.XsbForm.{BareRule, Ordered}
+use Rattle.definitions.proofs.XsbCapped.{goals-names, goals-same, ordered-capped}
 use Rattle.definitions.proofs.XsbOrder.{RulesFit, parse-fits}
 use Rattle.definitions.proofs.Xsb.{rules-length}
 use Rattle.book.specs.declared.Reading.{Reading}
@@ -33,7 +34,7 @@ use Rattle.xsb_import.specs.Keeping.{capped-rule, goal-bytes, flat, goal
 use Rattle.xsb_import.specs.Importing.{Reads, imported-by, refused-by, taken-by, Desks, Sized, Imports}
 use Rattle.xsb_import.proofs.Holding.{length-goal-bytes, goals-after-capped}
 use Rattle.xsb_import.proofs.Writing.{flat-written}
-use Rattle.xsb_import.proofs.Capping.{goals-names, goals-same, ordered-capped, goals-within}
+use Rattle.xsb_import.proofs.Capping.{goals-within}
 use Rattle.xsb_import.proofs.Finishing.{parsed-of}
 
 -- At the desk.
@@ -105,11 +106,11 @@ same-desk n rs h = on (goals-name n (goals-for 0 n rs)) refl
         → taken-by (at-desk (end-command [] (goals-for 0 n (map capped-rule rs)))) (write (goals-for 0 n (map capped-rule rs)))
         ≡ bytes-of (at-desk (end-command [] (goals-for 0 n rs)))
     on true e =
-        ap (λ (b : said.Book). taken-by (at-desk (end-command [] b)) (write b)) (goals-same n 0 n rs h e)
+        ap (λ (b : said.Book). taken-by (at-desk (end-command [] b)) (write b)) (goals-same 65535 n 0 n rs h e)
         ∙ taken-own (goals-for 0 n rs) (at-desk (end-command [] (goals-for 0 n rs))) (end-keeps (goals-for 0 n rs))
     on false e =
         ap (λ (x : Refusable said.Book). taken-by (at-desk x) (write (goals-for 0 n (map capped-rule rs))))
-        (unnamed n (goals-for 0 n (map capped-rule rs)) (goals-for-length 0 n (map capped-rule rs)) (goals-names n 0 n rs h ∙ e))
+        (unnamed n (goals-for 0 n (map capped-rule rs)) (goals-for-length 0 n (map capped-rule rs)) (goals-names 65535 n 0 n rs h ∙ e))
         ∙ either (eqb n 0)
         ∙ sym (ap (λ (x : Refusable said.Book). bytes-of (at-desk x)) (unnamed n (goals-for 0 n rs) (goals-for-length 0 n rs) e))
       where
@@ -139,7 +140,7 @@ capped-read : (n : ℕ) (rs : List Rule) → n ≤ 64 → length rs ≤ 256 → 
     → said.read (write (goals-for 0 n (map capped-rule rs))) ≡ end-command [] (goals-for 0 n (map capped-rule rs))
 capped-read n rs few fewer short s f t e =
     let ordered : Ordered n 0 (map capped-rule rs)
-    = ordered-capped (subst (λ (k : ℕ). Ordered k 0 rs) t (subst (Ordered (s .tables) 0) e (f .in-order))) in
+    = ordered-capped 65535 (subst (λ (k : ℕ). Ordered k 0 rs) t (subst (Ordered (s .tables) 0) e (f .in-order))) in
     let book = goals-for 0 n (map capped-rule rs) in
     let count : clause-count book ≡ length rs
     = sym (rules-length 0 book) ∙ ap length (rules-back n (map capped-rule rs) ordered) ∙ length-map rs capped-rule in
@@ -189,7 +190,7 @@ finish-book text rd s k own b c u v r m br z j o few e f g d h =
     = subst (Whole rs k) (sym same) (subst (λ (x : Kept). Whole rs x (rd .bytes)) (sym j)
     (subst (λ (qs : List Rule). Whole qs (rd .kept) (rd .bytes)) (p .at-rest)
     (p .held .keeps .whole (ap (λ (x : Kept). x .over) (sym j) ∙ o)))) in
-    let all = written-whole n rs k own b c u v (e .0) kept (omega arith) (ordered-capped (fit .in-order))
+    let all = written-whole n rs k own b c u v (e .0) kept (omega arith) (ordered-capped 65535 (fit .in-order))
     (subst (λ (x : ℕ). Writes own (k .used) (goal-bytes (x - k .goals)) b u) t f) g in
     let desks = d .1 (all .1) in
     let few-rules : length rs ≤ 256 = omega (arith, kept .clauses-are, kept .few-clauses) in

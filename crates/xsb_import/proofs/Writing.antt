@@ -9,7 +9,7 @@ use Rattle.laws.proofs.All.{more, all-map}
 use Rattle.definitions.specs.Book.{Clause, write-clauses, write-goals}
 use Rattle.definitions.specs.Xsb.{Rule, clause-of, clauses-for, goals-for}
 use Rattle.xsb_import.specs.Keeping.{goal-bytes, rule-bytes, flat, goals-after}
-use Rattle.definitions.proofs.XsbReads.{Ordered, and-rule}
+use Rattle.definitions.specs.XsbForm.{Ordered, and-rule}
 use Rattle.definitions.proofs.XsbBooks.{HeadsAre, parted, heads-least, clauses-none, goals-skip}
 
 -- with the goals that are left

@@ -3,13 +3,14 @@ use Prim.Native.Nat.{ℕ, _≤_}
 use mathlib.Core.Path.{_≡_}
 use mathlib.Core.Bool.{Bool, true, false}
 use mathlib.Core.Option.{Option, none, some}
-use mathlib.Core.List.{List}
+use mathlib.Core.List.{List, _++_}
 use lib.ListN.{length, take, replicate}
 use lib.Dec.{eqb}
 use Rattle.definitions.specs.Refusal.{Refusable, refused, accepted}
 use Rattle.definitions.specs.Book.{Book}
 use Rattle.definitions.specs.Desk.{desk}
 use Rattle.definitions.specs.Xsb.{State, start, run, check-import}
+use Rattle.definitions.specs.XsbForm.{broken}
 use Rattle.xsb_import.specs.declared.Spot.{Spot}
 use Rattle.xsb_import.specs.declared.Kept.{Kept}
 use Rattle.xsb_import.specs.declared.Reader.{Reader}
@@ -32,6 +33,11 @@ Holds text s k bytes = HoldsState (run text start) s k bytes
 -- A READER of a text so far
 abbrev pub Reads : (text : List ℕ) → Reader → Type 0
 Reads text r = Holds text (r .spot) (r .kept) (r .bytes)
+
+-- WHETHER 39 IS SETTLED by a text so far: then it is said of the whole, whatever follows and however much
+pub record Settles (text : List ℕ) (r : Bool) : Type 0 where
+  pub is : r ≡ broken text
+  pub for-good : r ≡ true → (more : List ℕ) → check-import (text ++ more) ≡ refused 39
 
 abbrev pub imported-by : Bool → Imported → Refusable (List ℕ)
 imported-by true r = accepted (take (r .used) (r .bytes))

@@ -8,6 +8,7 @@ use lib.Dec.{eqb}
 use Rattle.definitions.specs.Lists.{push, any-passes}
 use Rattle.definitions.specs.Book.{any, Literal, Positive, Negative, write-literals}
 use Rattle.definitions.specs.Xsb.{Rule, is-long}
+use Rattle.definitions.specs.XsbForm as form
 use Rattle.xsb_import.specs.declared.Kept.{Kept}
 
 -- a number above the largest that a literal can name stands for all above it: no book has so many goals
@@ -15,11 +16,10 @@ abbrev pub cappedTo : ℕ → ℕ
 cappedTo g = min g 65535
 
 abbrev pub capped-literal : Literal → Literal
-capped-literal (Positive g want outsized) = Positive (cappedTo g) want outsized
-capped-literal (Negative g outsized) = Negative (cappedTo g) outsized
+capped-literal = form.capped-literal 65535
 
 abbrev pub capped-rule : Rule → Rule
-capped-rule r = record { head = r .head; body = map capped-literal (r .body) }
+capped-rule = form.capped-rule 65535
 
 -- commands for so many goals
 abbrev pub goal-bytes : ℕ → List ℕ

@@ -13,7 +13,7 @@ ghost use mathlib.Core.Path.{_≡_};
 ghost use mathlib.Core.List.{List, [], _++_};
 ghost use Prim.Native.Nat.{ℕ, _≤_};
 ghost use lib.ListN.{length};
-ghost use Rattle.xsb_import.specs.Importing.{Reads, refused-by, Desks, Sized, Imports};
+ghost use Rattle.xsb_import.specs.Importing.{Reads, Settles, refused-by, Desks, Sized, Imports};
 
 // Nothing is read yet.
 pub fn start() -> Reader
@@ -71,6 +71,14 @@ pub fn feed(reader: Reader, piece: &[u8]) -> Reader
         i += 1;
     }
     Reader { spot, kept, bytes }
+}
+
+// Whether the text is refused with 39, whatever may follow: then nothing more has to be read.
+pub fn is_settled(reader: Reader) -> bool
+    ensures { λ r. ⌜ ((text : List ℕ) → Reads text reader → Settles text r) ⌝ }
+{
+    let spot = reader.spot;
+    spot.broken
 }
 
 fn refused(number: u8) -> Imported
