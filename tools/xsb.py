@@ -5,7 +5,8 @@ tools/xsb.py --oracle                 the Rust (`oracle to-xsb`, `oracle from-xs
 tools/xsb.py --programs [TO FROM]     target/bin/to_xsb and target/bin/from_xsb, or two programs in their place, on the same; then beside
                                       the Rust: N books of chance, plain and spoiled ones and damaged ones, out and back; a short text
                                       with each byte changed, left out or put in; texts of megabytes; input that comes in pieces of 1, 7,
-                                      4095 and 4097 bytes; last, where the input or the output fails
+                                      4095 and 4097 bytes; input without an end, once 39 is settled; last, where the input or the
+                                      output fails
 tools/xsb.py --time                   whole processes on the largest books and texts, the programs (where they are there) and the Rust
                                       side by side
 
@@ -18,6 +19,7 @@ its text, with each literal behind its clause. Status 0 only if all is so.
 import argparse
 import collections
 import concurrent.futures
+import itertools
 import os
 import random
 import subprocess
@@ -32,6 +34,8 @@ from levels_books import every_book
 from rules import book_of, clauses_of, for_xsb, timed
 
 LONG = 3000000
+# In which 39 must be said of input without an end.
+SECONDS = 20
 PIECES = (1, 7, 4095, 4097)
 # Put in the place of each byte of a text, and before it.
 NEAR = b"\0\t\n\r !%()+,-./0129:;GTaegnot~\x80\xa0\xb0\xff"
@@ -143,27 +147,36 @@ def near(a, oracle, side):
     return told(a, "texts near a short one", side, asked) and len(asked) == len(texts)
 
 
+def given_in(words, pieces, flags=0, seconds=None):
+    """A run whose input comes in these pieces, for as long as it is read. It is ended if it takes more seconds than these."""
+    reads, writes = os.pipe2(os.O_CLOEXEC | flags)
+    program = subprocess.Popen(words, stdin=reads, stdout=subprocess.PIPE, stderr=subprocess.PIPE)
+    os.close(reads)
+
+    def give():
+        try:
+            for piece in pieces:
+                os.write(writes, piece)
+        except BrokenPipeError:
+            # it may stop reading where all is settled
+            pass
+        finally:
+            os.close(writes)
+    giving = threading.Thread(target=give)
+    giving.start()
+    try:
+        out, err = program.communicate(timeout=seconds)
+    except subprocess.TimeoutExpired:
+        program.kill()
+        out, err = program.communicate()
+    giving.join()
+    return out, err, program.returncode
+
+
 def in_pieces(size):
     """A run whose input comes so many bytes at a time. Of few bytes each piece is read by itself: that is what O_DIRECT does to a pipe."""
     def ask(words, data):
-        reads, writes = os.pipe2(os.O_DIRECT | os.O_CLOEXEC if size < 512 else os.O_CLOEXEC)
-        program = subprocess.Popen(words, stdin=reads, stdout=subprocess.PIPE, stderr=subprocess.PIPE)
-        os.close(reads)
-
-        def give():
-            try:
-                for at in range(0, len(data), size):
-                    os.write(writes, data[at:at + size])
-            except BrokenPipeError:
-                # it may stop reading where all is settled
-                pass
-            finally:
-                os.close(writes)
-        giving = threading.Thread(target=give)
-        giving.start()
-        out, err = program.communicate()
-        giving.join()
-        return out, err, program.returncode
+        return given_in(words, (data[at:at + size] for at in range(0, len(data), size)), os.O_DIRECT if size < 512 else 0)
     return ask
 
 
@@ -187,6 +200,17 @@ def pieces(a, side):
 
 def long_texts():
     return [Asked(title, "from_xsb", text.encode(), said) for title, text, said in xsb_texts.long_texts(LONG)]
+
+
+def without_an_end(side):
+    """Whether 39 is said of input that never ends: `yes`, a table line's number that begins with a 0, a long text and then stray bytes."""
+    rules = next(one.data for one in long_texts() if one.title == "many rules")
+    wrong = []
+    for title, front, more in (("yes", b"", b"y\n"), ("zeros", b":- table g", b"0"), ("rules, then stray bytes", rules, b"x")):
+        said = given_in(side.words["from_xsb"], itertools.chain([front], itertools.repeat(more * 4096)), seconds=SECONDS)
+        wrong += ["%s without an end: %s" % (title, shown(said))] if said != wanted(39) else []
+    print("\n".join(wrong + ["xsb: 3 inputs without an end, %d said otherwise by %s" % (len(wrong), side.name)]), flush=True)
+    return not wrong
 
 
 def times(a, sides_here):
@@ -243,6 +267,7 @@ def main():
         good = near(a, oracle, side) and good
         good = told(a, "long texts", side, long_texts()) and good
         good = pieces(a, side) and good
+        good = without_an_end(side) and good
         good = sides.failures(side.words["to_xsb"][0], "levels-chain.book") and good
         good = sides.failures(side.words["from_xsb"][0], "levels-p1.xsb") and good
     return 0 if good else 1

@@ -34,8 +34,8 @@ fn main() {
         let n = got.count;
         reader = import::feed(reader, &piece[..n]);
         whole = got.whole;
-        // less than a whole piece is the last one
-        more = got.whole && n == 65536;
+        // less than a whole piece is the last one, and where 39 is settled nothing more is read
+        more = got.whole && n == 65536 && !import::is_settled(reader);
     }
     // Where the input can't be read, that is said, and nothing is taken for a text.
     if !whole {

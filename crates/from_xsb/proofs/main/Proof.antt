@@ -35,6 +35,9 @@ slice-aggregate-feed c = search needs
 feed-requires : tie.Need-feed-requires Inv-loop μ-loop
 feed-requires c κs = search needs
 
+is-settled-requires : tie.Need-is-settled-requires Inv-loop μ-loop
+is-settled-requires c κs = search needs
+
 loop-less : tie.Need-loop-less Inv-loop μ-loop
 loop-less c = search needs
 
@@ -79,6 +82,7 @@ main-spec =
     array-share-prefix-piece
     slice-aggregate-feed
     feed-requires
+    is-settled-requires
     loop-less
     loop-again
     loop-less-2
