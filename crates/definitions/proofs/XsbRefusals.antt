@@ -1,7 +1,7 @@
 -- The refusals of an import: of a text of the form the desk's number for its rules, or their book, whatever numbers its literals have
 -- (`form-imported`); 39 of a text that is not of the form, and of no other (`import-39`).
--- They are of texts of at most `most-number` bytes, 2 ^ 64 - 1. A longer one may have more table lines than are counted: there any larger
--- number stands for the next one, so that a text of another form gets 5. A table line has more than 14 bytes, and so none of these has.
+-- They are of texts of at most `most-bytes` bytes. A longer one may have more table lines than are counted: there any larger number stands
+-- for the next one, so that a text of another form gets 5. A table line has more than 14 bytes, and so none of these has as many.
 use Prim.Native.Nat.{ℕ, zero, suc, _+_, _*_, _-_, _<_, _≤_}
 use native.Mathlib.Omega.{arith}
 use mathlib.Core.Path.{_≡_, refl, sym, ap, ap₂, subst, _∙_}
@@ -27,7 +27,7 @@ use Rattle.definitions.specs.Xsb.{What, table, head, positive, negative,
 use Rattle.definitions.specs.Xsb.{if-so, head-fits, is-digit, more-digits, behind-literal, behind-head, with-head, with-literal}
 use Rattle.definitions.specs.Xsb.{ends, with-digit, ends-if, begins-line, step-at, step, run, at-line, ended, parse}
 use Rattle.definitions.specs.Xsb.{is-long, goals-for, book-of, parsed-book, import}
-use Rattle.definitions.specs.XsbForm.{BareRule, Ordered, Form, WithinLimits, Unknown, FormNumber, no-state, broken}
+use Rattle.definitions.specs.XsbForm.{BareRule, Ordered, Form, most-bytes, WithinLimits, Unknown, FormNumber, no-state, broken}
 use Rattle.definitions.proofs.Refusal.{same-refused, not-accepted}
 use Rattle.definitions.proofs.XsbCapped.{book-capped, ordered-before, rules-bare-before}
 use Rattle.definitions.proofs.XsbShows.{When, when-so}
@@ -45,7 +45,7 @@ tables-long (suc n) =
     let x = tables-long n in
     omega (arith, length-append (table-lines n) (table-line n), length-append (decimal n) (ascii "/0.\n"))
 
-few-tables : (n : ℕ) (rs : List Rule) → length (text-of n rs) ≤ most-number → n < most-number
+few-tables : (n : ℕ) (rs : List Rule) → length (text-of n rs) ≤ most-bytes → n < most-number
 few-tables n rs h = let x = tables-long n in omega (arith, length-append (table-lines n) (rule-lines rs))
 
 -- and of what is read: at most one for each byte, and none for the first
@@ -100,7 +100,7 @@ run-up-to (b ∷ bs) s = on (run-up-to bs) (step s b) (step-up-to (suc (s .table
     on k none x = tt
     on k (some z) x = raised (length bs + z .tables) (suc (length bs) + s .tables) (omega arith) (run bs z) (k z)
 
-read-few : (text : List ℕ) (s : State) → parse text ≡ some s → length text ≤ most-number → s .tables < most-number
+read-few : (text : List ℕ) (s : State) → parse text ≡ some s → length text ≤ most-bytes → s .tables < most-number
 read-few [] s e h = let x : s .tables ≡ 0 = sym (ap (λ (z : State). z .tables) (same-some e)) in omega arith
 read-few (b ∷ bs) s e h = on (step start b) (line-up-to 0 start (omega arith) b) e
   where
@@ -130,12 +130,12 @@ few-imported text f lt =
     ∙ ap parsed-book (k .1)
     ∙ ap at-desk (book-capped most-number (f .goals) (f .rules) (omega arith))
 
-pub form-imported : (text : List ℕ) (f : Form text) → length text ≤ most-number → import text ≡ at-desk (book-of (f .goals) (f .rules))
+pub form-imported : (text : List ℕ) (f : Form text) → length text ≤ most-bytes → import text ≡ at-desk (book-of (f .goals) (f .rules))
 form-imported text f h =
-    few-imported text f (few-tables (f .goals) (f .rules) (subst (λ (t : List ℕ). length t ≤ most-number) (sym (f .written)) h))
+    few-imported text f (few-tables (f .goals) (f .rules) (subst (λ (t : List ℕ). length t ≤ most-bytes) (sym (f .written)) h))
 
 -- what is read is of the form
-read-form : (text : List ℕ) (s : State) → parse text ≡ some s → length text ≤ most-number → Form text
+read-form : (text : List ℕ) (s : State) → parse text ≡ some s → length text ≤ most-bytes → Form text
 read-form text s e h =
     let w = parse-shown text s e (read-few text s e h) in
     let fits = parse-fits text s e in
@@ -147,7 +147,7 @@ read-form text s e h =
       bare = rules-bare-before most-number (w .rules) (subst (All BareRule) (sym (w .rules-are)) (fits .bare));
     }
 
-pub form-or-39 : (text : List ℕ) → length text ≤ most-number → Form text ⊎ (import text ≡ refused 39)
+pub form-or-39 : (text : List ℕ) → length text ≤ most-bytes → Form text ⊎ (import text ≡ refused 39)
 form-or-39 text h = on (parse text) refl
   where
     on : (o : Option State) → parse text ≡ o → Form text ⊎ (import text ≡ refused 39)
@@ -181,7 +181,7 @@ desk-number n rs (refused m) f k e =
 desk-number n rs (accepted book) f k e =
     unless-number Book FormNumber (repeats book refuses 36 ∷ []) book k (inr (inr (inr refl)), tt) e
 
-pub form-refusals : (text : List ℕ) → Form text → length text ≤ most-number → (n : ℕ) → import text ≡ refused n → FormNumber n
+pub form-refusals : (text : List ℕ) → Form text → length text ≤ most-bytes → (n : ℕ) → import text ≡ refused n → FormNumber n
 form-refusals text f h n e =
     desk-number (f .goals) (f .rules) (book-of (f .goals) (f .rules)) refl n (sym (form-imported text f h) ∙ e)
 
@@ -192,7 +192,7 @@ not-39 (inr (inr (inl e))) = omega arith
 not-39 (inr (inr (inr e))) = omega arith
 
 -- 39 is for texts that are not of the form, and for them alone
-pub import-39 : (text : List ℕ) → length text ≤ most-number
+pub import-39 : (text : List ℕ) → length text ≤ most-bytes
     → (import text ≡ refused 39 → Form text → ⊥) × ((Form text → ⊥) → import text ≡ refused 39)
 import-39 text h = (λ e f. not-39 (form-refusals text f h 39 e), λ none-is. on (form-or-39 text h) none-is)
   where

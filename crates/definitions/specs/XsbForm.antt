@@ -27,6 +27,10 @@ pub record Form (text : List ℕ) : Type 0 where
   pub in-order : Ordered goals 0 rules
   pub bare : Each BareRule rules
 
+-- The refusals are of texts of at most so many bytes, 2 ^ 64 - 1.
+abbrev pub most-bytes : ℕ
+most-bytes = 18446744073709551615
+
 -- goals and rules that break no limit of the desk
 pub record WithinLimits (goals : ℕ) (rules : List Rule) : Type 0 where
   pub some-goal : 0 < goals

@@ -10,3 +10,4 @@ pub mod Capping
 pub mod Feeding
 pub mod Finishing
 pub mod Taking
+pub mod Refusing
