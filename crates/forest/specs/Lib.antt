@@ -5,3 +5,4 @@ pub mod Searches
 pub mod AnyFutureAnswer
 pub mod Sittings
 pub mod ServeCalls
+pub mod Shown

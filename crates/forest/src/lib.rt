@@ -1,11 +1,11 @@
 // forest.rs: what can be called. A forest is made from a book's bytes and holds that book; goals are opened, tables searched and peeked at.
-// Nobody outside this crate can read or write what a forest has inside.
+// Nobody outside this crate can write what a forest has inside, or read it but in a copy (`shown`).
 pub mod any_future_answer;
-pub mod dump;
 pub mod make;
 pub mod open;
 pub mod searches;
 pub mod serve_calls;
+pub mod shown;
 
 use strands::Answer;
 use strands::Strand;

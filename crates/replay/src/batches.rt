@@ -62,11 +62,11 @@ fn reply_at(replies: &[u64; NUMBERS], at: u64) -> Reply {
 // A word that has a number.
 fn numbered(out: &mut [u8], at: usize, word: u64, value: u64) -> usize {
     match word {
-        0 => words::counted(out, at, b"refused ", value),
-        1 => words::counted(out, at, b"table ", value),
-        2 => words::counted(out, at, b"stop ", value),
-        3 => words::counted(out, at, b"yes ", value),
-        _ => words::counted(out, at, b"maybe ", value),
+        0 => pen::counted(out, at, b"refused ", value),
+        1 => pen::counted(out, at, b"table ", value),
+        2 => pen::counted(out, at, b"stop ", value),
+        3 => pen::counted(out, at, b"yes ", value),
+        _ => pen::counted(out, at, b"maybe ", value),
     }
 }
 

@@ -8,6 +8,7 @@
 // No contract can speak of what is read or written: the program's run on its file `stdin`, held to its file `stdout`, guards that.
 mod batches;
 mod calls;
+mod dump;
 mod hash;
 mod line;
 mod manner;
@@ -16,9 +17,10 @@ mod utf8;
 mod words;
 
 use batch::calls::NUMBERS;
-use forest::dump::LONGEST_DUMP;
-use forest::dump::dump;
+use dump::LONGEST_DUMP;
+use dump::dump;
 use forest::serve_calls::serve_calls;
+use forest::shown::show;
 use steps::Step;
 
 // The forest stays here: what needs none is done by `steps::next`, which moves no forest. A proved loop has to end, and nothing says that
@@ -51,7 +53,7 @@ fn all(out: &mut [u8], input: &mut [u8], bytes: &mut [u8], room: &mut [u8]) -> u
                 m = batches::told(out, m, &calls, &replies);
             }
             Step::Show => {
-                let n = dump(forest, room, 0);
+                let n = dump(show(forest), room);
                 m = steps::shown(out, m, room, n);
             }
             _ => m = steps::next(out, input, bytes, &mut calls, m),

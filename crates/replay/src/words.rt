@@ -14,13 +14,8 @@ pub(crate) enum Reply {
     Asked(Future),
 }
 
-pub(crate) fn counted(out: &mut [u8], at: usize, word: &[u8], n: u64) -> usize {
-    let a = pen::text(out, at, word);
-    pen::number(out, a, n)
-}
-
 fn line(out: &mut [u8], at: usize, word: &[u8], n: u64) -> usize {
-    let a = counted(out, at, word, n);
+    let a = pen::counted(out, at, word, n);
     pen::byte(out, a, b'\n')
 }
 
@@ -33,7 +28,7 @@ pub(crate) fn turns(out: &mut [u8], at: usize, n: u64) -> usize {
 }
 
 pub(crate) fn index_and_turns(out: &mut [u8], at: usize, index: u64, n: u64) -> usize {
-    let a = counted(out, at, b" at ", index);
+    let a = pen::counted(out, at, b" at ", index);
     turns(out, a, n)
 }
 
@@ -54,14 +49,14 @@ fn opened(out: &mut [u8], at: usize, o: Opening) -> usize {
 
 fn found(out: &mut [u8], at: usize, variant: u16, ambiguous: bool) -> usize {
     if ambiguous {
-        return counted(out, at, b"maybe ", variant as u64);
+        return pen::counted(out, at, b"maybe ", variant as u64);
     }
-    counted(out, at, b"yes ", variant as u64)
+    pen::counted(out, at, b"yes ", variant as u64)
 }
 
 fn outcome(out: &mut [u8], at: usize, o: Outcome) -> usize {
     match o {
-        Outcome::Refused(n) => counted(out, at, b"refused ", n as u64),
+        Outcome::Refused(n) => pen::counted(out, at, b"refused ", n as u64),
         Outcome::Found(variant, ambiguous) => found(out, at, variant, ambiguous),
         Outcome::NoMoreSolutions => pen::text(out, at, b"none"),
         Outcome::Floundered => pen::text(out, at, b"floundered"),
@@ -69,7 +64,7 @@ fn outcome(out: &mut [u8], at: usize, o: Outcome) -> usize {
         Outcome::NegativeCycle => pen::text(out, at, b"negcycle"),
         Outcome::InvalidAnswer => pen::text(out, at, b"invalid"),
         Outcome::Cut => pen::text(out, at, b"cut"),
-        Outcome::Stopped(n) => counted(out, at, b"stop ", n as u64),
+        Outcome::Stopped(n) => pen::counted(out, at, b"stop ", n as u64),
     }
 }
 

@@ -89,6 +89,9 @@ loop-again-3 c =
 enum-told-4 : tie.Need-enum-told-4 Inv-loop μ-loop
 enum-told-4 c = search needs
 
+show-requires : tie.Need-show-requires Inv-loop μ-loop
+show-requires c κs = search needs
+
 dump-requires : tie.Need-dump-requires Inv-loop μ-loop
 dump-requires c κs = search needs
 
@@ -169,6 +172,7 @@ all-spec =
     loop-less-3
     loop-again-3
     enum-told-4
+    show-requires
     dump-requires
     shown-requires
     loop-less-4

@@ -3,31 +3,31 @@ use borrow.Author.Needs.{needs}
 use Prim.Native.Nat.{_≤_, _-_}
 use mathlib.Core.Path.{_≡_}
 use lib.ListN.{length}
-use Rattle.forest.proofs.dump.dump.Statement.{statement}
-use Rattle.forest.proofs.dump.dump.Tie as tie
+use Rattle.replay.proofs.dump.dump.Statement.{statement}
+use Rattle.replay.proofs.dump.dump.Tie as tie
 
 abbrev Inv-loop2 : tie.InvT-loop2
-Inv-loop2 out₀ at f a₀ i q₀ left₀ t19 out a q left =
+Inv-loop2 out₀ f a₀ i q₀ left₀ t19 out a q left =
     length out ≡ length out₀
 
 abbrev μ-loop2 : tie.MeasureT-loop2
-μ-loop2 out₀ at f a₀ i q₀ left₀ t19 out a q left =
+μ-loop2 out₀ f a₀ i q₀ left₀ t19 out a q left =
     left
 
 abbrev Inv-loop3 : tie.InvT-loop3
-Inv-loop3 out₀ at f a₀ i q left p₀ more₀ t19 out a p more =
+Inv-loop3 out₀ f a₀ i q left p₀ more₀ t19 out a p more =
     length out ≡ length out₀
 
 abbrev μ-loop3 : tie.MeasureT-loop3
-μ-loop3 out₀ at f a₀ i q left p₀ more₀ t19 out a p more =
+μ-loop3 out₀ f a₀ i q left p₀ more₀ t19 out a p more =
     more
 
 abbrev Inv-loop : tie.InvT-loop
-Inv-loop out₀ at f a₀ i₀ t19 out a i =
+Inv-loop out₀ f a₀ i₀ t19 out a i =
     (i ≤ 64) × (length out ≡ length out₀)
 
 abbrev μ-loop : tie.MeasureT-loop
-μ-loop out₀ at f a₀ i₀ t19 out a i =
+μ-loop out₀ f a₀ i₀ t19 out a i =
     64 - i
 
 opening-requires : tie.Need-opening-requires Inv-loop2 μ-loop2 Inv-loop3 μ-loop3 Inv-loop μ-loop

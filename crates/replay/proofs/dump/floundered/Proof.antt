@@ -3,8 +3,8 @@ use Prim.Native.Nat.{_≤_, _-_}
 use mathlib.Core.Path.{_≡_}
 use lib.ListN.{length}
 use borrow.Author.Needs.{needs}
-use Rattle.forest.proofs.dump.floundered.Statement.{statement}
-use Rattle.forest.proofs.dump.floundered.Tie as tie
+use Rattle.replay.proofs.dump.floundered.Statement.{statement}
+use Rattle.replay.proofs.dump.floundered.Tie as tie
 
 abbrev Inv-loop : tie.InvT-loop
 Inv-loop out₀ at s n a₀ i₀ out a i = (i ≤ 8) × (length out ≡ length out₀)
@@ -45,8 +45,8 @@ loop-less c = search needs
 loop-again : tie.Need-loop-again Inv-loop μ-loop
 loop-again c = search needs
 
-put-requires : tie.Need-put-requires Inv-loop μ-loop
-put-requires c κs = search needs
+byte-requires : tie.Need-byte-requires Inv-loop μ-loop
+byte-requires c κs = search needs
 
 same-length : tie.Need-same-length Inv-loop μ-loop
 same-length c = search needs
@@ -71,6 +71,6 @@ floundered-spec =
     add-i
     loop-less
     loop-again
-    put-requires
+    byte-requires
     same-length
     returns)

@@ -8,11 +8,12 @@
 //     literal = +GOAL/WANT, +GOAL/LOW-HIGH or -GOAL, with a final ! if outsized
 //     SEL     = s- or sSUBGOALINDEX:TABLE:ANSWERINDEX
 //
-// The bytes go to a buffer that the caller lends; `at` is how many are there, each function takes it and returns the new one.
-use crate::Forest;
+// The bytes go to a buffer that the caller lends and that no dump fills; `at` is how many are there, each function takes it and returns the
+// new one.
 use book::Literal;
 use book::access::is_ranged;
 use control::ensure_root_answer::strand_in_hand;
+use forest::shown::Shown;
 use strands::Answer;
 use strands::Selected;
 use strands::Strand;
@@ -20,62 +21,7 @@ use strands::literals::is_negative;
 ghost use Prim.Native.Nat.{_<_};
 
 // No dump is longer: 256 strands of at most 320 bytes, 256 answers of at most 64 and 64 tables of at most 64, with the line's head.
-pub const LONGEST_DUMP: usize = 131072;
-
-// What doesn't fit is left out.
-fn put(out: &mut [u8], at: usize, b: u8) -> usize {
-    if at < out.len() {
-        out[at] = b;
-        return at + 1;
-    }
-    at
-}
-
-fn text(out: &mut [u8], at: usize, words: &[u8]) -> usize {
-    let mut a = at;
-    let mut i: usize = 0;
-    while i < words.len() {
-        a = put(out, a, words[i]);
-        i += 1;
-    }
-    a
-}
-
-// The digits from a place on.
-fn put_digits(out: &mut [u8], at: usize, digits: [u8; 20], from: usize) -> usize {
-    let mut a = at;
-    let mut i = from;
-    while i < 20 {
-        a = put(out, a, digits[i]);
-        i += 1;
-    }
-    a
-}
-
-fn digit(n: u64) -> u8 {
-    48 + (n % 10) as u8
-}
-
-fn number(out: &mut [u8], at: usize, n: u64) -> usize {
-    let mut digits = [48u8; 20];
-    let mut m = n;
-    let mut from: usize = 20;
-    while from > 0 {
-        from = from - 1;
-        digits[from] = digit(m);
-        m = m / 10;
-        if m == 0 {
-            break;
-        }
-    }
-    put_digits(out, at, digits, from)
-}
-
-// A number behind a word.
-fn counted(out: &mut [u8], at: usize, word: &[u8], n: u64) -> usize {
-    let a = text(out, at, word);
-    number(out, a, n)
-}
+pub(crate) const LONGEST_DUMP: usize = 131072;
 
 fn flag(b: bool) -> u64 {
     if b { 1 } else { 0 }
@@ -83,12 +29,12 @@ fn flag(b: bool) -> u64 {
 
 fn signed(out: &mut [u8], at: usize, l: Literal) -> usize {
     if is_negative(l) {
-        return counted(out, at, b"-", l.goal as u64);
+        return pen::counted(out, at, b"-", l.goal as u64);
     }
-    let a = counted(out, at, b"+", l.goal as u64);
-    let b = counted(out, a, b"/", l.want as u64);
+    let a = pen::counted(out, at, b"+", l.goal as u64);
+    let b = pen::counted(out, a, b"/", l.want as u64);
     if is_ranged(l) {
-        return counted(out, b, b"-", l.high as u64);
+        return pen::counted(out, b, b"-", l.high as u64);
     }
     b
 }
@@ -96,7 +42,7 @@ fn signed(out: &mut [u8], at: usize, l: Literal) -> usize {
 fn literal(out: &mut [u8], at: usize, l: Literal) -> usize {
     let a = signed(out, at, l);
     if l.kind % 2 == 1 {
-        return put(out, a, b'!');
+        return pen::byte(out, a, b'!');
     }
     a
 }
@@ -106,7 +52,7 @@ fn comma(out: &mut [u8], at: usize, i: usize) -> usize {
     if i == 0 {
         return at;
     }
-    put(out, at, b',')
+    pen::byte(out, at, b',')
 }
 
 // The element i of a list of n goals.
@@ -115,26 +61,26 @@ fn goal(out: &mut [u8], at: usize, i: usize, n: usize, g: u8) -> usize {
         return at;
     }
     let a = comma(out, at, i);
-    number(out, a, g as u64)
+    pen::number(out, a, g as u64)
 }
 
 fn goals(out: &mut [u8], at: usize, d: [u8; 8], count: u8) -> usize {
     let n = count as usize;
-    let mut a = text(out, at, b" D[");
+    let mut a = pen::text(out, at, b" D[");
     let mut i: usize = 0;
     while i < 8 {
         a = goal(out, a, i, n, d[i]);
         i += 1;
     }
-    put(out, a, b']')
+    pen::byte(out, a, b']')
 }
 
 fn answer(out: &mut [u8], at: usize, x: Answer) -> usize {
     let d = x.delayed;
-    let v = counted(out, at, b" (v", x.variant as u64);
+    let v = pen::counted(out, at, b" (v", x.variant as u64);
     let g = goals(out, v, d, x.delayed_count);
-    let a = counted(out, g, b" a", flag(x.ambiguous));
-    put(out, a, b')')
+    let a = pen::counted(out, g, b" a", flag(x.ambiguous));
+    pen::byte(out, a, b')')
 }
 
 // The element i of a list of n literals.
@@ -148,13 +94,13 @@ fn listed(out: &mut [u8], at: usize, i: usize, n: usize, l: Literal) -> usize {
 
 fn literals(out: &mut [u8], at: usize, s: Strand) -> usize {
     let n = s.literal_count as usize;
-    let mut a = text(out, at, b" S[");
+    let mut a = pen::text(out, at, b" S[");
     let mut i: usize = 0;
     while i < 8 {
         a = listed(out, a, i, n, s.literals[i]);
         i += 1;
     }
-    put(out, a, b']')
+    pen::byte(out, a, b']')
 }
 
 // The element i of a list of n floundered literals.
@@ -164,47 +110,47 @@ fn set_aside(out: &mut [u8], at: usize, i: usize, n: usize, l: Literal, time: u8
     }
     let a = comma(out, at, i);
     let b = literal(out, a, l);
-    counted(out, b, b"@", time as u64)
+    pen::counted(out, b, b"@", time as u64)
 }
 
 fn floundered(out: &mut [u8], at: usize, s: Strand) -> usize {
     let n = s.floundered_count as usize;
-    let mut a = text(out, at, b" F[");
+    let mut a = pen::text(out, at, b" F[");
     let mut i: usize = 0;
     while i < 8 {
         a = set_aside(out, a, i, n, s.floundered[i], s.floundered_time[i]);
         i += 1;
     }
-    put(out, a, b']')
+    pen::byte(out, a, b']')
 }
 
 fn selected(out: &mut [u8], at: usize, k: Selected) -> usize {
     match k {
-        Selected::Nothing => text(out, at, b" s-"),
+        Selected::Nothing => pen::text(out, at, b" s-"),
         Selected::Subgoal {
             index,
             table,
             answer,
         } => {
-            let i = counted(out, at, b" s", index as u64);
-            let t = counted(out, i, b":", table as u64);
-            counted(out, t, b":", answer as u64)
+            let i = pen::counted(out, at, b" s", index as u64);
+            let t = pen::counted(out, i, b":", table as u64);
+            pen::counted(out, t, b":", answer as u64)
         }
     }
 }
 
 // A strand's words before its literals.
 fn begun(out: &mut [u8], at: usize, variant: u16, outsized: bool, ambiguous: bool) -> usize {
-    let v = counted(out, at, b" (v", variant as u64);
-    let o = counted(out, v, b" o", flag(outsized));
-    counted(out, o, b" a", flag(ambiguous))
+    let v = pen::counted(out, at, b" (v", variant as u64);
+    let o = pen::counted(out, v, b" o", flag(outsized));
+    pen::counted(out, o, b" a", flag(ambiguous))
 }
 
 // And those behind them.
 fn ended(out: &mut [u8], at: usize, k: Selected, time: u64) -> usize {
     let c = selected(out, at, k);
-    let p = counted(out, c, b" p", time);
-    put(out, p, b')')
+    let p = pen::counted(out, c, b" p", time);
+    pen::byte(out, p, b')')
 }
 
 fn strand(out: &mut [u8], at: usize, s: Strand, time: u64) -> usize {
@@ -213,7 +159,7 @@ fn strand(out: &mut [u8], at: usize, s: Strand, time: u64) -> usize {
     let a = begun(out, at, s.variant, s.outsized, s.ambiguous);
     let l = literals(out, a, s);
     let g = goals(out, l, d, s.delayed_count);
-    let t = counted(out, g, b" t", s.answer_time as u64);
+    let t = pen::counted(out, g, b" t", s.answer_time as u64);
     let f = floundered(out, t, s);
     ended(out, f, k, time)
 }
@@ -242,21 +188,21 @@ fn head(
     complete: u8,
     answers: u16,
 ) -> usize {
-    let t = counted(out, at, b" | t", i as u64);
-    let g = counted(out, t, b" g", goal as u64);
-    let f = counted(out, g, b" f", floundered as u64);
-    let w = text(out, f, b" m");
-    let m = put(out, w, mode(complete));
-    counted(out, m, b" A", answers as u64)
+    let t = pen::counted(out, at, b" | t", i as u64);
+    let g = pen::counted(out, t, b" g", goal as u64);
+    let f = pen::counted(out, g, b" f", floundered as u64);
+    let w = pen::text(out, f, b" m");
+    let m = pen::byte(out, w, mode(complete));
+    pen::counted(out, m, b" A", answers as u64)
 }
 
 fn opening(out: &mut [u8], at: usize, clock: u64, mark: u8, count: usize) -> usize {
-    let c = counted(out, at, b"state clock ", clock);
-    let m = counted(out, c, b" mark ", mark as u64);
-    counted(out, m, b" tables ", count as u64)
+    let c = pen::counted(out, at, b"state clock ", clock);
+    let m = pen::counted(out, c, b" mark ", mark as u64);
+    pen::counted(out, m, b" tables ", count as u64)
 }
 
-// The strand at a place. The clauses' arrays are lent by a forest's own, and so have one lifetime.
+// The strand at a place. The clauses' arrays are lent by a struct's own, and so have one lifetime.
 fn in_hand<'a>(
     s: Strand,
     waits: u8,
@@ -281,10 +227,10 @@ fn in_hand<'a>(
     )
 }
 
-// The dump, without a newline: how much of the buffer is in use behind it. The checker knows of it that it ends and stays in the buffer;
-// what it writes is shown by the run beside the Rust alone (`tools/differential`).
-pub fn dump(f: Forest, out: &mut [u8], at: usize) -> usize {
-    let mut a = opening(out, at, f.clock, f.mark, f.count);
+// The dump, without a newline, from the start of the buffer on: how much of it is in use. The checker knows of it that it ends and stays
+// in the buffer; what it writes is shown by the run beside the Rust alone (`tools/differential`).
+pub(crate) fn dump(f: Shown, out: &mut [u8]) -> usize {
+    let mut a = opening(out, 0, f.clock, f.mark, f.count);
     let mut i: usize = 0;
     while i < 64 {
         if i >= f.count {
@@ -306,7 +252,7 @@ pub fn dump(f: Forest, out: &mut [u8], at: usize) -> usize {
             a = answer(out, a, f.answers[wide(q)]);
             left = left - 1;
         }
-        a = counted(out, a, b" Q", long(f.len[i]));
+        a = pen::counted(out, a, b" Q", long(f.len[i]));
         let mut p = f.tail[i];
         let mut more = f.len[i];
         while more > 0 {
