@@ -1,5 +1,6 @@
 #!/usr/bin/env python3
-"""What document 01 says at each limit and beside it: the cases p1 to p9, the sizes, every refusal and every stop, as a script of calls.
+"""What document 01 says at each limit and beside it: the cases p1 to p9, the sizes, every refusal and every stop, and the forest that
+each refusal of a book leaves, as a script of calls.
 
 tools/limits.py                 print the script, each call with what it has to reply
 tools/limits.py --oracle        run the Rust on it, and say whether it replies so
@@ -44,6 +45,9 @@ P7 = ["goal 0", "0 :- 1", "0/2", "goal 1", "1/1 [cannot prove]"]
 P8 = lines("goal 0", "0 :- 1", "goal 1", "1")
 LOOP = lines("goal 0", "0 :- 0")
 ONE = "47 00 45"
+TWICE = lines("goal 0", "0", "0")
+# Before the first book.
+EARLY = ["open 0 = no forest", "search 0 0 1 = no forest", "peek 0 0 1 1 = no forest", "future 0 0 0 = no forest"]
 
 
 def sizes():
@@ -113,6 +117,22 @@ def refusals():
             "open 0 = refused 20", "open 1 = refused 20", "search 0 0 100 = refused 20", "search 1 2 0 = refused 20", "peek 0 0 1 1 = refused 20",
             "peek 1 2 0 0 = refused 20", "future 0 0 0 = true", "future 1 0 0 = refused 10",
         ]),
+    ]
+
+
+def refused_books():
+    """The forest that each refusal of a book leaves: 20 before 9 to 12 for every open, search and peek, 10 for any_future_answer."""
+    calls = ["open 0 = refused 20", "open %d = refused 20" % LARGEST, "search 0 0 1 = refused 20", "search 1 2 0 = refused 20",
+             "peek 0 0 1 1 = refused 20", "peek 1 2 0 0 = refused 20", "future 0 0 0 = refused 10", "future 0 %d 65536 = refused 10" % LARGEST]
+    books = [(1, "47 00", CLOCK), (2, "47 00 46", CLOCK), (3, "43 00 00 00 45", CLOCK), (4, "47 04 45", CLOCK), (5, "47 00 " * 65 + "45", CLOCK),
+             (6, "47 00 43 00 00 00 4E 01 00 00 45", CLOCK), (7, ONE + " 45", CLOCK), (8, "45", CLOCK), (13, P1, 0), (13, P1, LARGEST),
+             (32, "47 00 43 00 00 00 52 00 00 04 00 03 00 00 45", CLOCK), (36, TWICE, CLOCK)]
+    ways = [(number, book, clock, way) for number, book, clock in books for way in ("book", "desk") if (number, way) != (36, "book")]
+    left = [("%d: what it leaves" % number, book, clock, ["refused %d" % number] + calls, way) for number, book, clock, way in ways]
+    return left + [
+        ("36: the old entry, after it", TWICE, CLOCK, ["made", "open 0 = table 0", "search 0 0 1 = yes 0 turns 1"]),
+        ("8: after a forest with a table", "45", CLOCK, ["refused 8"] + calls),
+        ("a book that is accepted, after it", P8, CLOCK, ["made", "open 0 = table 0", "search 0 0 4 = yes 0 turns 4"]),
     ]
 
 
@@ -200,19 +220,25 @@ def limits():
 
 
 def cases():
-    return reading() + sizes() + refusals() + papers_one_to_eight() + limits()
+    """Of each: its title, its book and its clock, what making says and the calls, and at the desk the word for that."""
+    return reading() + sizes() + refusals() + refused_books() + papers_one_to_eight() + limits()
 
 
 def script():
     """The lines of the script, and what each call has to reply, in order."""
     asked, replies = [], []
-    for title, book, clock, calls in cases():
-        asked += ["# " + title, "book %s clock %d" % (hexed(book), clock)]
-        replies.append(calls[0])
+
+    def ask(call, _, reply):
+        asked.append(call)
+        replies.append(reply)
+
+    for line in EARLY:
+        ask(*line.partition(" = "))
+    for title, book, clock, calls, *way in cases():
+        asked.append("# " + title)
+        ask("%s %s clock %d" % ((way or ["book"])[0], hexed(book), clock), "", calls[0])
         for line in calls[1:]:
-            call, _, reply = line.partition(" = ")
-            asked.append(call)
-            replies.append(reply)
+            ask(*line.partition(" = "))
     return asked, replies
 
 

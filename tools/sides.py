@@ -109,12 +109,14 @@ BESIDES = {
     "ranges": "literals that are ranges", "on_ranges": "calls on books with ranges",
     "at_desk": "calls on forests made at the desk", "by_old": "calls on forests made by the old entry",
     "on_equal": "calls on books with equal clauses", "both": "books through both entries",
+    **{"refused %d" % n: "calls on forests of books that were refused with %d" % n for n in (*range(1, 9), 13, 32, 36)},
 }
 
 
 class Counts:
     """What the Rust said, over all scripts. Of the books that were made: how many of their literals are ranges, and the calls on these
-    books; the calls on forests of either entry, and on books that the desk refuses; and how many books went through both entries."""
+    books; the calls on forests of either entry, and on books that the desk refuses; how many books went through both entries; and the
+    calls on forests of refused books, by the number of the refusal."""
 
     def __init__(self):
         self.calls, self.turns, self.said = 0, 0, collections.Counter()
@@ -145,7 +147,7 @@ class Counts:
             book = bytes.fromhex(digits.decode()), int(clock)
             pair = before is not None and before[:2] == book and before[2] != way
             self.besides["both"] += pair
-            here = []
+            here = [result.decode()]
             if result == b"made":
                 ranges = papers.ranges_in(book[0])
                 # once, where both entries take it
@@ -168,9 +170,13 @@ class Counts:
         cells = ["%-12s %10s" % (w, format(self.said[w], ",")) for w in order + sorted(set(self.said) - set(order))]
         told = ("ranges: {ranges:,} literals of the books that were made, {on_ranges:,} calls on these books\n"
                 "entries: {at_desk:,} calls on forests made at the desk, {by_old:,} on forests made by the old entry, of these "
-                "{on_equal:,} on books with equal clauses; {both:,} books through both")
+                "{on_equal:,} on books with equal clauses; {both:,} books through both\n"
+                "forests of refused books: {on_refused:,} calls; by the number of the refusal {by_number}")
         besides = {b: self.besides[b] for b in BESIDES}
-        return "\n".join(["   ".join(cells[at:at + 4]) for at in range(0, len(cells), 4)] + [told.format(**besides)])
+        refused = {b.split()[1]: times for b, times in besides.items() if b.startswith("refused")}
+        by_number = ", ".join("%s: %s" % (n, format(times, ",")) for n, times in refused.items())
+        told = told.format(on_refused=sum(refused.values()), by_number=by_number, **besides)
+        return "\n".join(["   ".join(cells[at:at + 4]) for at in range(0, len(cells), 4)] + [told])
 
 
 def difference(script, rust, ours):

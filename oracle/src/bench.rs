@@ -84,7 +84,7 @@ fn inside(script: &str) -> (u64, u64, Duration) {
     for line in &lines {
         calls += 1;
         match line {
-            Line::Book { entry, bytes, clock } => bounded = Bounded::by(*entry, bytes, *clock).ok(),
+            Line::Book { entry, bytes, clock } => bounded = Some(Bounded::after(*entry, bytes, *clock)),
             Line::Call(call) => {
                 if let Some(bounded) = &mut bounded {
                     if let Reply::Search(ended) | Reply::Peek(ended) = bounded.call(*call) {

@@ -39,17 +39,22 @@ impl Bounded {
     }
 
     pub fn by(entry: Entry, bytes: &[u8], clock_limit: u64) -> Result<Bounded, u8> {
-        let book = Rc::new(entry.read(bytes)?);
+        let book = entry.read(bytes)?;
         if clock_limit == 0 || clock_limit == u64::MAX {
             return Err(13);
         }
-        Ok(Bounded {
-            trees: Trees::new(book.clone(), clock_limit),
-            book,
-            clock_limit,
-            mark: 0,
-            done: Vec::new(),
-        })
+        Ok(Bounded::bare(book, clock_limit, 0))
+    }
+
+    /// The forest at hand after a book's line: a refused book leaves one without goals, marked with the number.
+    pub fn after(entry: Entry, bytes: &[u8], clock_limit: u64) -> Bounded {
+        Bounded::by(entry, bytes, clock_limit).unwrap_or_else(|number| Bounded::bare(Book::default(), 0, number))
+    }
+
+    /// A forest with this book and no table.
+    fn bare(book: Book, clock_limit: u64, mark: u8) -> Bounded {
+        let book = Rc::new(book);
+        Bounded { trees: Trees::new(book.clone(), clock_limit), book, clock_limit, mark, done: Vec::new() }
     }
 
     pub fn trees(&self) -> &Trees {

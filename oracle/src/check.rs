@@ -113,11 +113,21 @@ const SCRIPTS: &[(&str, &str, &str)] = &[
          refused 10\nrefused 11\nrefused 12\nrefused 12\nrefused 12\nrefused 11\nrefused 10\nfalse\n",
     ),
     (
-        "the desk: 36 before 13, and no forest after it",
+        "the desk: 36 before 13, and the forest that it leaves",
         "desk 47 00 45 clock 0\nbook 4700 43000000 43000000 45 clock 0\ndesk 4700 43000000 43000000 45 clock 0\n\
          book 4700 43000000 43000000 45 clock 9\nopen 0\ndesk 4700 43000000 43000000 45 clock 9\nopen 0\n\
          desk 4700 43000000 45 clock 9\nopen 0\nsearch 0 0 9\n",
-        "refused 13\nrefused 13\nrefused 36\nmade\ntable 0\nrefused 36\nno forest\nmade\ntable 0\nyes 0 turns 1\n",
+        "refused 13\nrefused 13\nrefused 36\nmade\ntable 0\nrefused 36\nrefused 20\nmade\ntable 0\nyes 0 turns 1\n",
+    ),
+    (
+        "what a refused book leaves: 20 before 9 to 12, and 10 for any_future_answer",
+        "future 0 0 0\nbook 4700 43000000 45 clock 9\nopen 0\nsearch 0 0 9\nbook 4700 43000000 clock 9\nopen 0\nopen 64\n\
+         search 0 0 9\nsearch 1 1 0\npeek 0 0 9 9\npeek 1 1 0 0\nfuture 0 0 0\nfuture 0 18446744073709551615 65536\n\
+         book 4700 43000000 45 clock 0\nopen 0\nsearch 0 0 9\npeek 0 0 9 9\nfuture 0 0 0\n\
+         book 4700 43000000 45 clock 9\nopen 0\nsearch 0 0 9\n",
+        "no forest\nmade\ntable 0\nyes 0 turns 1\nrefused 1\nrefused 20\nrefused 20\n\
+         refused 20\nrefused 20\nrefused 20\nrefused 20\nrefused 10\nrefused 10\n\
+         refused 13\nrefused 20\nrefused 20\nrefused 20\nrefused 10\nmade\ntable 0\nyes 0 turns 1\n",
     ),
 ];
 
@@ -308,6 +318,8 @@ pub struct Counts {
     pub by_old: u64,
     /// Calls on forests whose book has equal clauses.
     pub on_equal: u64,
+    /// Calls on forests of refused books, by the number.
+    pub on_refused: BTreeMap<u8, u64>,
 }
 
 /// Runs forests of a profile until there are `calls` calls.
@@ -330,7 +342,9 @@ pub fn counted_run(seed: u64, calls: u64, profile: Profile) -> Result<Counts, St
                 here = runner.book().map_or(0, Book::ranges);
                 equal = runner.book().is_some_and(|book| book.repeat().is_some());
                 desk = line.starts_with("desk");
-            } else if runner.book().is_some() {
+            } else if let Some(number) = runner.refused() {
+                *counts.on_refused.entry(number).or_default() += 1;
+            } else {
                 counts.on_ranges += u64::from(here > 0);
                 counts.on_equal += u64::from(equal);
                 counts.at_desk += u64::from(desk);
@@ -385,6 +399,12 @@ pub fn check(calls: u64, seed: u64) -> Result<(), String> {
         "entries: {} calls on forests made at the desk, {} on forests made by the old entry, {} of these on books with equal clauses\n",
         counts.at_desk, counts.by_old, counts.on_equal
     );
+    let numbers: Vec<String> = counts.on_refused.iter().map(|(number, times)| format!("{number}: {times}")).collect();
+    println!(
+        "forests of refused books: {} calls, by the number of the refusal {}\n",
+        counts.on_refused.values().sum::<u64>(),
+        numbers.join(", ")
+    );
     // A shorter run than the standard one needs its share only.
     let least = AT_LEAST * calls / STANDARD_CALLS;
     for number in (1..=13).chain(20..=29).chain([32, 36]) {
@@ -399,6 +419,11 @@ pub fn check(calls: u64, seed: u64) -> Result<(), String> {
     }
     if counts.at_desk.min(counts.on_equal) < least {
         return Err(format!("an entry had less than {least} calls, or books with equal clauses had"));
+    }
+    for number in (1..=8).chain([13, 32, 36]) {
+        if counts.on_refused.get(&number).copied().unwrap_or(0) < least {
+            return Err(format!("a forest of a book that was refused with {number} had less than {least} calls"));
+        }
     }
     println!("each of the numbers 1 to 13, 20 to 29, 32 and 36 came up at least {least} times");
     Ok(())

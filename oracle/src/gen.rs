@@ -7,10 +7,12 @@ mod books;
 mod calls;
 mod plain;
 mod rare;
+mod refused;
 mod torn;
 
 pub use books::{damaged_book, plain_book};
 pub use plain::{few_goals, named_so, nearly_plain};
+pub use refused::early_calls;
 pub use torn::torn_paper;
 
 use crate::book::Entry;
@@ -18,6 +20,7 @@ use crate::rng::Rng;
 use books::{copies, random_book, share_of_ranges, taste};
 use calls::{clock, Forest, Haste};
 use rare::{chain_forest, delayed_forest, facts_forest, near_forest, strands_forest};
+use refused::refused_forest;
 use std::fmt::Write;
 
 #[derive(Clone, Copy, Debug, PartialEq, Eq)]
@@ -67,7 +70,7 @@ fn bytes_forest(rng: &mut Rng, out: &mut String) -> u64 {
     let bytes = damaged_book(rng);
     let clock = clock(rng);
     let mut forest = Forest::begin(rng, &bytes, clock, out);
-    let count = if forest.bounded.is_some() { 4 } else { forest.rng.below(2) };
+    let count = if forest.goals() > 0 { 4 } else { forest.rng.below(2) };
     forest.random_calls(count);
     forest.calls
 }
@@ -146,7 +149,11 @@ fn plain_forest(rng: &mut Rng, out: &mut String, timed: bool) -> u64 {
 /// Lines that are no calls, and lines that look odd and are calls.
 fn lines_forest(rng: &mut Rng, out: &mut String) -> u64 {
     let mut plain = String::new();
-    let calls = general_forest(rng, &mut plain, Profile::Small);
+    let calls = if one_in_eight(rng) {
+        refused_forest(rng, &mut plain)
+    } else {
+        general_forest(rng, &mut plain, Profile::Small)
+    };
     for line in plain.lines() {
         if rng.chance(15) {
             let odd = rng.pick(&[
@@ -221,17 +228,37 @@ fn lines_forest(rng: &mut Rng, out: &mut String) -> u64 {
     calls
 }
 
-/// One forest of a profile, added to `out`; how many calls it has, its book's lines included.
+fn one_in_eight(rng: &mut Rng) -> bool {
+    rng.below(8) == 0
+}
+
+/// One forest of a profile, or in one of eight cases that of a refused book, added to `out`; how many calls it
+/// has, its book's lines included.
 pub fn forest(rng: &mut Rng, profile: Profile, out: &mut String) -> u64 {
+    // what is timed has none, and `lines` has them among its odd lines
+    if matches!(profile, Profile::Timed | Profile::TimedPlain | Profile::Lines) {
+        return forest_of(rng, profile, out);
+    }
+    // so that the profiles of a seed do not all have the same ones
+    for _ in 0..profile as u64 {
+        rng.next();
+    }
+    if one_in_eight(rng) {
+        return refused_forest(rng, out);
+    }
+    forest_of(rng, profile, out)
+}
+
+fn forest_of(rng: &mut Rng, profile: Profile, out: &mut String) -> u64 {
     match profile {
         Profile::Mix => match rng.below(100) {
-            0..=26 => bytes_forest(rng, out),
-            27..=54 => general_forest(rng, out, Profile::Mix),
-            55..=63 => general_forest(rng, out, Profile::Tiny),
-            64..=67 => general_forest(rng, out, Profile::Large),
-            68..=74 => plain_forest(rng, out, false),
-            75..=87 => near_forest(rng, out, false),
-            _ => forest(rng, Profile::Answers, out),
+            0..=19 => bytes_forest(rng, out),
+            20..=49 => general_forest(rng, out, Profile::Mix),
+            50..=59 => general_forest(rng, out, Profile::Tiny),
+            60..=63 => general_forest(rng, out, Profile::Large),
+            64..=71 => plain_forest(rng, out, false),
+            72..=85 => near_forest(rng, out, false),
+            _ => forest_of(rng, Profile::Answers, out),
         },
         Profile::Plain => plain_forest(rng, out, false),
         Profile::TimedPlain => plain_forest(rng, out, true),

@@ -115,10 +115,11 @@ fn number(word: &str) -> Result<u64, String> {
     word.parse().map_err(|_| format!("{word} is no number"))
 }
 
-/// COUNT scripts, each with a forest of its own.
+/// Calls before any book, and COUNT scripts, each with a forest of its own.
 fn generate(seed: u64, count: u64, profile: gen::Profile) -> Result<(), String> {
     let mut stdout = io::BufWriter::new(io::stdout().lock());
     let mut out = String::new();
+    gen::early_calls(&mut gen::rng_of(seed, count), &mut out);
     for forest in 0..count {
         gen::forest(&mut gen::rng_of(seed, forest), profile, &mut out);
         stdout.write_all(out.as_bytes()).map_err(|e| e.to_string())?;

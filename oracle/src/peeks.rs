@@ -16,10 +16,9 @@ struct Both {
 }
 
 impl Both {
-    fn new(entry: Entry, bytes: &[u8], clock: u64) -> Option<Both> {
-        let peeking = Bounded::by(entry, bytes, clock).ok()?;
-        let searching = Bounded::by(entry, bytes, clock).ok()?;
-        Some(Both { peeking, searching })
+    fn new(entry: Entry, bytes: &[u8], clock: u64) -> Both {
+        let after = || Bounded::after(entry, bytes, clock);
+        Both { peeking: after(), searching: after() }
     }
 
     /// A call that is no peek, or a peek that is refused, stays as it is.
@@ -78,7 +77,7 @@ fn step(both: &mut Option<Both>, line: &[u8], out: &mut Vec<u8>) -> Result<(), S
         return both.call(*call, line, out);
     }
     if let Line::Book { entry, bytes, clock } = read {
-        *both = Both::new(entry, &bytes, clock);
+        *both = Some(Both::new(entry, &bytes, clock));
     }
     out.extend_from_slice(line);
     out.push(b'\n');

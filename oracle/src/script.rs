@@ -77,6 +77,16 @@ fn parse_words(words: &[&str]) -> Option<Line> {
     Some(Line::Call(call))
 }
 
+/// A call as a line of a script.
+pub fn line_of(call: Call) -> String {
+    match call {
+        Call::Open { goal } => format!("open {goal}\n"),
+        Call::Search { table, index, turns } => format!("search {table} {index} {turns}\n"),
+        Call::Peek { table, index, rounds, turns } => format!("peek {table} {index} {rounds} {turns}\n"),
+        Call::Future { table, index, variant } => format!("future {table} {index} {variant}\n"),
+    }
+}
+
 pub fn word(outcome: &Outcome) -> String {
     match outcome {
         Outcome::Yes(variant) => format!("yes {variant}"),
@@ -160,9 +170,14 @@ impl Runner {
         Runner { batch: true, ..Runner::new(form) }
     }
 
-    /// The book of the forest at hand.
+    /// The book of the forest at hand; that of a refused one is empty.
     pub fn book(&self) -> Option<&Book> {
         self.bounded.as_ref().map(|bounded| &*bounded.book)
+    }
+
+    /// The number, where the forest at hand is of a refused book.
+    pub fn refused(&self) -> Option<u8> {
+        self.bounded.as_ref().filter(|bounded| bounded.book.goals.is_empty()).map(Bounded::mark)
     }
 
     /// What the forest holds; a bare run says nothing of it.
@@ -205,16 +220,12 @@ impl Runner {
                 self.end_batch(out);
                 self.since_book.clear();
                 self.since_book.push(line.to_string());
-                match Bounded::by(entry, &bytes, clock) {
-                    Ok(bounded) => {
-                        self.bounded = Some(bounded);
-                        out.push_str("made\n");
-                    }
-                    Err(number) => {
-                        self.bounded = None;
-                        let _ = writeln!(out, "refused {number}");
-                    }
-                }
+                let bounded = Bounded::after(entry, &bytes, clock);
+                let _ = match bounded.mark() {
+                    0 => writeln!(out, "made"),
+                    number => writeln!(out, "refused {number}"),
+                };
+                self.bounded = Some(bounded);
             }
             Line::Call(call) => {
                 self.calls += u64::from(self.batch);

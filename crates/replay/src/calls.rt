@@ -18,13 +18,13 @@ pub(crate) struct Called {
     pub forest: Forest,
 }
 
-// What stands where there is no forest yet.
+// What stands where there is no forest yet, before the first book.
 pub(crate) fn no_forest() -> Forest {
     let m = make(b"", 0);
     m.forest
 }
 
-// A book's forest, by the old entry or as the desk takes it.
+// A book's forest, by the old entry or as the desk takes it; and the one that a refused book leaves.
 pub(crate) fn take_book(bytes: &[u8], clock_limit: u64, desk: bool) -> Made {
     if desk {
         return make_at_desk(bytes, clock_limit);

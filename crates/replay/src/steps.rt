@@ -25,8 +25,8 @@ pub(crate) enum Step {
 }
 
 // Between two steps: how the script is run; how much of the output's buffer is in use; how much of the input's buffer was read, and from
-// where on it was not looked at; whether the input is at its end, and all is done; the line so far; whether there is a forest, and how
-// many calls wait for it.
+// where on it was not looked at; whether the input is at its end, and all is done; the line so far; whether there was a book, so that
+// there is a forest, and how many calls wait for it.
 pub(crate) struct Midst {
     pub step: Step,
     pub manner: Manner,
@@ -125,17 +125,9 @@ pub(crate) fn told(out: &mut [u8], m: Midst, r: Reply) -> Midst {
     show(out, after)
 }
 
-fn is_made(m: Making) -> bool {
-    match m {
-        Making::Made => true,
-        Making::Refused(_) => false,
-    }
-}
-
-// A refused book leaves no forest.
+// From the first book on there is a forest: a refused one leaves one too, by which every call is refused.
 pub(crate) fn booked(out: &mut [u8], m: Midst, making: Making) -> Midst {
-    let there = is_made(making);
-    let b = Midst { there, ..m };
+    let b = Midst { there: true, ..m };
     told(out, b, Reply::Booked(making))
 }
 

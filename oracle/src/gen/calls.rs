@@ -3,14 +3,14 @@
 use crate::book::Entry;
 use crate::bounded::{Bounded, Call, Reply};
 use crate::rng::Rng;
-use crate::script::to_hex;
+use crate::script::{line_of, to_hex};
 use chalk_engine::solve::Outcome;
 use std::fmt::Write;
 
 /// The lines of one forest, and the forest as it is after them.
 pub struct Forest<'a> {
     pub rng: &'a mut Rng,
-    pub bounded: Option<Bounded>,
+    pub bounded: Bounded,
     pub clock: u64,
     pub out: &'a mut String,
     /// Calls with a book before, the book's lines included.
@@ -26,7 +26,18 @@ impl Forest<'_> {
         let refused = |entry| Bounded::by(entry, bytes, clock).is_err();
         let desk_alone = refused(Entry::Desk) && !refused(Entry::Old);
         let desk_last = rng.chance(if desk_alone { 25 } else { 60 });
-        let (first, last) = if desk_last { (Entry::Old, Entry::Desk) } else { (Entry::Desk, Entry::Old) };
+        Forest::through_both(if desk_last { Entry::Desk } else { Entry::Old }, rng, bytes, clock, out)
+    }
+
+    /// The book through both entries, this one last.
+    pub fn through_both<'a>(
+        last: Entry,
+        rng: &'a mut Rng,
+        bytes: &[u8],
+        clock: u64,
+        out: &'a mut String,
+    ) -> Forest<'a> {
+        let first = if last == Entry::Desk { Entry::Old } else { Entry::Desk };
         let _ = writeln!(out, "{} {} clock {clock}", first.word(), to_hex(bytes));
         let forest = Forest::by(last, rng, bytes, clock, out);
         Forest { calls: 2, ..forest }
@@ -35,27 +46,13 @@ impl Forest<'_> {
     /// The book through one entry alone.
     pub fn by<'a>(entry: Entry, rng: &'a mut Rng, bytes: &[u8], clock: u64, out: &'a mut String) -> Forest<'a> {
         let _ = writeln!(out, "{} {} clock {clock}", entry.word(), to_hex(bytes));
-        Forest { rng, bounded: Bounded::by(entry, bytes, clock).ok(), clock, out, calls: 1, done: Vec::new() }
+        Forest { rng, bounded: Bounded::after(entry, bytes, clock), clock, out, calls: 1, done: Vec::new() }
     }
 
     pub fn call(&mut self, call: Call) {
-        let _ = match call {
-            Call::Open { goal } => writeln!(self.out, "open {goal}"),
-            Call::Search { table, index, turns } => {
-                writeln!(self.out, "search {table} {index} {turns}")
-            }
-            Call::Peek { table, index, rounds, turns } => {
-                writeln!(self.out, "peek {table} {index} {rounds} {turns}")
-            }
-            Call::Future { table, index, variant } => {
-                writeln!(self.out, "future {table} {index} {variant}")
-            }
-        };
+        *self.out += &line_of(call);
         self.calls += 1;
-        let Some(bounded) = &mut self.bounded else {
-            return;
-        };
-        let reply = bounded.call(call);
+        let reply = self.bounded.call(call);
         if let (
             Call::Search { table, .. } | Call::Peek { table, .. },
             Reply::Search(ended) | Reply::Peek(ended),
@@ -70,26 +67,28 @@ impl Forest<'_> {
 
     /// All goals are open and nothing more is to be expected of them.
     pub fn over(&self) -> bool {
-        self.bounded.is_some() && self.done.len() as u64 == self.goals()
+        self.done.len() as u64 == self.goals()
     }
 
+    /// After a stop; and from the start where the book was refused.
     pub fn marked(&self) -> bool {
-        self.bounded.as_ref().is_none_or(|bounded| bounded.mark() != 0)
+        self.bounded.mark() != 0
     }
 
     pub fn tables(&self) -> u64 {
-        self.bounded.as_ref().map_or(0, |bounded| bounded.trees().tables() as u64)
+        self.bounded.trees().tables() as u64
     }
 
+    /// None where the book was refused.
     pub fn goals(&self) -> u64 {
-        self.bounded.as_ref().map_or(0, |bounded| bounded.book.goals.len() as u64)
+        self.bounded.book.goals.len() as u64
     }
 
     pub fn answers(&self, table: u64) -> u64 {
-        match &self.bounded {
-            Some(bounded) if table < self.tables() => bounded.trees().answers(table as usize) as u64,
-            _ => 0,
+        if table < self.tables() {
+            return self.bounded.trees().answers(table as usize) as u64;
         }
+        0
     }
 
     pub fn table(&mut self) -> u64 {
@@ -192,10 +191,7 @@ impl Forest<'_> {
         self.call(Call::Open { goal });
         let tables = self.tables();
         let table = (0..tables)
-            .find(|table| {
-                let bounded = self.bounded.as_ref().unwrap();
-                u64::from(bounded.trees().goal_of(*table as usize)) == goal
-            })
+            .find(|table| u64::from(self.bounded.trees().goal_of(*table as usize)) == goal)
             .unwrap_or(0);
         for _ in 0..most {
             if self.marked() {

@@ -123,7 +123,7 @@ pub fn facts_forest(rng: &mut Rng, out: &mut String, compact: bool) -> u64 {
         forest.call(Call::Peek { table: 0, index: 0, rounds: 1000, turns: 5000 });
     } else {
         forest.call(Call::Open { goal: u64::from(facts) });
-        for index in 0..if forest.bounded.is_some() { count } else { 1 } {
+        for index in 0..if forest.goals() > 0 { count } else { 1 } {
             forest.call(Call::Search { table: 0, index, turns: 10 });
         }
     }
