@@ -23,7 +23,7 @@ say "cases, sizes and the standard run"
     exit 1
 }
 grep -c '^ok ' "$work/check" | sed 's/$/ cases and sizes agree/'
-grep -e '^standard run' -e '^ranges' -e '^entries' -e '^each of the numbers' "$work/check"
+grep -e '^standard run' -e '^ranges' -e '^entries' -e '^forests of refused' -e '^each of the numbers' "$work/check"
 
 say "every profile twice from one seed: the same script, the same output, no unexpected panic"
 for profile in mix plain tiny bytes answers small limits large; do
