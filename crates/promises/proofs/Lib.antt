@@ -8,3 +8,5 @@ pub mod Consequences
 pub mod Before
 pub mod ListingStored
 pub mod Listing
+pub mod Listed
+pub mod Total
