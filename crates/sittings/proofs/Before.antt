@@ -8,7 +8,7 @@ use Rattle.definitions.specs.Book.{clause-count}
 use Rattle.forest.specs.Sittings.{Told, opens, searches, peeks, asks-future}
 use Rattle.sittings.specs.Claim.{exceeded, granted, all-granted}
 use Rattle.sittings.specs.Before as before
-use Rattle.sittings.proofs.Demand.{demand-3}
+use Rattle.sittings.proofs.Demand.{sitting-tells}
 
 none-granted : (t : Told) → granted t ≡ 0
 none-granted (opens goal r) = refl
@@ -25,5 +25,5 @@ without a b c p e = omega (arith, p, e)
 
 pub demand-3-before : before.Demand3
 demand-3-before bytes limit m says e book k level plain levelled ts g =
-    let d = demand-3 bytes limit m says e book k level plain levelled ts g in
+    let d = sitting-tells bytes limit m says e book k level plain levelled ts g in
     (d .0, without (exceeded ts) (length book + clause-count book) (all-granted ts) (d .1) (nothing-granted ts))

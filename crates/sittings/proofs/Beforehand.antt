@@ -3,6 +3,7 @@ use Prim.Native.Nat.{ℕ, _<_}
 use native.Mathlib.Omega.{arith}
 use native.Mathlib.Decide.{decLt}
 use mathlib.Core.List.{List}
+use mathlib.Core.Logic.{inr}
 use mathlib.Core.Path.{_≡_, sym, ap, subst, _∙_}
 use lib.ListN.{take, length-take}
 use lib.Seq.{getD-take}
@@ -16,7 +17,7 @@ use Rattle.definitions.proofs.Levels.{check-accepted}
 use Rattle.profile.specs.declared.Profile.{Profile}
 use Rattle.profile.specs.Profile.{profile-by, Profiles}
 use Rattle.sittings.specs.Beforehand.{AcceptedTells}
-use Rattle.sittings.proofs.Demand.{demand-3-at-desk}
+use Rattle.sittings.proofs.Demand.{demand-3}
 
 -- the levels are as many as there are goals, and behind them the array has zeros
 level-there : (bytes : List ℕ) (p : Profile) → Profiles bytes p
@@ -34,5 +35,5 @@ accepted-tells bytes p says z limit m made is book took =
     let checked : check-levels bytes ≡ accepted (take (p .goals) (p .levels)) =
     sym (says .means) ∙ ap (λ b. profile-by b p) (eq-eqb (p .number) 0 z) in
     let a = check-accepted book (take (p .goals) (p .levels)) (sym (ap levels-at-desk took) ∙ checked) in
-    demand-3-at-desk bytes limit m made is book (desk-reads bytes book took .0) (level-in (p .levels)) (a .plain)
+    demand-3 bytes limit m (inr made) is book (desk-reads bytes book took .0) (level-in (p .levels)) (a .plain)
     (subst (Levelled book) (λ i g. level-there bytes p says g i) (a .levelled))

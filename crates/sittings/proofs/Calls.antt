@@ -8,6 +8,7 @@ use Rattle.definitions.specs.Forest as forests
 use Rattle.definitions.specs.Refusal.{Refusable, refused, accepted}
 use Rattle.definitions.specs.Tables as tables
 use Rattle.definitions.specs.Turn as turns
+use Rattle.promises.proofs.Total.{of-open, of-search, of-peek}
 use Rattle.forest.specs.declared.Forest.{Forest}
 use Rattle.forest.specs.declared.any_future_answer.Future.{Future}
 use Rattle.forest.specs.declared.any_future_answer.Future.the-variants as futures
@@ -28,21 +29,6 @@ use Rattle.sittings.specs.Sittings.{opening-reply, outcome-reply, future
 
 -- ONE CALL. What the definitions' `call` makes of a result on a forest F, where the code's says the same and leaves G; a call that is
 -- refused leaves F.
-
-abbrev of-open : said.Sitting → Refusable forests.Opened → said.Reply × said.Sitting
-of-open S o = elim o [ refused n ↦ (said.refusal n, S) | accepted r ↦ (said.table (r .table), said.with-forest S (r .forest)) ]
-
-abbrev of-search : said.Sitting → Refusable turns.Searched → said.Reply × said.Sitting
-of-search S o = elim o [
-  | refused n ↦ (said.refusal n, S)
-  | accepted r ↦ (said.searched (r .ending) (r .turns), said.with-forest S (r .forest))
-]
-
-abbrev of-peek : said.Sitting → Refusable forests.Peeked → said.Reply × said.Sitting
-of-peek S o = elim o [
-  | refused n ↦ (said.refusal n, S)
-  | accepted r ↦ (said.peeked (r .ending) (r .index) (r .turns) (r .exceeded), said.with-forest S (r .forest))
-]
 
 abbrev of-future : said.Sitting → Refusable Bool → said.Reply × said.Sitting
 of-future S o = elim o [ refused n ↦ (said.refusal n, S) | accepted b ↦ (said.future b, S) ]

@@ -3,6 +3,7 @@ use Prim.Native.Nat.{ℕ, _+_, _≤_}
 use native.Mathlib.Omega.{arith}
 use mathlib.Core.Bool.{Bool, true, false, _||_}
 use mathlib.Core.List.{List, [], _∷_, map}
+use mathlib.Core.Logic.{inl, inr}
 use mathlib.Core.Option.{none, some}
 use mathlib.Core.Path.{_≡_, refl, sym, ap, subst, _∙_}
 use lib.Dec.{eqb, leb}
@@ -45,8 +46,9 @@ use Rattle.forest.proofs.Serving.{left-sound}
 use Rattle.sittings.specs.Sittings.{opening-reply, outcome-reply, future-reply, reply}
 use Rattle.sittings.specs.Claim.{Names, Named, MarkedSays, is-stopped, opening-stopped, stops, OpeningSays, OutcomeSays}
 use Rattle.sittings.specs.Claim.{UnmarkedSays, TellSays, AllTell, exceeded-by, exceeded-in, exceeded, granted, all-granted, Demand3}
-use Rattle.sittings.specs.Claim.{Demand3AtDesk}
+use Rattle.sittings.specs.Claim.{EntrySays}
 use Rattle.sittings.proofs.Calls.{at, told-call, told-calls, sits-calls}
+use Rattle.sittings.proofs.Steps.{tell-so}
 
 -- A GOAL THAT IS NAMED. An open of the definitions that gives a table is one of the code that gives it, and the other way round.
 
@@ -326,8 +328,16 @@ promise bytes limit F e book k level plain levelled cs told same =
 within : (a b c d e : ℕ) → a ≤ b → b ≤ c + d → d ≡ e → a ≤ c + e
 within a b c d e p q r = omega (arith, p, q, r)
 
-pub demand-3 : Demand3
-demand-3 bytes limit m says e book k level plain levelled ts g =
+-- what is said of a sitting, at that book
+abbrev pub Promise : (level : ℕ → ℕ) (limit : ℕ) (book : books.Book) → List Told → Type 0
+Promise level limit book ts =
+    AllTell (In book level) limit false ts × (exceeded ts ≤ length book + clause-count book + all-granted ts)
+
+-- by `make`
+pub sitting-tells : (bytes : List ℕ) (limit : ℕ) (m : Made) → MakeSays bytes limit m → m .making ≡ makings.Made
+    → (book : books.Book) → books.read bytes ≡ accepted book → (level : ℕ → ℕ) → Plain book → Levelled book level
+    → (ts : List Told) → Sits (m .forest) ts → Promise level limit book ts
+sitting-tells bytes limit m says e book k level plain levelled ts g =
     let s = says .sound e in
     let told-as = told-calls (m .forest) ts in
     let x = promise bytes limit (view (m .forest)) (is-made bytes limit m says e) book k level plain levelled (map asked ts) told-as
@@ -349,5 +359,13 @@ as-made bytes limit m says e =
       marked = says .marked;
     }
 
-pub demand-3-at-desk : Demand3AtDesk
-demand-3-at-desk bytes limit m says e = demand-3 bytes limit m (as-made bytes limit m says e) e
+pub either-made : (bytes : List ℕ) (limit : ℕ) (m : Made) → EntrySays bytes limit m → m .making ≡ makings.Made → MakeSays bytes limit m
+either-made bytes limit m (inl says) e = says
+either-made bytes limit m (inr says) e = as-made bytes limit m says e
+
+-- BY ANY STEPS
+pub demand-3 : Demand3
+demand-3 bytes limit m says e book k level plain levelled ss runs =
+    let made = either-made bytes limit m says e in
+    tell-so (Promise level limit book) ss (m .forest) (made .sound e) runs
+    (sitting-tells bytes limit m made e book k level plain levelled)

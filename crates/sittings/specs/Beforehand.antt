@@ -16,7 +16,7 @@ use Rattle.profile.specs.Profile.{Profiles}
 use Rattle.forest.specs.declared.make.Made.{Made}
 use Rattle.forest.specs.declared.make.Making.the-variants as makings
 use Rattle.forest.specs.Make.{MakeAtDeskSays}
-use Rattle.forest.specs.Sittings.{Told, Sits}
+use Rattle.sittings.specs.Steps.{Step, Runs, TellSo}
 use Rattle.sittings.specs.Claim.{AllTell, exceeded, all-granted}
 
 abbrev pub AcceptedTells : Type 0
@@ -24,5 +24,6 @@ AcceptedTells =
     (bytes : List ℕ) (p : Profile) → Profiles bytes p → p .number ≡ 0 →
     (clock-limit : ℕ) (m : Made) → MakeAtDeskSays bytes clock-limit m → m .making ≡ makings.Made →
     (book : books.Book) → desk bytes ≡ accepted book →
-    (ts : List Told) → Sits (m .forest) ts →
-    AllTell (In book (level-in (p .levels))) clock-limit false ts × (exceeded ts ≤ length book + clause-count book + all-granted ts)
+    (ss : List Step) → Runs (m .forest) ss →
+    TellSo (m .forest) ss (λ ts.
+    AllTell (In book (level-in (p .levels))) clock-limit false ts × (exceeded ts ≤ length book + clause-count book + all-granted ts))

@@ -1,5 +1,6 @@
--- Demand 3 of the code (document 01, (e)): one claim about a whole sitting on a forest that `make` gave for a plain levelled book, in the
--- code's own results. A goal is named through `open`: whatever that gives for it on the forest that the call left.
+-- Demand 3 of the code (document 01, (e)): one claim about all the calls on a forest that was made from a plain levelled book, in the
+-- code's own results, whichever way they are made (`Steps`). A goal is named through `open`: whatever that gives for it on the forest that
+-- the call left.
 use Prim.Native.Nat.{ℕ, _+_, _≤_}
 use mathlib.Core.Bool.{Bool, true, false, _||_}
 use mathlib.Core.Logic.{_⊎_}
@@ -20,7 +21,8 @@ use Rattle.forest.specs.declared.searches.Outcome.{Outcome}
 use Rattle.forest.specs.declared.searches.Outcome.the-variants as outcomes
 use Rattle.forest.specs.Make.{MakeSays, MakeAtDeskSays}
 use Rattle.forest.specs.Open.{OpenSays}
-use Rattle.forest.specs.Sittings.{Told, opens, searches, peeks, asks-future, left, Sits}
+use Rattle.forest.specs.Sittings.{Told, opens, searches, peeks, asks-future}
+use Rattle.sittings.specs.Steps.{Step, Runs, TellSo}
 
 -- an open of this goal gives this table, whatever else it gives (crate `forest`: `open` gives a result with this contract for every forest)
 abbrev pub Names : Forest → (table goal : ℕ) → Type 0
@@ -132,28 +134,26 @@ abbrev pub all-granted : List Told → ℕ
 all-granted [] = 0
 all-granted (t ∷ ts) = granted t + all-granted ts
 
--- DEMAND 3 OF THE CODE, of a way in: for every byte string and clock limit for which it made a forest, every levelling of its book and
--- every sitting
-abbrev pub Demand3Of : ((bytes : List ℕ) → (clock-limit : ℕ) → Made → Type 0) → Type 0
-Demand3Of Says =
-    (bytes : List ℕ) (clock-limit : ℕ) (m : Made) → Says bytes clock-limit m → m .making ≡ makings.Made →
-    (book : books.Book) → books.read bytes ≡ accepted book → (level : ℕ → ℕ) → Plain book → Levelled book level →
-    (ts : List Told) → Sits (m .forest) ts →
-    AllTell (In book level) clock-limit false ts × (exceeded ts ≤ length book + clause-count book + all-granted ts)
+-- what an entry may have given: `make` or `make_at_desk`
+abbrev pub EntrySays : (bytes : List ℕ) → (clock-limit : ℕ) → Made → Type 0
+EntrySays bytes limit m = MakeSays bytes limit m ⊎ MakeAtDeskSays bytes limit m
 
--- by `make`
+-- DEMAND 3 OF THE CODE: for every byte string and clock limit for which a forest was made, through either entry, every levelling of its
+-- book and every sequence of steps
 abbrev pub Demand3 : Type 0
-Demand3 = Demand3Of MakeSays
+Demand3 =
+    (bytes : List ℕ) (clock-limit : ℕ) (m : Made) → EntrySays bytes clock-limit m → m .making ≡ makings.Made →
+    (book : books.Book) → books.read bytes ≡ accepted book → (level : ℕ → ℕ) → Plain book → Levelled book level →
+    (ss : List Step) → Runs (m .forest) ss →
+    TellSo (m .forest) ss (λ ts.
+    AllTell (In book level) clock-limit false ts × (exceeded ts ≤ length book + clause-count book + all-granted ts))
 
--- by `make_at_desk`
-abbrev pub Demand3AtDesk : Type 0
-Demand3AtDesk = Demand3Of MakeAtDeskSays
-
--- NO ASSERT, for every byte string, clock limit and sitting: whatever stops has a number of document 01
+-- NO ASSERT, for every byte string and clock limit, through either entry, and every sequence of steps: whatever stops has a number of
+-- document 01, and a peek never gives InvalidAnswer
 abbrev pub NoAssert : Told → Type 0
 NoAssert (opens goal r) = r .opening ≡ openings.Stopped 0 → ⊥
 NoAssert (searches table index limit r) = r .outcome ≡ outcomes.Stopped 0 → ⊥
-NoAssert (peeks table index rounds limit r) = r .outcome ≡ outcomes.Stopped 0 → ⊥
+NoAssert (peeks table index rounds limit r) = (r .outcome ≡ outcomes.Stopped 0 → ⊥) × (r .outcome ≡ outcomes.InvalidAnswer → ⊥)
 NoAssert (asks-future table index variant r) = Unit {0}
 
 abbrev pub NoneAsserts : List Told → Type 0
@@ -162,5 +162,5 @@ NoneAsserts (t ∷ ts) = NoAssert t × NoneAsserts ts
 
 abbrev pub NeverAsserts : Type 0
 NeverAsserts =
-    (bytes : List ℕ) (clock-limit : ℕ) (m : Made) → MakeSays bytes clock-limit m → m .making ≡ makings.Made →
-    (ts : List Told) → Sits (m .forest) ts → NoneAsserts ts
+    (bytes : List ℕ) (clock-limit : ℕ) (m : Made) → EntrySays bytes clock-limit m → m .making ≡ makings.Made →
+    (ss : List Step) → Runs (m .forest) ss → TellSo (m .forest) ss NoneAsserts

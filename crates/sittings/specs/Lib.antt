@@ -1,5 +1,6 @@
 pub mod Sittings
+pub mod Steps
 pub mod Claim
 pub mod Before
-pub mod ServeCalls
 pub mod Beforehand
+pub mod Total
