@@ -26,6 +26,7 @@ use Rattle.asserts.proofs.Sound.{SoundForest}
 use Rattle.asserts.proofs.Theorem.{call-keeps}
 use Rattle.promises.specs.Total.{OneOf, StopNumber, RefusedBy, TableListed, OpenListed, EndingListed, SearchListed, PeekListed}
 use Rattle.promises.specs.Total.{FutureListed, CallListed, Listed}
+use Rattle.promises.proofs.Listed.Walk.{one-of}
 use Rattle.promises.proofs.Listed.Logic.{Number}
 use Rattle.promises.proofs.Listed.Reading.{make-listed, desk-listed}
 use Rattle.promises.proofs.Listed.Searches.{Ends, Searches, Peeks, root-ends, rounds-end, Opens, opened-ends}
@@ -80,8 +81,12 @@ listed-number (suc n) k z =
     (leb-true 21 (suc n) (x .0), leb-true (suc n) 29 (x .1))
 
 table-listed : (t : Stops TableIndex) (left : ℕ) → Opens 0 t left → NoStop t → TableListed t left
-table-listed (stop n) left (inl e, k) z = not-zero n z e
-table-listed (stop n) left (inr e, k) z = (e, k)
+table-listed (stop n) left (h, k) z = (on (one-of (0 ∷ 22 ∷ []) n h), k)
+  where
+    on : OneOf (0 ∷ 22 ∷ []) n → n ≡ 22
+    on (inl e) = not-zero n z e
+    on (inr (inl e)) = e
+    on (inr (inr none)) = absurd none
 table-listed (go t) left h z = h
 
 ending-listed : (e : Ending) (left : ℕ) → Ends 0 e left → Fine e → EndingListed e left

@@ -1,7 +1,8 @@
 -- logic.rs, first half: its stops have the numbers of document 01, or are asserts, and the mark stays.
 use Prim.Native.Nat.{ℕ, zero, suc, _+_, _*_}
 use mathlib.Core.Bool.{Bool, true, not, _&&_, _||_}
-use mathlib.Core.List.{List}
+use mathlib.Core.List.{List, [], _∷_}
+use mathlib.Core.Logic.{inl, inr}
 use mathlib.Core.Path.{_≡_, refl}
 use lib.Dec.{eqb, leb, ltb}
 use lib.ListN.{length, getElem?}
@@ -23,6 +24,8 @@ use Rattle.definitions.specs.Logic.{unwound, enqueue-at-top, activate, next-ans
 use Rattle.definitions.specs.Logic.{merge-answer-into-strand}
 use Rattle.laws.proofs.Bools.{and-then}
 use Rattle.promises.proofs.Listed.Walk.{Comes, stops, goes, Any, then, passed, guard, either, by-literal, given, Marked, StateMarked}
+use Rattle.promises.specs.Total.{OneOf}
+use Rattle.promises.proofs.Listed.Walk.{is-one-of, one-of, more}
 use Rattle.promises.proofs.Listed.Walk.{unwrap-comes, table-comes, top-comes, change-top-comes, change-comes, unwind-comes}
 
 -- 21 to 29, or an assert
@@ -46,18 +49,28 @@ abbrev pub MergeMarked : ℕ → Merge → Type 0
 MergeMarked m (merged strand s) = StateMarked m s
 MergeMarked m (failed s) = StateMarked m s
 
--- Tables for goals: 22 alone.
+-- Tables for goals: 22 alone, or an assert.
 
-module _ {N : ℕ → Type 0} (z : N 0) where
-  build-comes : (book : Book) (goal : ℕ) → Comes N Any (build-table book goal)
-  build-comes book goal = then (unwrap-comes z (getElem? book goal)) (λ g _. either (g .floundered) (goes tt) (goes tt))
+abbrev pub OpenNumber : ℕ → Type 0
+OpenNumber n = is-one-of (0 ∷ 22 ∷ []) n ≡ true
 
-  pub goal-comes : {m : ℕ} → N 22 → (others : ℕ) (f : Forest) (goal : ℕ) → Marked m f
-      → Comes N (λ r. Marked m (r .1)) (get-or-create-table-for-ucanonical-goal others f goal)
-  goal-comes room others f goal e = given (index-of goal (f .tables))
-      (then (build-comes (f .book) goal) (λ t _.
-      guard (ltb most-strands (others + queued (with-tables f (insert-table t (f .tables))))) 22 room (goes e)))
-      (λ t. goes e)
+open-number : (n : ℕ) → OpenNumber n → Number n
+open-number n h = on (one-of (0 ∷ 22 ∷ []) n h)
+  where
+    on : OneOf (0 ∷ 22 ∷ []) n → Number n
+    on (inl e) = rw e
+    on (inr (inl e)) = rw e
+    on (inr (inr z)) = absurd z
+
+build-comes : (book : Book) (goal : ℕ) → Comes OpenNumber Any (build-table book goal)
+build-comes book goal = then (unwrap-comes refl (getElem? book goal)) (λ g _. either (g .floundered) (goes tt) (goes tt))
+
+pub goal-comes : {m : ℕ} (others : ℕ) (f : Forest) (goal : ℕ) → Marked m f
+    → Comes OpenNumber (λ r. Marked m (r .1)) (get-or-create-table-for-ucanonical-goal others f goal)
+goal-comes others f goal e = given (index-of goal (f .tables))
+    (then (build-comes (f .book) goal) (λ t _.
+    guard (ltb most-strands (others + queued (with-tables f (insert-table t (f .tables))))) _ refl (goes e)))
+    (λ t. goes e)
 
 -- Choosing a literal.
 
@@ -73,7 +86,7 @@ propagate-comes s selected = then (unwrap-comes asserts (getElem? (s .ex-clause 
 -- Delayed goals.
 
 pub delay-comes : (goals : List ℕ) (x : ExClause) → Comes Number Any (delay goals x)
-delay-comes goals x = guard (ltb most-delayed (length (x .delayed-subgoals) + length goals)) 24 refl (goes tt)
+delay-comes goals x = guard (ltb most-delayed (length (x .delayed-subgoals) + length goals)) _ refl (goes tt)
 
 apply-comes : (l : Literal) (a : Answer) (x : ExClause) → Comes Number Any (apply-answer-subst l a x)
 apply-comes l a x = either (answer-fits l (a .variant)) (passed (delay-comes (a .delayed-subgoals) x) (λ x′ _. goes tt)) (goes tt)
@@ -81,7 +94,7 @@ apply-comes l a x = either (answer-fits l (a .variant)) (passed (delay-comes (a 
 module _ {m : ℕ} where
   subgoal-comes : (others : ℕ) (f : Forest) (l : Literal) → Marked m f
       → Comes Number (λ r. Marked m (r .1)) (get-or-create-table-for-subgoal others f l)
-  subgoal-comes others f l e = either (gets-table l) (then (goal-comes asserts refl others f (goal-of l) e) (λ r h. goes h)) (goes e)
+  subgoal-comes others f l e = either (gets-table l) (then (more open-number (goal-comes others f (goal-of l) e)) (λ r h. goes h)) (goes e)
 
   from-comes : (passes others : ℕ) (f : Forest) (s : Strand) → Marked m f
       → Comes Number (λ (c : Selection). Marked m (c .forest)) (select-from passes others f s)
@@ -91,7 +104,7 @@ module _ {m : ℕ} where
       (either (is-empty (s .ex-clause .floundered-subgoals))
       (goes e)
       (either (is-empty (reconsider-floundered-subgoals (s .ex-clause) .subgoals))
-      (guard (is-empty (reconsider-floundered-subgoals (s .ex-clause) .floundered-subgoals)) 0 asserts (goes e))
+      (guard (is-empty (reconsider-floundered-subgoals (s .ex-clause) .floundered-subgoals)) _ asserts (goes e))
       (from-comes passes others f _ e)))
       (then (unwrap-comes asserts (getElem? (s .ex-clause .subgoals) (next-subgoal-index (s .ex-clause)))) (λ l _.
       then (subgoal-comes others f l e) (λ r h.
@@ -127,7 +140,7 @@ module _ {m : ℕ} where
   next-comes s strand selected (Negative goal outsized) a e = goes e
   next-comes s strand selected (Positive goal want outsized) a e = either (is-trivial (a .variant)) (goes e)
       (then (enqueue-comes s (next-answer-strand strand selected) e) (λ s′ h.
-      guard (ltb most-strands (queued (s′ .forest) + active (s′ .stack) + 1)) 22 refl (goes h)))
+      guard (ltb most-strands (queued (s′ .forest) + active (s′ .stack) + 1)) _ refl (goes h)))
 
   none-comes : (s : SolveState) → StateMarked m s → Comes Number (MergeMarked m) (no-solution s)
   none-comes s e = then (unwind-comes asserts s e) (λ u h. goes h)
@@ -137,7 +150,7 @@ module _ {m : ℕ} where
   into-comes s strand (Positive goal want outsized) a e =
       then (apply-comes (Positive goal want outsized) a (strand .ex-clause)) (λ o _. given o (none-comes s e) (λ x. goes e))
   into-comes s strand (Negative goal outsized) a e =
-      guard (not (is-empty (a .delayed-subgoals))) 27 refl (either (a .ambiguous) (goes e) (none-comes s e))
+      guard (not (is-empty (a .delayed-subgoals))) _ refl (either (a .ambiguous) (goes e) (none-comes s e))
 
   pub merge-comes : (s : SolveState) (strand : Strand) (selected : SelectedSubgoal) (a : Answer) → StateMarked m s
       → Comes Number (MergeMarked m) (merge-answer-into-strand s strand selected a)

@@ -1,10 +1,9 @@
 -- The numbers by which a book is refused, at making and at the desk.
 use Prim.Native.Nat.{ℕ, zero, suc}
-use mathlib.Core.Bool.{Bool, true, false, not, _||_, false≢true}
+use mathlib.Core.Bool.{Bool, true, false, not, _||_}
 use mathlib.Core.List.{List, [], _∷_}
 use mathlib.Core.Logic.{inl, inr}
 use mathlib.Core.Path.{_≡_, refl}
-use borrow.Author.Tests.{eqb-true}
 use lib.Dec.{eqb, ltb, leb}
 use lib.ListN.{length}
 use Rattle.definitions.specs.{MAX}
@@ -16,20 +15,8 @@ use Rattle.definitions.specs.Desk.{repeats, at-desk, desk, make-at-desk}
 use Rattle.definitions.specs.Forest.{make-of, make}
 use Rattle.definitions.specs.Model.{Each}
 use Rattle.definitions.specs.Refusal.{Refusable, refused, accepted, Test, _refuses_, unless}
+use Rattle.promises.proofs.Listed.Walk.{is-one-of, one-of}
 use Rattle.promises.specs.Total.{OneOf, book-numbers, making-numbers, desk-numbers, MakingListed}
-
--- by computation
-abbrev pub is-one-of : List ℕ → ℕ → Bool
-is-one-of [] n = false
-is-one-of (m ∷ ms) n = eqb n m || is-one-of ms n
-
-pub one-of : (ms : List ℕ) (n : ℕ) → is-one-of ms n ≡ true → OneOf ms n
-one-of [] n e = false≢true e
-one-of (m ∷ ms) n e = on (eqb n m) refl e (one-of ms n)
-  where
-    on : (b : Bool) → eqb n m ≡ b → (b || is-one-of ms n) ≡ true → (is-one-of ms n ≡ true → OneOf ms n) → OneOf (m ∷ ms) n
-    on true k x h = inl (eqb-true n m k)
-    on false k x h = inr (h x)
 
 -- if it is refused, then by one of these numbers
 data Refused (numbers : List ℕ) (A : Type 0) : Refusable A → Type 0 where

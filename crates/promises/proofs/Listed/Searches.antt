@@ -21,7 +21,7 @@ use Rattle.definitions.specs.Forest.{Opened, opened, Peeked, is-invalid, is-exc
 use Rattle.laws.proofs.Bools.{case-bool}
 use Rattle.laws.proofs.Options.{case-option}
 use Rattle.promises.proofs.Listed.Walk.{Comes, stops, goes, Any, then, unwrap-comes, table-comes, drop-comes, Marked, StateMarked}
-use Rattle.promises.proofs.Listed.Logic.{Number, FlowMarked, goal-comes}
+use Rattle.promises.proofs.Listed.Logic.{Number, FlowMarked, OpenNumber, goal-comes}
 use Rattle.promises.proofs.Listed.Turn.{clock-comes, turn-comes}
 
 abbrev IsZero : ℕ → Type 0
@@ -140,15 +140,12 @@ module _ {m : ℕ} where
 
 -- An open.
 
-abbrev OpenNumber : ℕ → Type 0
-OpenNumber n = (n ≡ 0) ⊎ (n ≡ 22)
-
 abbrev pub Opens : (m : ℕ) → Stops TableIndex → (left : ℕ) → Type 0
 Opens m (stop n) left = OpenNumber n × (left ≡ n)
 Opens m (go t) left = left ≡ m
 
 pub opened-ends : {m : ℕ} (f : Forest) (goal : ℕ) → Marked m f → Opens m (opened 0 f goal .table) (opened 0 f goal .forest .mark)
 opened-ends {m} f goal e = case-comes (λ (o : Opened). Opens m (o .table) (o .forest .mark))
-    (goal-comes {N = OpenNumber} (inl refl) (inr refl) 0 f goal e)
+    (goal-comes 0 f goal e)
     (λ n z. (z, refl))
     (λ r h. h)

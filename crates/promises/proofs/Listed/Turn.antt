@@ -29,9 +29,9 @@ use Rattle.promises.proofs.Listed.Logic.{Number, asserts, FlowMarked, M
 use Rattle.promises.proofs.Listed.Logic.{enqueue-comes, activate-comes, merge-comes}
 
 push-comes : (held : ℕ) (a : Answer) (t : Table) → Comes Number Any (push-answer held a t)
-push-comes held a t = guard (t .floundered) 0 asserts (given (equal-answer a (t .answers))
-    (guard (leb most-answers held) 23 refl (goes tt))
-    (λ was. guard (was .ambiguous && not (a .ambiguous)) 26 refl (goes tt)))
+push-comes held a t = guard (t .floundered) _ asserts (given (equal-answer a (t .answers))
+    (guard (leb most-answers held) _ refl (goes tt))
+    (λ was. guard (was .ambiguous && not (a .ambiguous)) _ refl (goes tt)))
 
 entries-come : (f : Forest) (es : Stack) → Comes Number Any (coinductive-entries f es)
 entries-come f [] = goes tt
@@ -49,7 +49,7 @@ Taken m (some r) = StateMarked m (r .1)
 
 module _ {m : ℕ} where
   pub clock-comes : (f : Forest) → Marked m f → Comes Number (Marked m) (increment-clock f)
-  clock-comes f e = guard (leb (f .clock-limit) (f .clock)) 21 refl (goes e)
+  clock-comes f e = guard (leb (f .clock-limit) (f .clock)) _ refl (goes e)
 
   -- Cycles.
 
@@ -61,7 +61,7 @@ module _ {m : ℕ} where
       (λ goal want outsized. then (top-comes asserts (s .stack)) (λ t _.
       then (table-comes asserts (s .forest) (t .table)) (λ own _.
       then (table-comes asserts (s .forest) (selected .subgoal-table)) (λ other _.
-      guard (not (own .coinductive-goal && other .coinductive-goal)) 0 asserts
+      guard (not (own .coinductive-goal && other .coinductive-goal)) _ asserts
       (then (delay-comes (goal ∷ [])
       (with-subgoals (strand .ex-clause) (remove (strand .ex-clause .subgoals) (selected .subgoal-index)))) (λ x _.
       then (activate-comes s (with-ex-clause (with-selected strand none) x) e) (λ s′ h. goes h)))))))
@@ -91,9 +91,9 @@ module _ {m : ℕ} where
   selected-comes : (s : SolveState) (strand : Strand) → StateMarked m s → Comes Number (FlowMarked m) (on-subgoal-selected s strand)
   selected-comes s strand e = then (unwrap-comes asserts (strand .selected-subgoal)) (λ selected _.
       then (table-comes asserts (s .forest) (selected .subgoal-table)) (λ table _.
-      guard (table .floundered) 0 asserts
+      guard (table .floundered) _ asserts
       (given (answer table (selected .answer-index))
-      (guard (not (eqb (next-answer-index table) (selected .answer-index))) 0 asserts
+      (guard (not (eqb (next-answer-index table) (selected .answer-index))) _ asserts
       (given (is-active (selected .subgoal-table) (s .stack))
       (then (activate-comes s strand e) (λ s′ h. then (clock-comes (s′ .forest) h) (λ f k. goes k)))
       (λ depth. cycle-comes s strand selected depth e)))
@@ -105,8 +105,8 @@ module _ {m : ℕ} where
       → Comes Number (λ r. Marked m (r .1)) (pursue-answer f t strand)
   pursue-comes f t strand e =
       let x = strand .ex-clause in
-      guard (not (is-empty (x .subgoals))) 25 refl
-      (guard (not (is-empty (x .floundered-subgoals)) && not (x .ambiguous)) 0 asserts
+      guard (not (is-empty (x .subgoals))) _ refl
+      (guard (not (is-empty (x .floundered-subgoals)) && not (x .ambiguous)) _ asserts
       (either (is-outsized (x .subst))
       (then (change-comes asserts f t mark-floundered e) (λ f′ h. goes h))
       (then (table-comes asserts f t) (λ table _.
@@ -143,7 +143,7 @@ module _ {m : ℕ} where
       then (c (table .strands) f′ h) (λ f″ k. each-comes clear c ss f″ k))))
 
   clear-comes : (depth : ℕ) (ss : List Strand) (f : Forest) → Marked m f → Comes Number (Marked m) (clear-strands-after-cycle depth ss f)
-  clear-comes zero ss f e = guard (not (is-empty ss)) 0 asserts (goes e)
+  clear-comes zero ss f e = guard (not (is-empty ss)) _ asserts (goes e)
   clear-comes (suc depth) ss f e = each-comes (λ us g. clear-strands-after-cycle depth us g) (λ us g h. clear-comes depth us g h) ss f e
 
   none-comes : (s : SolveState) → StateMarked m s → Comes Number (FlowMarked m) (on-no-strands s)

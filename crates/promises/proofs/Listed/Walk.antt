@@ -1,9 +1,12 @@
 -- Statements that stop by a number of some kind, or go on with what has some property.
 use Prim.Native.Nat.{ℕ}
-use mathlib.Core.Bool.{Bool, true, false}
-use mathlib.Core.List.{[], _∷_}
+use borrow.Author.Tests.{eqb-true}
+use mathlib.Core.Bool.{Bool, true, false, _||_, false≢true}
+use mathlib.Core.List.{List, [], _∷_}
 use mathlib.Core.Option.{Option, none, some}
-use mathlib.Core.Path.{_≡_}
+use mathlib.Core.Logic.{inl, inr}
+use mathlib.Core.Path.{_≡_, refl}
+use lib.Dec.{eqb}
 use lib.ListN.{getElem?}
 use Rattle.definitions.specs.{TableIndex}
 use Rattle.definitions.specs.Book.{Want, Literal, Positive, Negative}
@@ -13,6 +16,20 @@ use Rattle.definitions.specs.Tables.{Forest, table-at, change-table}
 use Rattle.definitions.specs.Stack.{StackEntry, Stack, top, change-top, pop-and-take-caller-strand}
 use Rattle.definitions.specs.Stack.{pop-and-borrow-caller-strand}
 use Rattle.definitions.specs.Logic.{SolveState, unwind-callers, unwind-stack, drop-state}
+use Rattle.promises.specs.Total.{OneOf}
+
+-- one of these numbers, by computation
+abbrev pub is-one-of : List ℕ → ℕ → Bool
+is-one-of [] n = false
+is-one-of (m ∷ ms) n = eqb n m || is-one-of ms n
+
+pub one-of : (ms : List ℕ) (n : ℕ) → is-one-of ms n ≡ true → OneOf ms n
+one-of [] n e = false≢true e
+one-of (m ∷ ms) n e = on (eqb n m) refl e (one-of ms n)
+  where
+    on : (b : Bool) → eqb n m ≡ b → (b || is-one-of ms n) ≡ true → (is-one-of ms n ≡ true → OneOf ms n) → OneOf (m ∷ ms) n
+    on true k x h = inl (eqb-true n m k)
+    on false k x h = inr (h x)
 
 pub data Comes (N : ℕ → Type 0) {A : Type 0} (P : A → Type 0) : Stops A → Type 0 where
   stops : {n : ℕ} → N n → Comes N P (stop n)
@@ -33,6 +50,11 @@ module _ {N : ℕ → Type 0} {A B : Type 0} {P : A → Type 0} {Q : B → Type 
       → Comes N Q (elim r [ stop n ↦ stop n | go a ↦ k a ])
   passed (stops n) h = stops n
   passed (goes {a = a} p) h = h a p
+
+-- more numbers
+pub more : {N M : ℕ → Type 0} {A : Type 0} {P : A → Type 0} {r : Stops A} → ((n : ℕ) → N n → M n) → Comes N P r → Comes M P r
+more h (stops {n = n} z) = stops (h n z)
+more h (goes p) = goes p
 
 module _ {N : ℕ → Type 0} {B : Type 0} {Q : B → Type 0} where
   pub guard : (b : Bool) (n : ℕ) {r : Stops B} → N n → Comes N Q r → Comes N Q (stop-if b n >> r)
