@@ -11,6 +11,7 @@ use borrow.Author.Tests.{lt-ltb, le-ltb, le-leb, lt-leb, eq-eqb, ne-eqb}
 use Rattle.definitions.specs.{MAX}
 use Rattle.rings.specs.Rings.{walk, ring-of, place-if}
 use Rattle.rings.proofs.Walks.{walk-step}
+use Rattle.strands.specs.Times.{incremented}
 use Rattle.control.specs.declared.perform.Flow.{Flow}
 use Rattle.search.specs.declared.course.Asked.{Asked}
 use Rattle.search.specs.declared.course.Course.{Course}
@@ -119,7 +120,10 @@ module _ (next tail len variant key ambiguous : List ℕ) (t index : ℕ) where
     pub stored-found : p < 256 → getD key p 0 ≤ 0 → endings.Found (getD variant p 0) (not (eqb (getD ambiguous p 0) 0)) ≡ answered
     stored-found h d = sym (ap₂ by (lt-leb 256 p h) (le-ltb 0 (getD key p 0) d)) ∙ here
 
--- the first push
+-- the first push: below the clock's limit there is a next time
+next-time : (t limit : ℕ) → limit ≤ MAX → t < limit → incremented t ≡ suc t
+next-time t limit few h = omega (arith, few, h)
+
 module _ (asked : Asked) (c : Course) where
   abbrev pushed : (late none-left : Bool) → Course
   pushed late none-left = pushes-by late none-left c
@@ -130,15 +134,19 @@ module _ (asked : Asked) (c : Course) where
   abbrev clocked : (over : Bool) → (depth clock : ℕ) → Course
   clocked over depth clock = course-at over endings.Cut (c .index) (c .more) (c .exceeded) (c .done) (c .mark) depth clock c
 
-  pub push-cut : c .clock < asked .«clock_limit» → asked .limit ≡ 0 → clocked true (c .depth) (c .clock + 1) ≡ pushes-root asked c
-  push-cut h e =
-      ap (clocked true (c .depth)) (add-one (c .clock))
-      ∙ sym (ap₂ pushed (lt-leb (asked .«clock_limit») (c .clock) h) (eq-eqb (asked .limit) 0 e))
+  module _ (few : asked .«clock_limit» ≤ MAX) (h : c .clock < asked .«clock_limit») (n : ℕ) (ticked : n ≡ incremented (c .clock)) where
+    next-is : n ≡ suc (c .clock)
+    next-is = ticked ∙ next-time (c .clock) (asked .«clock_limit») few h
 
-  pub push-new : c .clock < asked .«clock_limit» → (asked .limit ≡ 0 → ⊥) → clocked false 1 (c .clock + 1) ≡ pushes-root asked c
-  push-new h n =
-      ap (clocked false 1) (add-one (c .clock))
-      ∙ sym (ap₂ pushed (lt-leb (asked .«clock_limit») (c .clock) h) (ne-eqb (asked .limit) 0 n))
+    pub push-cut : asked .limit ≡ 0 → clocked true (c .depth) n ≡ pushes-root asked c
+    push-cut e =
+        ap (clocked true (c .depth)) next-is
+        ∙ sym (ap₂ pushed (lt-leb (asked .«clock_limit») (c .clock) h) (eq-eqb (asked .limit) 0 e))
+
+    pub push-new : (asked .limit ≡ 0 → ⊥) → clocked false 1 n ≡ pushes-root asked c
+    push-new e =
+        ap (clocked false 1) next-is
+        ∙ sym (ap₂ pushed (lt-leb (asked .«clock_limit») (c .clock) h) (ne-eqb (asked .limit) 0 e))
 
 -- all before the first turn
 module _ (asked : Asked) (floundered next tail len variant key ambiguous : List ℕ) (c : Course) where

@@ -9,6 +9,7 @@ use crate::course::is_peek;
 use control::perform::Flow;
 use rings::ring_at;
 use stores::numbers::flag_at;
+use strands::times::TimeStamp;
 ghost use mathlib.Core.Path.{_≡_};
 ghost use Prim.Native.Nat.{_<_};
 ghost use Rattle.rings.specs.Rings.{ring-of};
@@ -118,11 +119,13 @@ fn push_root(asked: Asked, c: Course) -> Course
             ..c
         };
     }
+    let was = TimeStamp { clock: c.clock };
+    let time = was.increment();
     if asked.limit == 0 {
         return Course {
             over: true,
             ending: Ending::Cut,
-            clock: c.clock + 1,
+            clock: time.clock,
             ..c
         };
     }
@@ -130,7 +133,7 @@ fn push_root(asked: Asked, c: Course) -> Course
         over: false,
         ending: Ending::Cut,
         depth: 1,
-        clock: c.clock + 1,
+        clock: time.clock,
         ..c
     }
 }
