@@ -7,7 +7,7 @@ use mathlib.Core.Bool.{Bool, true, false, not, false≢true}
 use mathlib.Core.List.{List}
 use mathlib.Core.Path.{_≡_, refl, sym, ap, subst, _∙_}
 use lib.Dec.{eqb, leb, ltb}
-use borrow.Author.Tests.{lt-ltb, le-leb}
+use borrow.Author.Tests.{lt-ltb, le-leb, leb-true}
 use Rattle.definitions.specs.{MAX}
 use Rattle.book.specs.declared.Book.{Book}
 use Rattle.control.specs.PerformStrand.{Lent}
@@ -21,8 +21,8 @@ use Rattle.batch.specs.declared.calls.Serving.{Serving}
 use Rattle.batch.specs.Calls.{call-at}
 use Rattle.batch.specs.Serve.{Stage, stage, open-by, table-of, live-with, opens, search-by, peek-by, refusal-at}
 use Rattle.batch.specs.Serve.{begun-by, begun, told, served-by, served}
-use Rattle.batch.specs.ServeAll.{runs-by, runs, walk-of, with-course, with-walk, next-begun, Serves, all-told, call-served}
-use Rattle.batch.specs.ServeAll.{left-by, Left, most-left, share-left, serving-left}
+use Rattle.batch.specs.ServeAll.{runs-by, runs, walk-of, with-course, with-walk, next-begun, Serves, all-told, hand-told, call-served}
+use Rattle.batch.specs.ServeAll.{most-left, share-left, serving-left}
 
 -- A CALL THAT IS BEGUN is at hand, and no other
 abbrev AtHand : Stage → Stage → Type 0
@@ -87,64 +87,42 @@ runs-on false over e = absurd (false≢true e)
 
 module _ (b : Book) (clock-limit : ℕ) (calls : List ℕ) (count : ℕ) where
   abbrev Comes-to : Stage → Stage → Type 0
-  Comes-to v u = Left b clock-limit calls count v u
+  Comes-to v u = Serves b clock-limit calls count v u
 
-  -- SERVING
-  module _ (v : Stage) (idle : runs (v .serving) ≡ false) (more : v .serving .at < count) where
-    told-left : (busy : Bool) → v .serving .busy ≡ busy → (u : Stage) → Comes-to (served-by b clock-limit calls busy v) u
-        → left-by b clock-limit calls count busy v u
-    told-left true e u h = (
-      walk-of v,
-      is-over (runs-not (v .serving .busy) (v .serving .course .over) idle e),
-      h,
-    )
-    told-left false e u h =
-        let x = begun-at-hand b clock-limit v (call-at calls (v .serving .at)) in
-        let l = subst (λ (busy : Bool). left-by b clock-limit calls count busy (next-begun b clock-limit calls count v) u) (x .0) h in
-        call-served (lt-ltb (v .serving .at) count more) (l .1) (l .2)
+  -- a call at hand, of those that were asked for, is told before all others
+  hand-first : {v u : Stage} → Comes-to v u → v .serving .at < count → v .serving .busy ≡ true
+      → (w : Walk) × Comes b (v .serving .asked) (walk-of v) w × Comes-to (told (with-walk v w)) u
+  hand-first {v} (all-told e) more busy = absurd (omega (arith, more, leb-true count (v .serving .at) e))
+  hand-first (hand-told {w = w} m e c h) more busy = (w, c, h)
+  hand-first (call-served m e c h) more busy = absurd (false≢true (sym e ∙ busy))
 
-    pub serves-left : (x : Stage) → x ≡ served b clock-limit calls v → (u : Stage) → Comes-to x u → Comes-to v u
-    serves-left x e u h =
-        told-left (v .serving .busy) refl u (subst (λ (y : Stage). Comes-to y u) e h)
+  module _ (v : Stage) (more : v .serving .at < count) where
+    -- SERVING
+    module _ (idle : runs (v .serving) ≡ false) where
+      told-by : (busy : Bool) → v .serving .busy ≡ busy → (u : Stage) → Comes-to (served-by b clock-limit calls busy v) u → Comes-to v u
+      told-by true e u h =
+          hand-told {w = walk-of v} (lt-ltb (v .serving .at) count more) e
+          (is-over (runs-not (v .serving .busy) (v .serving .course .over) idle e)) h
+      told-by false e u h =
+          let x = begun-at-hand b clock-limit v (call-at calls (v .serving .at)) in
+          let l = hand-first h (subst (λ (n : ℕ). n < count) (sym (x .1)) more) (x .0) in
+          call-served (lt-ltb (v .serving .at) count more) e (l .1) (l .2)
 
-    -- a call that is then at hand is one of those that were asked for
-    hand-by : (busy : Bool) → served-by b clock-limit calls busy v .serving .busy ≡ true
-        → served-by b clock-limit calls busy v .serving .at < count
-    hand-by true e = absurd (false≢true e)
-    hand-by false e =
-        subst (λ (n : ℕ). n < count) (sym (begun-at-hand b clock-limit v (call-at calls (v .serving .at)) .1)) more
+      pub serves-call : (x : Stage) → x ≡ served b clock-limit calls v → (u : Stage) → Comes-to x u → Comes-to v u
+      serves-call x e u h = told-by (v .serving .busy) refl u (subst (λ (y : Stage). Comes-to y u) e h)
 
-    pub serves-hand : (x : Stage) → x ≡ served b clock-limit calls v → x .serving .busy ≡ true → x .serving .at < count
-    serves-hand x e =
-        subst (λ (y : Stage). y .serving .busy ≡ true → y .serving .at < count) (sym e) (hand-by (v .serving .busy))
-
-  -- A TURN
-  module _ (v : Stage) (running : runs (v .serving) ≡ true) (c : Course) (w : Lent)
-      (comes : (x : Walk) → Comes b (v .serving .asked) (walk c w) x → Comes b (v .serving .asked) (walk-of v) x) where
-    abbrev turned : Stage
-    turned = stage (with-course c (v .serving)) w (v .replies)
-
-    turn-by : (busy : Bool) → busy ≡ true → (u : Stage) → left-by b clock-limit calls count busy turned u
-        → left-by b clock-limit calls count busy v u
-    turn-by true e u h = (h .0, comes (h .0) (h .1), h .2)
-    turn-by false e u h = absurd (false≢true e)
-
-    pub turn-left : (y : Serving) → y ≡ with-course c (v .serving) → (u : Stage) → Comes-to (stage y w (v .replies)) u → Comes-to v u
-    turn-left y e u h =
-        turn-by (v .serving .busy) (runs-busy (v .serving .busy) (v .serving .course .over) running) u
-        (subst (λ (s : Serving). Comes-to (stage s w (v .replies)) u) e h)
+    -- A TURN
+    module _ (running : runs (v .serving) ≡ true) (c : Course) (w : Lent)
+        (comes : (x : Walk) → Comes b (v .serving .asked) (walk c w) x → Comes b (v .serving .asked) (walk-of v) x) where
+      pub serves-turn : (y : Serving) → y ≡ with-course c (v .serving) → (u : Stage) → Comes-to (stage y w (v .replies)) u → Comes-to v u
+      serves-turn y e u h =
+          let busy = runs-busy (v .serving .busy) (v .serving .course .over) running in
+          let l = hand-first (subst (λ (s : Serving). Comes-to (stage s w (v .replies)) u) e h) more busy in
+          hand-told (lt-ltb (v .serving .at) count more) busy (comes (l .0) (l .1)) (l .2)
 
   -- THE END
-  ended-by : (v : Stage) (busy : Bool) → v .serving .busy ≡ busy → (v .serving .busy ≡ true → v .serving .at < count)
-      → count ≤ v .serving .at → left-by b clock-limit calls count busy v v
-  ended-by v true e hand past = absurd (omega (arith, hand e, past))
-  ended-by v false e hand past = all-told (le-leb count (v .serving .at) past)
-
-  pub ended-left : (v : Stage) → (v .serving .busy ≡ true → v .serving .at < count) → count ≤ v .serving .at → Comes-to v v
-  ended-left v hand past = ended-by v (v .serving .busy) refl hand past
-
-  pub from-start : (v u : Stage) → v .serving .busy ≡ false → Comes-to v u → Serves b clock-limit calls count v u
-  from-start v u e h = subst (λ (busy : Bool). left-by b clock-limit calls count busy v u) e h
+  pub serves-none : (v : Stage) → count ≤ v .serving .at → Comes-to v v
+  serves-none v past = all-told (le-leb count (v .serving .at) past)
 
 -- LESS IS LEFT
 least : (n : ℕ) → 0 ≤ n

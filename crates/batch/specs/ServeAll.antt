@@ -35,20 +35,15 @@ module _ (b : Book) (clock-limit : ℕ) (calls : List ℕ) (count : ℕ) where
   abbrev pub next-begun : Stage → Stage
   next-begun v = begun b clock-limit (call-at calls (v .serving .at)) v
 
-  -- WHAT IT COMES TO: all calls are told; or the next one is begun, its searches come to what they come to, and it is told
+  -- WHAT IT COMES TO: all calls are told; or the searches of the call at hand come to what they come to, and it is told; or where none is
+  -- at hand, the next one is begun first
   pub data Serves : Stage → Stage → Type 0 where
     all-told : {v : Stage} → leb count (v .serving .at) ≡ true → Serves v v
-    call-served : {v u : Stage} {w : Walk} → ltb (v .serving .at) count ≡ true
+    hand-told : {v u : Stage} {w : Walk} → ltb (v .serving .at) count ≡ true → v .serving .busy ≡ true
+        → Comes b (v .serving .asked) (walk-of v) w → Serves (told (with-walk v w)) u → Serves v u
+    call-served : {v u : Stage} {w : Walk} → ltb (v .serving .at) count ≡ true → v .serving .busy ≡ false
         → Comes b (next-begun v .serving .asked) (walk-of (next-begun v)) w
         → Serves (told (with-walk (next-begun v) w)) u → Serves v u
-
-  -- what is left to come, where a call is at hand and where none is
-  abbrev pub left-by : (busy : Bool) → Stage → Stage → Type 0
-  left-by true v u = (w : Walk) × Comes b (v .serving .asked) (walk-of v) w × Serves (told (with-walk v w)) u
-  left-by false v u = Serves v u
-
-  abbrev pub Left : Stage → Stage → Type 0
-  Left v u = left-by (v .serving .busy) v u
 
 -- HOW MUCH IS LEFT at most: calls, then the course of the one at hand, which has no more left than this
 abbrev pub most-left : ℕ

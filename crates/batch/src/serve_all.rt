@@ -11,7 +11,6 @@ use search::settle::settle;
 use strands::Answer;
 use strands::Strand;
 ghost use mathlib.Core.Path.{_≡_};
-ghost use mathlib.Core.Bool.{false};
 ghost use Prim.Native.Nat.{ℕ, _≤_};
 ghost use Rattle.definitions.specs.{MAX};
 ghost use Rattle.stores.specs.Places.{places};
@@ -90,7 +89,7 @@ pub fn serve_all<'a>(
     calls: &'a [u64; NUMBERS],
     replies: &mut [u64; NUMBERS],
 ) -> Served
-    ensures { λ r. ⌜ ((clauses : ℕ) → from .busy ≡ false
+    ensures { λ r. ⌜ ((clauses : ℕ)
         → Serves (book-of goals clauses (now («goal_flags» .entry)) (now («goal_first» .entry)) (now («goal_len» .entry))
         (now («clause_variant» .entry)) (now («clause_flags» .entry)) (now («clause_len» .entry)) (now («literal_kind» .entry))
         (now («literal_goal» .entry)) (now («literal_want» .entry))) «clock_limit» (now (calls .entry)) count

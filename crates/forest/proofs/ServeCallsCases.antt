@@ -1,7 +1,7 @@
 -- The calls that are handed over, one after the other, are a sitting; and the way out of `serve_calls` over variables.
 use Prim.Native.Nat.{ℕ, suc, _-_, _≤_, _<_, min}
 use native.Mathlib.Omega.{arith}
-use mathlib.Core.Bool.{Bool, false}
+use mathlib.Core.Bool.{Bool, false, false≢true}
 use mathlib.Core.List.{List, [], _∷_, map}
 use mathlib.Core.Path.{_≡_, refl, sym, ap, ap₂, subst, _∙_}
 use lib.Dec.{eqb}
@@ -18,7 +18,7 @@ use Rattle.search.specs.Walk.{Walk, numbered, book-of, Comes}
 use Rattle.batch.specs.declared.calls.Serving.{Serving}
 use Rattle.batch.specs.Calls.{call-at, reply-put}
 use Rattle.batch.specs.Serve.{Stage, stage, told}
-use Rattle.batch.specs.ServeAll.{walk-of, with-walk, next-begun, Serves, all-told, call-served}
+use Rattle.batch.specs.ServeAll.{walk-of, with-walk, next-begun, Serves, all-told, hand-told, call-served}
 use Rattle.forest.specs.declared.Forest.{Forest}
 use Rattle.forest.specs.ServeCalls.{call-means, all-asked, all-put, all-left, first-serving, ServeCallsSays}
 use Rattle.forest.specs.Sittings.{Told, left, Sits, asked}
@@ -83,9 +83,9 @@ module _ (f : Forest) (calls : List ℕ) (fit : (i : ℕ) → getD calls i 0 ≤
       (λ o idle x h. call-came f (v .serving) (v .lent) (v .replies) o idle (eqb (k .kind) 0) (eqb (k .kind) 1) (eqb (k .kind) 2) k
       (fit _) (fit _) h)
 
-  sitting : {v u : Stage} → Serves (book-in f) (f .«clock_limit») calls n v u → v .lent ≡ numbered (v .serving .course) (v .lent)
-      → Sound (forest-at f v) → Idle (v .lent .stack) → Sitting v u
-  sitting {v} (all-told e) same o idle =
+  sitting : {v u : Stage} → Serves (book-in f) (f .«clock_limit») calls n v u → v .serving .busy ≡ false
+      → v .lent ≡ numbered (v .serving .course) (v .lent) → Sound (forest-at f v) → Idle (v .lent .stack) → Sitting v u
+  sitting {v} (all-told e) none same o idle =
       record {
         tells = [];
         sits = tt;
@@ -94,10 +94,11 @@ module _ (f : Forest) (calls : List ℕ) (fit : (i : ℕ) → getD calls i 0 ≤
         leaves = refl;
         sound = o;
       }
-  sitting {v} {u} (call-served {w = x} e h rest) same o idle =
+  sitting (hand-told e busy h rest) none same o idle = absurd (false≢true (sym none ∙ busy))
+  sitting {v} {u} (call-served {w = x} e _ h rest) none same o idle =
       let c = next-came v same o idle x h in
       and-then v u (began v) x (ltb-true (v .serving .at) n e) c
-      (sitting rest refl (subst Sound (sym (c .leaves)) (left-sound (forest-at f v) (c .tells) o (c .gives))) (c .idle))
+      (sitting rest refl refl (subst Sound (sym (c .leaves)) (left-sound (forest-at f v) (c .tells) o (c .gives))) (c .idle))
 
 -- nothing is on the stack, and what its arrays hold nobody sees
 abbrev empty-stack : Stack
@@ -129,7 +130,7 @@ module _ (f : Forest) (count n : ℕ) (clamped : n ≡ min count 256) (calls bef
       (stage z (lent-with f empty-stack) before)
       (stage s (lent-with r (stack-of (s .course .depth) tables clocks positives negatives actives)) after)
 
-  pub calls-served : ((clauses : ℕ) → from .busy ≡ false
+  pub calls-served : ((clauses : ℕ)
       → Serves (book-of (f .goals) clauses (f .«goal_flags») (f .«goal_first») (f .«goal_len») (f .«clause_variant») (f .«clause_flags»)
       (f .«clause_len») (f .«literal_kind») (f .«literal_goal») (f .«literal_want»)) (f .«clock_limit») calls n
       (stage from (lent-with f empty-stack) before)
@@ -140,7 +141,7 @@ module _ (f : Forest) (count n : ℕ) (clamped : n ≡ min count 256) (calls bef
       let most : n ≤ 256 = omega arith in
       let all : n - 0 ≡ min count 256 = omega arith in
       let x = sitting f calls fit n most
-      (subst (serves (f .clauses)) is (h (f .clauses) (ap (λ (z : Serving). z .busy) is))) refl o
+      (subst (serves (f .clauses)) is (h (f .clauses))) refl refl o
       (record { sound = empty-stack-sound; empty = refl }) in
       record {
         told = x .tells;

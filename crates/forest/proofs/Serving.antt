@@ -83,13 +83,13 @@ module _ {b : Book} {a : Asked} where
   -- one that is over is not gone on with
   stays : {v u : Walk} → v .course .over ≡ true → Comes b a v u → u ≡ v
   stays e (is-over d) = refl
-  stays e (goes-further d h) = absurd (true≢false (sym e ∙ d))
-  stays e (goes-by-numbers d m t h) = absurd (true≢false (sym e ∙ d))
+  stays e (goes-further d n h) = absurd (true≢false (sym e ∙ d))
+  stays e (goes-by-numbers d n h) = absurd (true≢false (sym e ∙ d))
 
   stays-numbered : {v u : Walk} → Numbered v → Comes b a v u → Numbered u
   stays-numbered e (is-over d) = e
-  stays-numbered {v} e (goes-further d h) = stays-numbered {v = pass b a v} (passed b a v) h
-  stays-numbered {v} e (goes-by-numbers d m t h) = stays-numbered {v = settled-walk b a v} refl h
+  stays-numbered {v} e (goes-further d n h) = stays-numbered {v = pass b a v} (passed b a v) h
+  stays-numbered {v} e (goes-by-numbers d n h) = stays-numbered {v = settled-walk a v} refl h
 
 -- how searches end, as numbers
 ending-numbers : (i t e : ℕ) (d : Ending) → reply (word-of d) (value-of d) i t e ≡ outcome-numbers i t e (outcome-of d)

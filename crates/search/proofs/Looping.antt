@@ -28,8 +28,8 @@ use Rattle.search.specs.declared.ensure_root_answer.Picked.{Picked}
 use Rattle.search.specs.Course.{is-turn, carry}
 use Rattle.search.specs.Falls.{left-by, left-of}
 use Rattle.search.specs.RootAnswer.{one-more-by, one-more}
-use Rattle.search.specs.Walk.{Walk, numbers-of, goes-by, goes-on, conclude-by, conclude, done-with, pass-with, looked-in, picked-in, pass}
-use Rattle.search.specs.Walk.{Comes, goes-further}
+use Rattle.search.specs.Walk.{Walk, numbers-of, goes-by, goes-on, conclude-by, conclude, settles-next, done-with, pass-with}
+use Rattle.search.specs.Walk.{looked-in, picked-in, pass, Comes, goes-further}
 use Rattle.search.proofs.RootAnswerFalls.{end-falls, done-falls}
 
 -- what is lent, with the numbers of a course
@@ -64,8 +64,9 @@ module _ (b : Book) (asked : Asked) (v : Walk) (l : Looked) (el : l ≡ looked-i
       ap (passes l) ek
       ∙ ap (λ (m : Looked). passes m (picked-in b asked m (v .lent))) el
 
-  pub further : (u x : Walk) → u ≡ passes l k → v .course .over ≡ false → Comes b asked u x → Comes b asked v x
-  further u x eu e h = goes-further e (subst (λ (y : Walk). Comes b asked y x) (eu ∙ passed-is) h)
+  pub further : (u x : Walk) → u ≡ passes l k → v .course .over ≡ false → settles-next asked v ≡ false → Comes b asked u x
+      → Comes b asked v x
+  further u x eu e n h = goes-further e n (subst (λ (y : Walk). Comes b asked y x) (eu ∙ passed-is) h)
 
 -- A PASS LEAVES LESS
 module _ (asked : Asked) (fits : asked .limit ≤ MAX) where

@@ -15,8 +15,9 @@ use Rattle.search.specs.Course.{is-turn, carry}
 use Rattle.search.specs.Means.{stores-of}
 use Rattle.search.specs.RootAnswer.{one-more}
 use Rattle.search.specs.Walk.{Walk, walk, numbers-of, goes-by, goes-on, conclude-by, may-settle-by, may-settle}
-use Rattle.search.specs.Walk.{pass, settles, settled-walk}
+use Rattle.search.specs.Walk.{pass, settles, settles-next, settled-walk}
 use Rattle.search.proofs.Passing.{before, left, after, concluded}
+use Rattle.search.proofs.Settling.{next-settled}
 
 -- a search that may settle a turn goes on after it
 goes-settled : (turns : Bool) (done limit : ℕ) → may-settle-by turns done limit ≡ true → goes-by turns ways.Continue done limit ≡ true
@@ -25,11 +26,11 @@ goes-settled false done limit e = e
 
 module _ (b : Book) (asked : Asked) (first : ℕ) (c : Course) (w : Lent)
     (o : SoundStores (asked .table) (c .index) first (stores-of b asked (walk c w)))
-    (may : may-settle asked (c .done) ≡ true) (is-settled : settles b asked (walk c w) .settled ≡ true) where
+    (may : may-settle asked (c .done) ≡ true) (is-settled : settles asked (walk c w) .settled ≡ true) where
   flows-on : turn-done (before b asked c w) .flow ≡ ways.Continue
   flows-on = number-turn-flows (asked .table) (c .index) first (before b asked c w) o is-settled
 
-  leaves-so : left b asked c w ≡ settles b asked (walk c w) .lent
+  leaves-so : left b asked c w ≡ settles asked (walk c w) .lent
   leaves-so = number-turn-is (asked .table) (c .index) first (before b asked c w) o is-settled
 
   -- the course after the turn
@@ -39,7 +40,7 @@ module _ (b : Book) (asked : Asked) (first : ℕ) (c : Course) (w : Lent)
   goes : goes-on asked (course-of (left b asked c w)) ≡ true
   goes = goes-settled (is-turn (asked .mode)) (one-more (c .done)) (asked .limit) may
 
-  pass-so : pass b asked (walk c w) ≡ settled-walk b asked (walk c w)
+  pass-so : pass b asked (walk c w) ≡ settled-walk asked (walk c w)
   pass-so =
       ap (concluded b asked c w) flows-on
       ∙ ap (λ (g : Bool). conclude-by g (is-turn (asked .mode)) asked (course-of (left b asked c w)) (left b asked c w)) goes
@@ -47,9 +48,10 @@ module _ (b : Book) (asked : Asked) (first : ℕ) (c : Course) (w : Lent)
 
 pub settled-is-pass : (b : Book) (asked : Asked) (first : ℕ) (v : Walk)
     → SoundStores (asked .table) (v .course .index) first (stores-of b asked v) → v ≡ walk (v .course) (v .lent)
-    → may-settle asked (v .course .done) ≡ true → settles b asked v .settled ≡ true → settled-walk b asked v ≡ pass b asked v
-settled-is-pass b asked first v o numbers may is-settled =
-    subst (λ (y : Walk). settled-walk b asked y ≡ pass b asked y) (sym numbers)
+    → settles-next asked v ≡ true → settled-walk asked v ≡ pass b asked v
+settled-is-pass b asked first v o numbers next =
+    let both = next-settled (settles asked v .settled) asked (v .course .done) next in
+    subst (λ (y : Walk). settled-walk asked y ≡ pass b asked y) (sym numbers)
     (sym (pass-so b asked first (v .course) (v .lent)
-    (subst (λ (y : Walk). SoundStores (asked .table) (v .course .index) first (stores-of b asked y)) numbers o) may
-    (subst (λ (y : Walk). settles b asked y .settled ≡ true) numbers is-settled)))
+    (subst (λ (y : Walk). SoundStores (asked .table) (v .course .index) first (stores-of b asked y)) numbers o) (both .0)
+    (subst (λ (y : Walk). settles asked y .settled ≡ true) numbers (both .1))))

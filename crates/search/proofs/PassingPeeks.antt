@@ -335,8 +335,8 @@ module _ (b : Book) (asked : Asked) (few : asked .limit ≤ MAX) (no-turn : is-t
       → PeekCame first over v u
   peek-comes first true e s (is-over x) = record { came = refl; is-over = x; rests = s }
   peek-comes first false e s (is-over x) = absurd (true≢false (sym x ∙ e))
-  peek-comes first true e s (goes-further x h) = absurd (false≢true (sym x ∙ e))
-  peek-comes first false {v = v} {u = u} e s (goes-further x h) =
+  peek-comes first true e s (goes-further x n h) = absurd (false≢true (sym x ∙ e))
+  peek-comes first false {v = v} {u = u} e s (goes-further x n h) =
       let on = pass-peeks first v e s in
       let rest = peek-comes (on .next-first) (pass b asked v .course .over) refl (on .settled) h in
       record {
@@ -345,12 +345,12 @@ module _ (b : Book) (asked : Asked) (few : asked .limit ≤ MAX) (no-turn : is-t
         is-over = rest .is-over;
         rests = rest .rests;
       }
-  peek-comes first true e s (goes-by-numbers x m n h) = absurd (false≢true (sym x ∙ e))
-  peek-comes first false {v = v} {u = u} e s (goes-by-numbers x m n h) =
+  peek-comes first true e s (goes-by-numbers x n h) = absurd (false≢true (sym x ∙ e))
+  peek-comes first false {v = v} {u = u} e s (goes-by-numbers x n h) =
       let stands = s .stands in
-      let same = settled-is-pass b asked first v (stands .sound) (stands .numbers) m n in
+      let same = settled-is-pass b asked first v (stands .sound) (stands .numbers) n in
       let on = subst (Peeks-on b asked first v) (sym same) (pass-peeks first v e s) in
-      let rest = peek-comes (on .next-first) (settled-walk b asked v .course .over) refl (on .settled) h in
+      let rest = peek-comes (on .next-first) (settled-walk asked v .course .over) refl (on .settled) h in
       record {
         came = subst (λ (over : Bool). peeked-by b asked over first v (peeked-of b asked u)) e
             (on .leads (peeked-of b asked u) (rest .came));

@@ -123,19 +123,19 @@ module _ (b : Book) (asked : Asked) (few : asked .limit ≤ MAX) (no-turn : is-t
       → Searched first over v u
   search-comes first true e s (is-over x) = record { ends = at-once; is-over = x; rests = s }
   search-comes first false e s (is-over x) = absurd (true≢false (sym x ∙ e))
-  search-comes first true e s (goes-further x h) = absurd (false≢true (sym x ∙ e))
-  search-comes first false {v = v} {u = u} e s (goes-further x h) =
+  search-comes first true e s (goes-further x n h) = absurd (false≢true (sym x ∙ e))
+  search-comes first false {v = v} {u = u} e s (goes-further x n h) =
       let rest = search-comes first (pass b asked v .course .over) refl (pass-keeps first v e s) h in
       record {
         ends = after-step (subst (λ (p : Progress). Ends p (searched-of b asked u)) (pass-steps first v e s) (rest .ends));
         is-over = rest .is-over;
         rests = rest .rests;
       }
-  search-comes first true e s (goes-by-numbers x m n h) = absurd (false≢true (sym x ∙ e))
-  search-comes first false {v = v} {u = u} e s (goes-by-numbers x m n h) =
-      let same = settled-is-pass b asked first v (s .sound) (s .numbers) m n in
+  search-comes first true e s (goes-by-numbers x n h) = absurd (false≢true (sym x ∙ e))
+  search-comes first false {v = v} {u = u} e s (goes-by-numbers x n h) =
+      let same = settled-is-pass b asked first v (s .sound) (s .numbers) n in
       let keeps = subst (λ (y : Walk). Settled (y .course .over) b asked first y) (sym same) (pass-keeps first v e s) in
-      let rest = search-comes first (settled-walk b asked v .course .over) refl keeps h in
+      let rest = search-comes first (settled-walk asked v .course .over) refl keeps h in
       record {
         ends = after-step (subst (λ (p : Progress). Ends p (searched-of b asked u))
             (ap (progress-of b asked first) same ∙ pass-steps first v e s) (rest .ends));

@@ -1,16 +1,19 @@
--- Turns by numbers, one after the other, over variables: what the walk after one comes to, the walk before it comes to, and fewer are left.
+-- Turns by numbers, one after the other, over variables: what the walk after one settles to, the walk before it does, and fewer are left.
+-- What such turns come to is a walk that goes on by a pass, to what the walk before them comes to.
 use Prim.Native.Nat.{ℕ, suc, _+_, _*_, _-_, _≤_, _<_}
-use native.Mathlib.Nat.{le-refl}
+use native.Mathlib.Nat.{le-refl, le-trans, lt-of-lt-of-le}
 use native.Mathlib.Omega.{arith}
 use mathlib.Core.Bool.{Bool, true, false, false≢true}
 use mathlib.Core.List.{List}
 use mathlib.Core.Path.{_≡_, refl, sym, ap, ap₂, subst, _∙_}
 use lib.Dec.{leb, ltb}
+use lib.ListN.{getD}
 use borrow.Author.Tests.{ltb-true, ltb-false}
 use Rattle.definitions.specs.{MAX}
 use Rattle.book.specs.declared.Book.{Book}
 use Rattle.strands.specs.declared.Answer.{Answer}
 use Rattle.strands.specs.declared.Strand.{Strand}
+use Rattle.stores.specs.View.{unread-answer}
 use Rattle.control.specs.declared.perform.Flow.{Flow}
 use Rattle.control.specs.declared.perform.Flow.the-variants as flow
 use Rattle.control.specs.declared.ensure_root_answer.Next.{Next}
@@ -21,12 +24,15 @@ use Rattle.moves.specs.declared.number_turn.Move.the-variants as move
 use Rattle.moves.specs.NumberTurn.{NumberTurn, numbered-by, moves, lent-moved, next-in, top-in, move-in, number-turn}
 use Rattle.search.specs.declared.course.Asked.{Asked}
 use Rattle.search.specs.declared.course.Course.{Course}
+use Rattle.search.specs.declared.ensure_root_answer.Looked.{Looked}
+use Rattle.search.specs.declared.ensure_root_answer.Picked.{Picked}
 use Rattle.search.specs.Course.{is-turn, carry}
 use Rattle.search.specs.Falls.{left-by, left-of}
 use Rattle.search.specs.RootAnswer.{one-more-by, one-more}
 use Rattle.search.specs.Walk.{Walk, walk, numbered, numbers-of, one-done, may-settle-by, may-settle, settled-flow, settled-done}
-use Rattle.search.specs.Walk.{settles-on, settles, Comes, goes-by-numbers}
-use Rattle.search.proofs.Looping.{lent-with}
+use Rattle.search.specs.Walk.{settles-on, settles, settles-next, settled-walk, Settles, none-settles, next-settles}
+use Rattle.search.specs.Walk.{pass-with, looked-in, picked-in, Comes, goes-by-numbers}
+use Rattle.search.proofs.Looping.{lent-with, further, falls}
 
 -- `may_settle`
 pub may-not : (asked : Asked) (done : ℕ) (b : Bool) → b ≡ is-turn (asked .mode) → b ≡ true → false ≡ may-settle asked done
@@ -74,28 +80,62 @@ unmoved-by p top move.Rejoins w e = absurd (false≢true (sym e))
 unmoved : (late : Bool) (w : Lent) → number-turn late w .settled ≡ false → number-turn late w .lent ≡ w
 unmoved late w e = unmoved-by (next-in w) (top-in w) (move-in late w) w e
 
--- WHAT A TURN BY NUMBERS COMES TO, by whether it is settled; `w` is what is lent before it and `w′` after it
-module _ (b : Book) (asked : Asked) (c : Course) (w w′ : Lent) where
+-- WHETHER THE NEXT TURN IS SETTLED: it may be, and is; not so where it may not
+pub next-settled : (settled : Bool) (asked : Asked) (done : ℕ) → settles-on settled asked done ≡ true
+    → (may-settle asked done ≡ true) × (settled ≡ true)
+next-settled true asked done e = (e, refl)
+next-settled false asked done e = absurd (false≢true e)
+
+pub next-not : (settled : Bool) (asked : Asked) (done : ℕ) → may-settle asked done ≡ false → settles-on settled asked done ≡ false
+next-not true asked done e = e
+next-not false asked done e = refl
+
+-- WHAT IS LEFT TO SETTLE, by whether the loop goes on
+abbrev pub rest-by : (more : Bool) → Asked → Walk → Walk → Type 0
+rest-by true asked v u = Settles asked v u
+rest-by false asked v u = v ≡ u
+
+pub rest-none : (more : Bool) → more ≡ false → (asked : Asked) (v : Walk) → rest-by more asked v v
+rest-none true e asked v = absurd (false≢true (sym e))
+rest-none false e asked v = refl
+
+pub rest-going : (more : Bool) → more ≡ true → {asked : Asked} {v u : Walk} → Settles asked v u → rest-by more asked v u
+rest-going true e h = h
+rest-going false e h = absurd (false≢true e)
+
+-- it goes on where the next turn may be settled
+pub rest-settles : (asked : Asked) (v : Walk) (more : Bool) → more ≡ may-settle asked (v .course .done) → (u : Walk)
+    → rest-by more asked v u → Settles asked v u
+rest-settles asked v true e u h = h
+rest-settles asked v false e u h =
+    subst (Settles asked v) h (none-settles (next-not (settles asked v .settled) asked (v .course .done) (sym e)))
+
+-- A TURN BY NUMBERS, by whether it is settled; `w` is what is lent before it and `w′` after it
+module _ (asked : Asked) (c : Course) (w w′ : Lent) where
   abbrev after : (settled : Bool) → Walk
   after settled =
       walk (course-so c (w′ .stack .depth) (w′ .clock) (settled-done settled (c .done)) (settled-flow settled (c .flow))) w′
 
-  module _ (e : c .over ≡ false) (may : may-settle asked (c .done) ≡ true) (x : Walk) where
-    comes-by : (settled : Bool) → numbered-by settled (numbered (after settled .course) w′) ≡ settles b asked (walk c w)
-        → Comes b asked (after settled) x → Comes b asked (walk c w) x
-    comes-by true is h =
-        goes-by-numbers e may (sym (ap (λ (n : NumberTurn). n .settled) is))
-        (subst (λ (y : Walk). Comes b asked y x)
-        (ap (λ (n : NumberTurn). walk (one-done (carry flow.Continue (numbers-of (n .lent)) c)) (n .lent)) is) h)
-    comes-by false is h =
+  module _ (may : may-settle asked (c .done) ≡ true) (again : Bool) (u : Walk) where
+    settles-by : (settled : Bool) → numbered-by settled (numbered (after settled .course) w′) ≡ settles asked (walk c w)
+        → again ≡ settles-on settled asked (settled-done settled (c .done)) → rest-by again asked (after settled) u
+        → Settles asked (walk c w) u
+    settles-by true is on h =
+        next-settles (ap (λ (n : NumberTurn). settles-on (n .settled) asked (c .done)) (sym is) ∙ may)
+        (rest-settles asked (settled-walk asked (walk c w)) again on u
+        (subst (λ (y : Walk). rest-by again asked y u)
+        (ap (λ (n : NumberTurn). walk (one-done (carry flow.Continue (numbers-of (n .lent)) c)) (n .lent)) is) h))
+    settles-by false is on h =
         let same : numbered (after false .course) w′ ≡ numbered c w =
         ap (λ (n : NumberTurn). n .lent) is
         ∙ unmoved (leb (asked .«clock_limit») (c .clock)) (numbered c w) (sym (ap (λ (n : NumberTurn). n .settled) is)) in
-        subst (λ (y : Walk). Comes b asked y x)
-        (ap (λ (l : Lent). walk (course-so c (l .stack .depth) (l .clock) (c .done) (c .flow)) l) same) h
+        let stays : after false ≡ walk c w =
+        ap (λ (l : Lent). walk (course-so c (l .stack .depth) (l .clock) (c .done) (c .flow)) l) same in
+        subst (Settles asked (walk c w)) (sym stays ∙ subst (λ (more : Bool). rest-by more asked (after false) u) on h)
+        (none-settles (ap (λ (n : NumberTurn). settles-on (n .settled) asked (c .done)) (sym is)))
 
 -- the arrays and the numbers as the functions give them; those that a turn by numbers writes come last, before and after it
-module _ (b : Book) (asked : Asked) (c : Course) (strands : List Strand) (answers : List Answer)
+module _ (asked : Asked) (c : Course) (strands : List Strand) (answers : List Answer)
     (goal coinductive floundered complete ambiguous variant waits wants : List ℕ)
     (answer-next answer-tail answer-len answer-variant answer-key answer-ambiguous : List ℕ)
     (next tail len time entry-table entry-clock positive negative active : List ℕ)
@@ -110,7 +150,7 @@ module _ (b : Book) (asked : Asked) (c : Course) (strands : List Strand) (answer
       lent-with strands answers goal coinductive floundered complete next′ tail′ len′ time′ ambiguous variant waits wants answer-next
       answer-tail answer-len answer-variant answer-key answer-ambiguous entry-table′ entry-clock′ positive′ negative′ active′ d
 
-  pub comes-settled : c .over ≡ false → may-settle asked (c .done) ≡ true → (x : Walk) (settled : Bool) (depth clock done : ℕ) (f : Flow)
+  pub turn-settles : may-settle asked (c .done) ≡ true → (settled : Bool) (depth clock done : ℕ) (f : Flow)
       → numbered-by settled (lent-with strands answers goal coinductive floundered complete next′ tail′ len′ time′ ambiguous variant waits
       wants answer-next answer-tail answer-len answer-variant answer-key answer-ambiguous entry-table′ entry-clock′ positive′ negative′
       active′ (course-so c depth clock done f))
@@ -118,41 +158,67 @@ module _ (b : Book) (asked : Asked) (c : Course) (strands : List Strand) (answer
       time ambiguous variant waits wants answer-next answer-tail answer-len answer-variant answer-key answer-ambiguous entry-table
       entry-clock positive negative active c)
       → done ≡ settled-done settled (c .done) → f ≡ settled-flow settled (c .flow)
-      → Comes b asked (walk (course-so c depth clock done f) (lent-with strands answers goal coinductive floundered complete next′ tail′
-      len′ time′ ambiguous variant waits wants answer-next answer-tail answer-len answer-variant answer-key answer-ambiguous entry-table′
-      entry-clock′ positive′ negative′ active′ (course-so c depth clock done f))) x
-      → Comes b asked (walk c (lent-with strands answers goal coinductive floundered complete next tail len time ambiguous variant waits
+      → (again : Bool) → again ≡ settles-on settled asked done → (u : Walk)
+      → rest-by again asked (walk (course-so c depth clock done f) (lent-with strands answers goal coinductive floundered complete next′
+      tail′ len′ time′ ambiguous variant waits wants answer-next answer-tail answer-len answer-variant answer-key answer-ambiguous
+      entry-table′ entry-clock′ positive′ negative′ active′ (course-so c depth clock done f))) u
+      → Settles asked (walk c (lent-with strands answers goal coinductive floundered complete next tail len time ambiguous variant waits
       wants answer-next answer-tail answer-len answer-variant answer-key answer-ambiguous entry-table entry-clock positive negative active
-      c)) x
-  comes-settled e may x settled depth clock done f is ed ef h =
-      comes-by b asked c lent-before (lent-after (course-so c depth clock done f)) e may x settled is
-      (subst (λ (y : Walk). Comes b asked y x)
+      c)) u
+  turn-settles may settled depth clock done f is ed ef again on u h =
+      settles-by asked c lent-before (lent-after (course-so c depth clock done f)) may again u settled is
+      (on ∙ ap (settles-on settled asked) ed)
+      (subst (λ (y : Walk). rest-by again asked y u)
       (ap₂ (λ (n : ℕ) (g : Flow). let d = course-so c depth clock n g in walk d (lent-after d)) ed ef) h)
 
--- NO TURN IS TAKEN BACK
+-- WHAT TURNS BY NUMBERS COME TO
 more-most : (n : ℕ) (b : Bool) → n ≤ one-more-by b n
 more-most n true = omega arith
 more-most n false = le-refl n
 
-settled-most : (settled : Bool) (done : ℕ) → done ≤ settled-done settled done
-settled-most true done = more-most done (ltb done MAX)
-settled-most false done = le-refl done
-
-pub still-done : (from done : ℕ) → from ≤ done → (settled : Bool) (n : ℕ) → n ≡ settled-done settled done → from ≤ n
-still-done from done h settled n en = omega (arith, h, settled-most settled done, en)
-
 left-apart : (x k d n : ℕ) → d ≤ n → suc (x + (k - n)) ≤ suc (x + (k - d))
 left-apart x k d n h = omega arith
 
-pub still-left : (asked : Asked) (c : Course) (over : Bool) → c .over ≡ over → (depth clock done : ℕ) (f : Flow) → c .done ≤ done
-    → left-of asked (course-so c depth clock done f) ≤ left-of asked c
-still-left asked c true e depth clock done f h =
-    subst (λ (o : Bool). left-by o (asked .limit) (c .more) (c .index) done ≤ left-by o (asked .limit) (c .more) (c .index) (c .done))
-    (sym e) (le-refl 0)
-still-left asked c false e depth clock done f h =
-    let k = asked .limit in
-    subst (λ (o : Bool). left-by o k (c .more) (c .index) done ≤ left-by o k (c .more) (c .index) (c .done)) (sym e)
-    (left-apart ((c .more * 258 + (257 - c .index)) * suc k) k (c .done) done h)
+less-left : (over : Bool) (limit more index d n : ℕ) → d ≤ n → left-by over limit more index n ≤ left-by over limit more index d
+less-left true limit more index d n h = le-refl 0
+less-left false limit more index d n h = left-apart ((more * 258 + (257 - index)) * suc limit) limit d n h
+
+module _ {asked : Asked} where
+  -- the next turn is not settled
+  pub settles-last : {v u : Walk} → Settles asked v u → settles-next asked u ≡ false
+  settles-last (none-settles e) = e
+  settles-last (next-settles e h) = settles-last h
+
+  -- no search ends, or is begun
+  pub settles-over : {v u : Walk} → Settles asked v u → u .course .over ≡ v .course .over
+  settles-over (none-settles e) = refl
+  settles-over (next-settles e h) = settles-over h
+
+  -- no turn is taken back
+  pub settles-left : {v u : Walk} → Settles asked v u → left-of asked (u .course) ≤ left-of asked (v .course)
+  settles-left {v} (none-settles e) = le-refl (left-of asked (v .course))
+  settles-left {v} (next-settles e h) =
+      let c = v .course in
+      le-trans (settles-left h)
+      (less-left (c .over) (asked .limit) (c .more) (c .index) (c .done) (one-more (c .done)) (more-most (c .done) (ltb (c .done) MAX)))
+
+  -- what the walk after them comes to, the walk before them comes to
+  pub settles-comes : (b : Book) {v u : Walk} → Settles asked v u → v .course .over ≡ false → (x : Walk) → Comes b asked u x
+      → Comes b asked v x
+  settles-comes b (none-settles e) on x h = h
+  settles-comes b (next-settles e s) on x h = goes-by-numbers on e (settles-comes b s on x h)
+
+  -- A PASS AFTER THEM, of a walk `v` that came to `s`
+  module _ (b : Book) {v s : Walk} (settled : Settles asked v s) (on : v .course .over ≡ false) (l : Looked)
+      (el : l ≡ looked-in b asked (s .lent)) (k : Picked) (ek : k ≡ picked-in b asked l (s .lent)) (u : Walk)
+      (eu : u ≡ pass-with b asked (s .course) l k (getD (s .lent .answers .answers) (k .chosen .place) unread-answer) (s .lent)) where
+    pub settled-further : (x : Walk) → Comes b asked u x → Comes b asked v x
+    settled-further x h =
+        settles-comes b settled on x (further b asked s l el k ek u x eu (settles-over settled ∙ on) (settles-last settled) h)
+
+    pub settled-falls : asked .limit ≤ MAX → left-of asked (u .course) < left-of asked (v .course)
+    settled-falls fits =
+        lt-of-lt-of-le (falls asked fits b s l el k ek u eu (settles-over settled ∙ on)) (settles-left settled)
 
 -- FEWER ARE LEFT after each, and none where no more is settled
 abbrev pub turns-left : (more : Bool) → (limit done : ℕ) → ℕ
@@ -192,10 +258,6 @@ module _ (asked : Asked) (fits : asked .limit ≤ MAX) where
       (fewer-settled settled done may)))
 
 -- where one more may be settled, it may
-settles-may : (settled : Bool) (asked : Asked) (done : ℕ) → settles-on settled asked done ≡ true → may-settle asked done ≡ true
-settles-may true asked done e = e
-settles-may false asked done e = absurd (false≢true e)
-
 pub still-may : (settled : Bool) (asked : Asked) (done : ℕ) (more : Bool) → more ≡ settles-on settled asked done → more ≡ true
     → may-settle asked done ≡ true
-still-may settled asked done more is e = settles-may settled asked done (sym is ∙ e)
+still-may settled asked done more is e = next-settled settled asked done (sym is ∙ e) .0

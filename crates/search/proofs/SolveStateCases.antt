@@ -2,6 +2,7 @@
 use Prim.Native.Nat.{ℕ}
 use mathlib.Core.Bool.{Bool, true, false, false≢true}
 use mathlib.Core.Path.{_≡_, refl, sym, ap, _∙_}
+use borrow.Author.Tests.{eq-eqb, ne-eqb}
 use Rattle.book.specs.declared.Book.{Book}
 use Rattle.stores.specs.declared.places.Places.{Places}
 use Rattle.stores.specs.Numbers.{within}
@@ -22,8 +23,10 @@ use Rattle.search.specs.declared.solve_state.Turned.{Turned}
 use Rattle.search.specs.Course.{is-turn}
 use Rattle.search.specs.Means.{stores-of}
 use Rattle.search.specs.RootAnswer.{one-more}
-use Rattle.search.specs.SolveState.{book-in, stores-in, with-stores, is-stop, left-by, turn-so, turn-of, cut-of}
-use Rattle.search.specs.Walk.{Walk, walk, may-settle-by, may-settle, pass, Comes, is-over, goes-further, goes-by-numbers}
+use Rattle.search.specs.SolveState.{book-in, stores-in, with-stores, is-stop, left-by, turn-so, turn-by, turn-of, cut-of}
+use Rattle.search.specs.Walk.{Walk, walk, may-settle-by, settles, settles-next, pass}
+use Rattle.search.specs.Walk.{Comes, is-over, goes-further, goes-by-numbers}
+use Rattle.search.proofs.Settling.{next-not}
 
 -- A SEARCH PUT BACK, by the rings that are left
 abbrev pub with-rings : Places → Search → Search
@@ -39,18 +42,20 @@ cut-is s p e = ap (λ (p : Places). with-rings p s) e
 module _ (b : Book) (asked : Asked) where
   comes-itself : {v u : Walk} → Comes b asked v u → v .course .over ≡ true → v ≡ u
   comes-itself (is-over e) h = refl
-  comes-itself (goes-further e k) h = absurd (false≢true (sym e ∙ h))
-  comes-itself (goes-by-numbers e m n k) h = absurd (false≢true (sym e ∙ h))
+  comes-itself (goes-further e n k) h = absurd (false≢true (sym e ∙ h))
+  comes-itself (goes-by-numbers e n k) h = absurd (false≢true (sym e ∙ h))
 
   -- one turn is not settled by numbers
-  none-settled : is-turn (asked .mode) ≡ true → (done : ℕ) → may-settle asked done ≡ false
-  none-settled turns done = ap (λ (b : Bool). may-settle-by b (one-more done) (asked .limit)) turns
+  none-settled : is-turn (asked .mode) ≡ true → (v : Walk) → settles-next asked v ≡ false
+  none-settled turns v =
+      next-not (settles asked v .settled) asked (v .course .done)
+      (ap (λ (b : Bool). may-settle-by b (one-more (v .course .done)) (asked .limit)) turns)
 
-  pub comes-once : {v u : Walk} → Comes b asked v u → is-turn (asked .mode) ≡ true → v .course .over ≡ false
+  pub comes-by-a-pass : {v u : Walk} → Comes b asked v u → is-turn (asked .mode) ≡ true → v .course .over ≡ false
       → pass b asked v .course .over ≡ true → pass b asked v ≡ u
-  comes-once (is-over e) turns h over = absurd (false≢true (sym h ∙ e))
-  comes-once (goes-further e k) turns h over = comes-itself k over
-  comes-once {v = v} (goes-by-numbers e m n k) turns h over = absurd (false≢true (sym (none-settled turns (v .course .done)) ∙ m))
+  comes-by-a-pass (is-over e) turns h over = absurd (false≢true (sym h ∙ e))
+  comes-by-a-pass (goes-further e n k) turns h over = comes-itself k over
+  comes-by-a-pass {v = v} (goes-by-numbers e n k) turns h over = absurd (false≢true (sym (none-settled turns v) ∙ n))
 
 -- A TURN
 module _ (s : Search) where
@@ -82,7 +87,7 @@ module _ (s : Search) where
   search-at v n = with-stores (stores-of (book-in s) asked-in v) n s
 
   pub turns-once : {u : Walk} → Comes (book-in s) asked-in walk-in u → pass (book-in s) asked-in walk-in ≡ u
-  turns-once k = comes-once (book-in s) asked-in k refl refl refl
+  turns-once k = comes-by-a-pass (book-in s) asked-in k refl refl refl
 
   flow-is : {u : Walk} → Comes (book-in s) asked-in walk-in u → turn-done (stores-in s) .flow ≡ u .course .flow
   flow-is k = ap (λ (v : Walk). v .course .flow) (turns-once k)
@@ -102,15 +107,24 @@ module _ (s : Search) where
   abbrev turned-with : Flow → Search → Turned
   turned-with f x = record { flow = f; search = x }
 
-  pub turn-stopped : {u : Walk} → Comes (book-in s) asked-in walk-in u → (stops : Bool) → stops ≡ is-stop (u .course .flow)
-      → stops ≡ true → turned-with (u .course .flow) s ≡ turn-of s
-  turn-stopped {u} k stops e is =
-      ap (turned-with (u .course .flow)) (as-it-was (u .course .flow) stops e is)
-      ∙ ap (λ (f : Flow). turn-so f s) (sym (flow-is k))
+  -- with nothing on the stack
+  pub turn-empty : s .depth ≡ 0 → turned-with (flow.Stop 0) s ≡ turn-of s
+  turn-empty e = sym (ap (λ (empty : Bool). turn-by empty s) (eq-eqb (s .depth) 0 e))
 
-  pub turn-left : {u : Walk} → Comes (book-in s) asked-in walk-in u → (stops : Bool) → stops ≡ is-stop (u .course .flow)
-      → stops ≡ false → (done : ℕ) → done ≡ one-more (s .done) → turned-with (u .course .flow) (search-at u done) ≡ turn-of s
-  turn-left {u} k stops e is done d =
-      ap (λ (n : ℕ). turned-with (u .course .flow) (search-at u n)) d
-      ∙ ap (turned-with (u .course .flow)) (sym (search-is k) ∙ goes-on (u .course .flow) stops e is)
-      ∙ ap (λ (f : Flow). turn-so f s) (sym (flow-is k))
+  -- else
+  module _ (standing : s .depth ≡ 0 → ⊥) where
+    turn-is : (f : Flow) → turn-done (stores-in s) .flow ≡ f → turn-so f s ≡ turn-of s
+    turn-is f e = ap (λ (f : Flow). turn-so f s) (sym e) ∙ sym (ap (λ (empty : Bool). turn-by empty s) (ne-eqb (s .depth) 0 standing))
+
+    pub turn-stopped : {u : Walk} → Comes (book-in s) asked-in walk-in u → (stops : Bool) → stops ≡ is-stop (u .course .flow)
+        → stops ≡ true → turned-with (u .course .flow) s ≡ turn-of s
+    turn-stopped {u} k stops e is =
+        ap (turned-with (u .course .flow)) (as-it-was (u .course .flow) stops e is)
+        ∙ turn-is (u .course .flow) (flow-is k)
+
+    pub turn-left : {u : Walk} → Comes (book-in s) asked-in walk-in u → (stops : Bool) → stops ≡ is-stop (u .course .flow)
+        → stops ≡ false → (done : ℕ) → done ≡ one-more (s .done) → turned-with (u .course .flow) (search-at u done) ≡ turn-of s
+    turn-left {u} k stops e is done d =
+        ap (λ (n : ℕ). turned-with (u .course .flow) (search-at u n)) d
+        ∙ ap (turned-with (u .course .flow)) (sym (search-is k) ∙ goes-on (u .course .flow) stops e is)
+        ∙ turn-is (u .course .flow) (flow-is k)

@@ -1,6 +1,7 @@
 -- A search by value: the stores that it holds, one turn of it, and the search put back.
 use Prim.Native.Nat.{ℕ}
 use mathlib.Core.Bool.{Bool, true, false}
+use lib.Dec.{eqb}
 use Rattle.definitions.specs.{TimeStamp}
 use Rattle.split.specs.Steps.{Standing}
 use Rattle.book.specs.declared.Book.{Book}
@@ -100,7 +101,7 @@ with-stores z done s = record {
   done = done;
 }
 
--- ONE TURN: a turn that stops leaves the search as it was
+-- ONE TURN: a turn that stops leaves the search as it was, and with nothing on the stack it stops with 0, as `top` of the definitions does
 abbrev pub is-stop : Flow → Bool
 is-stop flow.Continue = false
 is-stop flow.ReturnOk = false
@@ -116,8 +117,12 @@ left-by false s = with-stores (turned (stores-in s)) (one-more (s .done)) s
 abbrev pub turn-so : Flow → Search → Turned
 turn-so f s = record { flow = f; search = left-by (is-stop f) s }
 
+abbrev pub turn-by : (empty : Bool) → Search → Turned
+turn-by true s = turn-so (flow.Stop 0) s
+turn-by false s = turn-so (turn-done (stores-in s) .flow) s
+
 abbrev pub turn-of : Search → Turned
-turn-of s = turn-so (turn-done (stores-in s) .flow) s
+turn-of s = turn-by (eqb (s .depth) 0) s
 
 -- THE SEARCH PUT BACK
 abbrev pub cut-of : Search → Search

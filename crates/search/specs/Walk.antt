@@ -132,6 +132,25 @@ abbrev pub settles-on : (settled : Bool) → Asked → (done : ℕ) → Bool
 settles-on true asked done = may-settle asked done
 settles-on false asked done = false
 
+-- TURN AFTER TURN BY NUMBERS, of a search that goes on after each
+module _ (asked : Asked) where
+  abbrev pub settles : Walk → NumberTurn
+  settles v = number-turn (leb (asked .«clock_limit») (v .course .clock)) (v .lent)
+
+  -- whether the next turn may be settled so, and is
+  abbrev pub settles-next : Walk → Bool
+  settles-next v = settles-on (settles v .settled) asked (v .course .done)
+
+  abbrev pub settled-walk : Walk → Walk
+  settled-walk v =
+      let w = settles v .lent in
+      walk (one-done (carry flow.Continue (numbers-of w) (v .course))) w
+
+  -- what it comes to: whether the course is over is not asked
+  pub data Settles : Walk → Walk → Type 0 where
+    none-settles : {v : Walk} → settles-next v ≡ false → Settles v v
+    next-settles : {v u : Walk} → settles-next v ≡ true → Settles (settled-walk v) u → Settles v u
+
 -- a book by its arrays
 abbrev pub book-of : (goals clauses : ℕ)
     → (goal-flags goal-first goal-len clause-variant clause-flags clause-len literal-kind literal-goal literal-want : List ℕ) → Book
@@ -186,18 +205,8 @@ module _ (b : Book) (asked : Asked) where
       let k = picked-in l w in
       pass-with (v .course) l k (getD (w .answers .answers) (k .chosen .place) unread-answer) w
 
-  -- A TURN THAT NUMBERS SETTLE: of a search that goes on after it
-  abbrev pub settles : Walk → NumberTurn
-  settles v = number-turn (leb (asked .«clock_limit») (v .course .clock)) (v .lent)
-
-  abbrev pub settled-walk : Walk → Walk
-  settled-walk v =
-      let w = settles v .lent in
-      walk (one-done (carry flow.Continue (numbers-of w) (v .course))) w
-
-  -- WHAT IT COMES TO: pass after pass, or turn after turn by numbers alone, until the course is over
+  -- WHAT IT COMES TO, pass after pass, until the course is over: a turn that numbers settle goes by with no pass
   pub data Comes : Walk → Walk → Type 0 where
     is-over : {v : Walk} → v .course .over ≡ true → Comes v v
-    goes-further : {v u : Walk} → v .course .over ≡ false → Comes (pass v) u → Comes v u
-    goes-by-numbers : {v u : Walk} → v .course .over ≡ false → may-settle asked (v .course .done) ≡ true → settles v .settled ≡ true
-        → Comes (settled-walk v) u → Comes v u
+    goes-further : {v u : Walk} → v .course .over ≡ false → settles-next asked v ≡ false → Comes (pass v) u → Comes v u
+    goes-by-numbers : {v u : Walk} → v .course .over ≡ false → settles-next asked v ≡ true → Comes (settled-walk asked v) u → Comes v u

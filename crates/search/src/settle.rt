@@ -1,5 +1,5 @@
 // Turns that numbers settle (crate `moves`), one after the other, until one needs a strand or only one is left of those that were asked
-// for: no search ends here.
+// for: no search ends here. Whether the course is over is not asked: whoever calls has asked it.
 use crate::course::Asked;
 use crate::course::Course;
 use crate::course::is_turn;
@@ -7,10 +7,8 @@ use crate::root_answer::one_more;
 use control::perform::Flow;
 use moves::number_turn::number_turn;
 ghost use mathlib.Core.Path.{_≡_};
-ghost use mathlib.Core.Bool.{false};
 ghost use mathlib.Core.List.{List};
-ghost use Prim.Native.Nat.{ℕ, _≤_};
-ghost use Rattle.book.specs.declared.Book.{Book};
+ghost use Prim.Native.Nat.{ℕ};
 ghost use Rattle.strands.specs.declared.Answer.{Answer};
 ghost use Rattle.strands.specs.declared.Strand.{Strand};
 ghost use Rattle.stores.specs.Places.{places};
@@ -18,8 +16,7 @@ ghost use Rattle.stores.specs.Queue.{store};
 ghost use Rattle.control.specs.MakeTables.{tables-of};
 ghost use Rattle.control.specs.PerformDeed.{stack-of, answers-of};
 ghost use Rattle.control.specs.PerformStrand.{lent-of};
-ghost use Rattle.search.specs.Falls.{left-of};
-ghost use Rattle.search.specs.Walk.{Walk, walk, may-settle, settled-flow, settled-done, settles-on, Comes};
+ghost use Rattle.search.specs.Walk.{walk, may-settle, settled-flow, settled-done, settles-on, Settles};
 
 // Whether a turn may be settled: a search runs, and this is not the last turn that is left to it.
 fn may_settle(asked: Asked, done: u64) -> bool
@@ -76,25 +73,23 @@ pub fn settle(
     negative: &mut [u64; 64],
     active: &mut [u16; 64],
 ) -> Course
-    ensures { λ r. ⌜ (r .over ≡ from .over) × (left-of asked r ≤ left-of asked from)
-        × ((b : Book) (goals variant : List ℕ) (strands : List Strand) (answers : List Answer) (variants keys flags : List ℕ) (x : Walk)
-        → from .over ≡ false
-        → Comes b asked (walk r
-        (lent-of (tables-of (r .count) goals (now (coinductive .entry)) (now (floundered .entry)) (now (complete .entry)))
-        (store strands (now (time .exit)) (now (ambiguous .entry)) variant (now (waits .entry)) (now (wants .entry))
-        (places (now (next .exit)) (now (tail .exit)) (now (len .exit)) (r .used)))
-        (answers-of answers variants keys flags
-        (places (now («answer_next» .entry)) (now («answer_tail» .entry)) (now («answer_len» .entry)) (r .«answer_used»)))
-        (stack-of (r .depth) (now («entry_table» .exit)) (now («entry_clock» .exit)) (now (positive .exit)) (now (negative .exit))
-        (now (active .exit))) (r .clock))) x
-        → Comes b asked (walk from
+    ensures { λ r. ⌜ ((goals variant : List ℕ) (strands : List Strand) (answers : List Answer) (variants keys flags : List ℕ)
+        → Settles asked (walk from
         (lent-of (tables-of (from .count) goals (now (coinductive .entry)) (now (floundered .entry)) (now (complete .entry)))
         (store strands (now (time .entry)) (now (ambiguous .entry)) variant (now (waits .entry)) (now (wants .entry))
         (places (now (next .entry)) (now (tail .entry)) (now (len .entry)) (from .used)))
         (answers-of answers variants keys flags
         (places (now («answer_next» .entry)) (now («answer_tail» .entry)) (now («answer_len» .entry)) (from .«answer_used»)))
         (stack-of (from .depth) (now («entry_table» .entry)) (now («entry_clock» .entry)) (now (positive .entry)) (now (negative .entry))
-        (now (active .entry))) (from .clock))) x) ⌝ }
+        (now (active .entry))) (from .clock)))
+        (walk r
+        (lent-of (tables-of (r .count) goals (now (coinductive .entry)) (now (floundered .entry)) (now (complete .entry)))
+        (store strands (now (time .exit)) (now (ambiguous .entry)) variant (now (waits .entry)) (now (wants .entry))
+        (places (now (next .exit)) (now (tail .exit)) (now (len .exit)) (r .used)))
+        (answers-of answers variants keys flags
+        (places (now («answer_next» .entry)) (now («answer_tail» .entry)) (now («answer_len» .entry)) (r .«answer_used»)))
+        (stack-of (r .depth) (now («entry_table» .exit)) (now («entry_clock» .exit)) (now (positive .exit)) (now (negative .exit))
+        (now (active .exit))) (r .clock)))) ⌝ }
 {
     let mut depth = from.depth;
     let mut clock = from.clock;

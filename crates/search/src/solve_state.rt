@@ -85,10 +85,16 @@ fn is_stop(flow: Flow) -> bool
     }
 }
 
-// One turn. Where it stops, the search is what it was.
+// One turn. Where it stops, the search is what it was; with nothing on the stack there is no turn, and it stops with 0.
 pub fn turn(s: Search) -> Turned
     ensures { λ r. ⌜ r ≡ turn-of s ⌝ }
 {
+    if s.depth == 0 {
+        return Turned {
+            flow: Flow::Stop(0),
+            search: s,
+        };
+    }
     let mut goal = s.goal;
     let mut coinductive = s.coinductive;
     let mut floundered = s.floundered;

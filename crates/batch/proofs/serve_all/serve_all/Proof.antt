@@ -1,18 +1,15 @@
 -- The loop over the calls meets its contract: whatever is left to come now, was left to come at its start.
-use Prim.Native.Nat.{ℕ, _<_}
-use native.Mathlib.Nat.{lt-of-lt-of-le}
+use Prim.Native.Nat.{ℕ}
 use native.Mathlib.Omega.{arith}
-use mathlib.Core.Bool.{true, false, false≢true}
-use mathlib.Core.Path.{_≡_, sym, subst, _∙_}
+use mathlib.Core.Path.{sym, _∙_}
 use lib.ListN.{set}
-use Rattle.search.specs.Walk.{walk, book-of}
+use Rattle.search.specs.Walk.{book-of}
 use Rattle.search.proofs.Bytes.{byte-index, byte-fits, byte-strand, byte-answer, wide-fits}
-use Rattle.search.proofs.Looping.{lent-with, still-on, now-over, further, falls}
-use Rattle.batch.specs.declared.calls.Serving.{Serving}
+use Rattle.search.proofs.Looping.{lent-with, still-on, now-over}
+use Rattle.search.proofs.Settling.{settled-further, settled-falls}
 use Rattle.batch.specs.Serve.{Stage, stage}
-use Rattle.batch.specs.ServeAll.{Left, serving-left}
-use Rattle.batch.proofs.ServeAllCases.{runs-on, serves-left, serves-hand, turn-left, ended-left, from-start}
-use Rattle.batch.proofs.ServeAllCases.{serve-falls, course-falls}
+use Rattle.batch.specs.ServeAll.{Serves, serving-left}
+use Rattle.batch.proofs.ServeAllCases.{runs-on, serves-call, serves-turn, serves-none, serve-falls, course-falls}
 use Rattle.batch.proofs.serve_all.serve_all.Statement.{statement}
 use Rattle.batch.proofs.serve_all.serve_all.Tie as tie
 
@@ -23,14 +20,14 @@ Inv-loop count goals clock-limit goal₀ coinductive₀ floundered₀ complete�
     goal-flags goal-first goal-len clause-variant clause-flags clause-len literal-kind literal-goal literal-want calls replies₀ strands₀
     answers₀ s₀ goal coinductive floundered complete next tail len time ambiguous variant waits wants answer-next answer-tail answer-len
     answer-variant answer-key answer-ambiguous entry-table entry-clock positive negative active replies strands answers s =
-    (s₀ .busy ≡ false → s .busy ≡ true → s .at < count) × ((clauses : ℕ) (u : Stage) → Left (book-of goals clauses goal-flags goal-first
-    goal-len clause-variant clause-flags clause-len literal-kind literal-goal literal-want) clock-limit calls count (stage s (lent-with
-    strands answers goal coinductive floundered complete next tail len time ambiguous variant waits wants answer-next answer-tail
-    answer-len answer-variant answer-key answer-ambiguous entry-table entry-clock positive negative active (s .course)) replies) u → Left
-    (book-of goals clauses goal-flags goal-first goal-len clause-variant clause-flags clause-len literal-kind literal-goal literal-want)
-    clock-limit calls count (stage s₀ (lent-with strands₀ answers₀ goal₀ coinductive₀ floundered₀ complete₀ next₀ tail₀ len₀ time₀
-    ambiguous₀ variant₀ waits₀ wants₀ answer-next₀ answer-tail₀ answer-len₀ answer-variant₀ answer-key₀ answer-ambiguous₀ entry-table₀
-    entry-clock₀ positive₀ negative₀ active₀ (s₀ .course)) replies₀) u)
+    (clauses : ℕ) (u : Stage) → Serves (book-of goals clauses goal-flags goal-first goal-len clause-variant clause-flags clause-len
+    literal-kind literal-goal literal-want) clock-limit calls count (stage s (lent-with strands answers goal coinductive floundered
+    complete next tail len time ambiguous variant waits wants answer-next answer-tail answer-len answer-variant answer-key
+    answer-ambiguous entry-table entry-clock positive negative active (s .course)) replies) u → Serves (book-of goals clauses goal-flags
+    goal-first goal-len clause-variant clause-flags clause-len literal-kind literal-goal literal-want) clock-limit calls count (stage s₀
+    (lent-with strands₀ answers₀ goal₀ coinductive₀ floundered₀ complete₀ next₀ tail₀ len₀ time₀ ambiguous₀ variant₀ waits₀ wants₀
+    answer-next₀ answer-tail₀ answer-len₀ answer-variant₀ answer-key₀ answer-ambiguous₀ entry-table₀ entry-clock₀ positive₀ negative₀
+    active₀ (s₀ .course)) replies₀) u
 
 abbrev μ-loop : tie.MeasureT-loop
 μ-loop count goals clock-limit goal₀ coinductive₀ floundered₀ complete₀ next₀ tail₀ len₀ time₀ ambiguous₀ variant₀ waits₀ wants₀
@@ -42,7 +39,7 @@ abbrev μ-loop : tie.MeasureT-loop
     serving-left count s
 
 loop-holds : tie.Need-loop-holds Inv-loop μ-loop
-loop-holds c = (λ idle busy. absurd (false≢true (sym idle ∙ busy)), λ clauses u h. h)
+loop-holds c = λ clauses u h. h
 
 runs-requires : tie.Need-runs-requires Inv-loop μ-loop
 runs-requires c κs = tt
@@ -59,9 +56,7 @@ loop-less c =
     let test = running .before in
     let l = test .before .before .loop in
     let a = test .before .before .before .args in
-    let idle = sym (running .runs .ensures .0) ∙ still-on (running .runs .result) (gate .if2 .taken) in
-    let clauses : ℕ = 0 in
-    serve-falls (book-of (a .goals) clauses (a .goal-flags .now) (a .goal-first .now) (a .goal-len .now) (a .clause-variant .now) (a
+    serve-falls (book-of (a .goals) 0 (a .goal-flags .now) (a .goal-first .now) (a .goal-len .now) (a .clause-variant .now) (a
     .clause-flags .now) (a .clause-len .now) (a .literal-kind .now) (a .literal-goal .now) (a .literal-want .now)) (a .clock-limit) (a
     .calls .now) (a .count) (omega (arith, test .before .before .before .fits .count)) (stage (l .s) (lent-with (l .strands) (l
     .answers) (l .goal) (l .coinductive) (l .floundered) (l .complete) (l .next) (l .tail) (l .len) (l .time) (l .ambiguous) (l .variant)
@@ -78,28 +73,15 @@ loop-again c =
     let test = running .before in
     let l = test .before .before .loop in
     let a = test .before .before .before .args in
-    let idle = sym (running .runs .ensures .0) ∙ still-on (running .runs .result) (gate .if2 .taken) in (
-      λ first. serves-hand (book-of (a .goals) 0 (a .goal-flags .now) (a .goal-first .now) (a .goal-len .now) (a .clause-variant .now) (a
-          .clause-flags .now) (a .clause-len .now) (a .literal-kind .now) (a .literal-goal .now) (a .literal-want .now)) (a .clock-limit) (a
-          .calls .now) (a .count) (stage (l .s) (lent-with (l .strands) (l .answers) (l .goal) (l .coinductive) (l .floundered)
-          (l .complete) (l
-          .next) (l .tail) (l .len) (l .time) (l .ambiguous) (l .variant) (l .waits) (l .wants) (l .answer-next) (l .answer-tail) (l
-          .answer-len) (l .answer-variant) (l .answer-key) (l .answer-ambiguous) (l .entry-table) (l .entry-clock) (l .positive)
-          (l .negative)
-          (l .active) (l .s .course)) (l .replies)) idle (test .if1 .taken) _ (c .serve .ensures 0 (a .clause-len .now)
-          (a .literal-kind .now)
-          (a .literal-goal .now) (a .literal-want .now) (l .strands) (l .answers)),
-      λ clauses u h. l .inv .1 clauses u (serves-left (book-of (a
-          .goals) clauses (a .goal-flags .now) (a .goal-first .now) (a .goal-len .now) (a .clause-variant .now) (a .clause-flags .now) (a
-          .clause-len .now) (a .literal-kind .now) (a .literal-goal .now) (a .literal-want .now)) (a .clock-limit) (a .calls .now)
-          (a .count)
-          (stage (l .s) (lent-with (l .strands) (l .answers) (l .goal) (l .coinductive) (l .floundered) (l .complete) (l .next) (l .tail) (l
-          .len) (l .time) (l .ambiguous) (l .variant) (l .waits) (l .wants) (l .answer-next) (l .answer-tail) (l .answer-len) (l
-          .answer-variant) (l .answer-key) (l .answer-ambiguous) (l .entry-table) (l .entry-clock) (l .positive) (l .negative) (l .active)
-          (l .s
-          .course)) (l .replies)) idle (test .if1 .taken) _ (c .serve .ensures clauses (a .clause-len .now) (a .literal-kind .now) (a
-          .literal-goal .now) (a .literal-want .now) (l .strands) (l .answers)) u h),
-    )
+    let idle = sym (running .runs .ensures .0) ∙ still-on (running .runs .result) (gate .if2 .taken) in
+    λ clauses u h. l .inv clauses u (serves-call (book-of (a .goals) clauses (a .goal-flags .now) (a .goal-first .now) (a .goal-len .now)
+    (a .clause-variant .now) (a .clause-flags .now) (a .clause-len .now) (a .literal-kind .now) (a .literal-goal .now)
+    (a .literal-want .now)) (a .clock-limit) (a .calls .now) (a .count) (stage (l .s) (lent-with (l .strands) (l .answers) (l .goal)
+    (l .coinductive) (l .floundered) (l .complete) (l .next) (l .tail) (l .len) (l .time) (l .ambiguous) (l .variant) (l .waits)
+    (l .wants) (l .answer-next) (l .answer-tail) (l .answer-len) (l .answer-variant) (l .answer-key) (l .answer-ambiguous)
+    (l .entry-table) (l .entry-clock) (l .positive) (l .negative) (l .active) (l .s .course)) (l .replies)) (test .if1 .taken) idle _
+    (c .serve .ensures clauses (a .clause-len .now) (a .literal-kind .now) (a .literal-goal .now) (a .literal-want .now) (l .strands)
+    (l .answers)) u h)
 
 settle-requires : tie.Need-settle-requires Inv-loop μ-loop
 settle-requires c κs = tt
@@ -181,27 +163,19 @@ loop-less-2 c =
     let gate = named .before in
     let running = gate .before in
     let test = running .before in
-    let r = settling .settle .result in
-    let n = settling .settle .last .1 .1 .1 .1 .1 in
-    let k = n .1 .1 .1 .1 .1 .1 .1 .1 .1 .1 in
     let q = passing .pass .result in
-    let p = passing .pass .last .1 .1 .1 .1 .1 in
     let l = test .before .before .loop in
     let a = test .before .before .before .args in
     let on = sym (running .runs .ensures .0) ∙ now-over (running .runs .result) (gate .if2 .left) in
     let still = runs-on (l .s .busy) (l .s .course .over) on in
-    let clauses : ℕ = 0 in
     let fits = running .runs .ensures .1 in
     let rounds = running .runs .ensures .2 in
-    course-falls (a .count) (l .s) on fits rounds (q .course) (lt-of-lt-of-le (falls (l .s .asked) fits (book-of (a .goals) clauses (a
-    .goal-flags .now) (a .goal-first .now) (a .goal-len .now) (a .clause-variant .now) (a .clause-flags .now) (a .clause-len .now) (a
-    .literal-kind .now) (a .literal-goal .now) (a .literal-want .now)) (walk r (lent-with (l .strands) (l .answers) (l .goal) (l
-    .coinductive) (l .floundered) (l .complete) (n .0) (n .1 .0) (n .1 .1 .0) (n .1 .1 .1 .0) (l .ambiguous) (l .variant) (l .waits) (l
-    .wants) (l .answer-next) (l .answer-tail) (l .answer-len) (l .answer-variant) (l .answer-key) (l .answer-ambiguous) (k .0) (k .1 .0)
-    (k .1 .1 .0) (k .1 .1 .1 .0) (k .1 .1 .1 .1 .0) r)) (looking .look .result) (looking .look .ensures) (picking .pick .result) (picking
-    .pick .ensures) _ (passing .pass .ensures (a .goals) 0 (a .clause-len .now) (a .literal-kind .now) (a .literal-goal .now) (a
-    .literal-want .now) (l .strands) (l .answers)) (settling .settle .ensures .0 ∙ still)) (settling .settle .ensures .1)) (c .with-course
-    .result) (c .with-course .ensures)
+    course-falls (a .count) (l .s) on fits rounds (q .course) (settled-falls (book-of (a .goals) 0 (a .goal-flags .now)
+    (a .goal-first .now) (a .goal-len .now) (a .clause-variant .now) (a .clause-flags .now) (a .clause-len .now) (a .literal-kind .now)
+    (a .literal-goal .now) (a .literal-want .now)) (settling .settle .ensures (l .goal) (l .variant) (l .strands) (l .answers)
+    (l .answer-variant) (l .answer-key) (l .answer-ambiguous)) still (looking .look .result) (looking .look .ensures)
+    (picking .pick .result) (picking .pick .ensures) _ (passing .pass .ensures (a .goals) 0 (a .clause-len .now) (a .literal-kind .now)
+    (a .literal-goal .now) (a .literal-want .now) (l .strands) (l .answers)) fits) (c .with-course .result) (c .with-course .ensures)
 
 loop-again-2 : tie.Need-loop-again-2 Inv-loop μ-loop
 loop-again-2 c =
@@ -219,68 +193,40 @@ loop-again-2 c =
     let gate = named .before in
     let running = gate .before in
     let test = running .before in
-    let r = settling .settle .result in
-    let n = settling .settle .last .1 .1 .1 .1 .1 in
-    let k = n .1 .1 .1 .1 .1 .1 .1 .1 .1 .1 in
     let q = passing .pass .result in
     let p = passing .pass .last .1 .1 .1 .1 .1 in
     let l = test .before .before .loop in
     let a = test .before .before .before .args in
     let on = sym (running .runs .ensures .0) ∙ now-over (running .runs .result) (gate .if2 .left) in
-    let still = runs-on (l .s .busy) (l .s .course .over) on in (
-      λ first busy. subst (λ (y : Serving). y .busy ≡ true → y .at < a .count) (sym (c .with-course .ensures)) (λ e. l .inv .0 first e)
-          busy,
-      λ clauses u h. l .inv .1 clauses u (turn-left (book-of (a .goals) clauses (a .goal-flags .now) (a .goal-first .now) (a .goal-len
-          .now) (a .clause-variant .now) (a .clause-flags .now) (a .clause-len .now) (a .literal-kind .now) (a .literal-goal .now) (a
-          .literal-want .now)) (a .clock-limit) (a .calls .now) (a .count) (stage (l .s) (lent-with (l .strands) (l .answers) (l .goal) (l
-          .coinductive) (l .floundered) (l .complete) (l .next) (l .tail) (l .len) (l .time) (l .ambiguous) (l .variant) (l .waits)
-          (l .wants)
-          (l .answer-next) (l .answer-tail) (l .answer-len) (l .answer-variant) (l .answer-key) (l .answer-ambiguous) (l .entry-table) (l
-          .entry-clock) (l .positive) (l .negative) (l .active) (l .s .course)) (l .replies)) on (q .course) (lent-with (set (set
-          (l .strands)
-          (q .«copy_place») (q .copy)) (q .place) (q .strand)) (set (l .answers) (q .«answer_place») (q .answer)) (p .0) (p .1 .0)
-          (p .1 .1 .0)
-          (p .1 .1 .1 .0) (p .1 .1 .1 .1 .0) (p .1 .1 .1 .1 .1 .0) (p .1 .1 .1 .1 .1 .1 .0) (p .1 .1 .1 .1 .1 .1 .1 .0)
-          (p .1 .1 .1 .1 .1 .1 .1
-          .1 .0) (p .1 .1 .1 .1 .1 .1 .1 .1 .1 .0) (p .1 .1 .1 .1 .1 .1 .1 .1 .1 .1 .0) (p .1 .1 .1 .1 .1 .1 .1 .1 .1 .1 .1 .0)
-          (p .1 .1 .1 .1
-          .1 .1 .1 .1 .1 .1 .1 .1 .0) (p .1 .1 .1 .1 .1 .1 .1 .1 .1 .1 .1 .1 .1 .0) (p .1 .1 .1 .1 .1 .1 .1 .1 .1 .1 .1 .1 .1 .1 .0)
-          (p .1 .1 .1
-          .1 .1 .1 .1 .1 .1 .1 .1 .1 .1 .1 .1 .0) (p .1 .1 .1 .1 .1 .1 .1 .1 .1 .1 .1 .1 .1 .1 .1 .1 .0)
-          (p .1 .1 .1 .1 .1 .1 .1 .1 .1 .1 .1 .1
-          .1 .1 .1 .1 .1 .0) (p .1 .1 .1 .1 .1 .1 .1 .1 .1 .1 .1 .1 .1 .1 .1 .1 .1 .1 .0)
-          (p .1 .1 .1 .1 .1 .1 .1 .1 .1 .1 .1 .1 .1 .1 .1 .1 .1
-          .1 .1 .0) (p .1 .1 .1 .1 .1 .1 .1 .1 .1 .1 .1 .1 .1 .1 .1 .1 .1 .1 .1 .1 .0)
-          (p .1 .1 .1 .1 .1 .1 .1 .1 .1 .1 .1 .1 .1 .1 .1 .1 .1 .1
-          .1 .1 .1 .0) (p .1 .1 .1 .1 .1 .1 .1 .1 .1 .1 .1 .1 .1 .1 .1 .1 .1 .1 .1 .1 .1 .1 .0) (q .course)) (λ x h′.
-          settling .settle .ensures
-          .2 (book-of (a .goals) clauses (a .goal-flags .now) (a .goal-first .now) (a .goal-len .now) (a .clause-variant .now)
-          (a .clause-flags
-          .now) (a .clause-len .now) (a .literal-kind .now) (a .literal-goal .now) (a .literal-want .now)) (l .goal) (l .variant)
-          (l .strands)
-          (l .answers) (l .answer-variant) (l .answer-key) (l .answer-ambiguous) x still (further (book-of (a .goals) clauses (a .goal-flags
-          .now) (a .goal-first .now) (a .goal-len .now) (a .clause-variant .now) (a .clause-flags .now) (a .clause-len .now)
-          (a .literal-kind
-          .now) (a .literal-goal .now) (a .literal-want .now)) (l .s .asked) (walk r (lent-with (l .strands) (l .answers) (l .goal) (l
-          .coinductive) (l .floundered) (l .complete) (n .0) (n .1 .0) (n .1 .1 .0) (n .1 .1 .1 .0) (l .ambiguous) (l .variant) (l .waits)
-          (l
-          .wants) (l .answer-next) (l .answer-tail) (l .answer-len) (l .answer-variant) (l .answer-key) (l .answer-ambiguous) (k .0)
-          (k .1 .0)
-          (k .1 .1 .0) (k .1 .1 .1 .0) (k .1 .1 .1 .1 .0) r)) (looking .look .result) (looking .look .ensures) (picking .pick .result)
-          (picking
-          .pick .ensures) _ x (passing .pass .ensures (a .goals) clauses (a .clause-len .now) (a .literal-kind .now)
-          (a .literal-goal .now) (a
-          .literal-want .now) (l .strands) (l .answers)) (settling .settle .ensures .0 ∙ still) h′)) (c .with-course .result)
-          (c .with-course
-          .ensures) u h),
-    )
+    let still = runs-on (l .s .busy) (l .s .course .over) on in
+    λ clauses u h. l .inv clauses u (serves-turn (book-of (a .goals) clauses (a .goal-flags .now) (a .goal-first .now) (a .goal-len .now)
+    (a .clause-variant .now) (a .clause-flags .now) (a .clause-len .now) (a .literal-kind .now) (a .literal-goal .now)
+    (a .literal-want .now)) (a .clock-limit) (a .calls .now) (a .count) (stage (l .s) (lent-with (l .strands) (l .answers) (l .goal)
+    (l .coinductive) (l .floundered) (l .complete) (l .next) (l .tail) (l .len) (l .time) (l .ambiguous) (l .variant) (l .waits)
+    (l .wants) (l .answer-next) (l .answer-tail) (l .answer-len) (l .answer-variant) (l .answer-key) (l .answer-ambiguous)
+    (l .entry-table) (l .entry-clock) (l .positive) (l .negative) (l .active) (l .s .course)) (l .replies)) (test .if1 .taken) on
+    (q .course) (lent-with (set (set (l .strands) (q .«copy_place») (q .copy)) (q .place) (q .strand)) (set (l .answers)
+    (q .«answer_place») (q .answer)) (p .0) (p .1 .0) (p .1 .1 .0) (p .1 .1 .1 .0) (p .1 .1 .1 .1 .0) (p .1 .1 .1 .1 .1 .0)
+    (p .1 .1 .1 .1 .1 .1 .0) (p .1 .1 .1 .1 .1 .1 .1 .0) (p .1 .1 .1 .1 .1 .1 .1 .1 .0) (p .1 .1 .1 .1 .1 .1 .1 .1 .1 .0)
+    (p .1 .1 .1 .1 .1 .1 .1 .1 .1 .1 .0) (p .1 .1 .1 .1 .1 .1 .1 .1 .1 .1 .1 .0) (p .1 .1 .1 .1 .1 .1 .1 .1 .1 .1 .1 .1 .0)
+    (p .1 .1 .1 .1 .1 .1 .1 .1 .1 .1 .1 .1 .1 .0) (p .1 .1 .1 .1 .1 .1 .1 .1 .1 .1 .1 .1 .1 .1 .0)
+    (p .1 .1 .1 .1 .1 .1 .1 .1 .1 .1 .1 .1 .1 .1 .1 .0) (p .1 .1 .1 .1 .1 .1 .1 .1 .1 .1 .1 .1 .1 .1 .1 .1 .0)
+    (p .1 .1 .1 .1 .1 .1 .1 .1 .1 .1 .1 .1 .1 .1 .1 .1 .1 .0) (p .1 .1 .1 .1 .1 .1 .1 .1 .1 .1 .1 .1 .1 .1 .1 .1 .1 .1 .0)
+    (p .1 .1 .1 .1 .1 .1 .1 .1 .1 .1 .1 .1 .1 .1 .1 .1 .1 .1 .1 .0) (p .1 .1 .1 .1 .1 .1 .1 .1 .1 .1 .1 .1 .1 .1 .1 .1 .1 .1 .1 .1 .0)
+    (p .1 .1 .1 .1 .1 .1 .1 .1 .1 .1 .1 .1 .1 .1 .1 .1 .1 .1 .1 .1 .1 .0)
+    (p .1 .1 .1 .1 .1 .1 .1 .1 .1 .1 .1 .1 .1 .1 .1 .1 .1 .1 .1 .1 .1 .1 .0) (q .course)) (λ x h′. settled-further (book-of (a .goals)
+    clauses (a .goal-flags .now) (a .goal-first .now) (a .goal-len .now) (a .clause-variant .now) (a .clause-flags .now)
+    (a .clause-len .now) (a .literal-kind .now) (a .literal-goal .now) (a .literal-want .now)) (settling .settle .ensures (l .goal)
+    (l .variant) (l .strands) (l .answers) (l .answer-variant) (l .answer-key) (l .answer-ambiguous)) still (looking .look .result)
+    (looking .look .ensures) (picking .pick .result) (picking .pick .ensures) _ (passing .pass .ensures (a .goals) clauses
+    (a .clause-len .now) (a .literal-kind .now) (a .literal-goal .now) (a .literal-want .now) (l .strands) (l .answers)) x h′)
+    (c .with-course .result) (c .with-course .ensures) u h)
 
 returns : tie.Need-returns Inv-loop μ-loop
 returns c =
     let l = c .before .before .loop in
     let a = c .before .before .before .args in
-    λ clauses first. from-start _ (a .clock-limit) (a .calls .now) (a .count) _ _ first
-    (l .inv .1 clauses _ (ended-left _ (a .clock-limit) (a .calls .now) (a .count) _ (l .inv .0 first) (c .if1 .left)))
+    λ clauses. l .inv clauses _ (serves-none _ (a .clock-limit) (a .calls .now) (a .count) _ (c .if1 .left))
 
 pub serve-all-spec : {M : Type 1} → statement M
 serve-all-spec =

@@ -1,14 +1,11 @@
 -- The loop meets its contract: whatever the walk now comes to, the walk that was begun with comes to.
 use Prim.Native.Nat.{ℕ}
 use mathlib.Core.List.{List}
-use mathlib.Core.Bool.{true, false}
-use mathlib.Core.Path.{_≡_, refl, _∙_}
-use native.Mathlib.Nat.{lt-of-lt-of-le}
-use native.Mathlib.Omega.{arith}
 use Rattle.search.specs.Falls.{left-of}
 use Rattle.search.specs.Walk.{Walk, walk, book-of, Comes, is-over}
 use Rattle.search.proofs.Bytes.{byte-index, byte-fits, byte-strand, byte-answer, wide-fits}
-use Rattle.search.proofs.Looping.{lent-with, still-on, now-over, further, falls}
+use Rattle.search.proofs.Looping.{lent-with, still-on, now-over}
+use Rattle.search.proofs.Settling.{settled-further, settled-falls}
 use Rattle.search.proofs.ensure_root_answer.ensure_root_answer.Statement.{statement}
 use Rattle.search.proofs.ensure_root_answer.ensure_root_answer.Tie as tie
 
@@ -108,20 +105,16 @@ loop-less c =
     in
     let lending = settling .before .before .before .before .before .before .before .before .before .before in
     let test = lending .before .before .before .before .before .before .before .before .before in
-    let r = settling .settle .result in
-    let n = settling .settle .last .1 .1 .1 .1 .1 in
-    let k = n .1 .1 .1 .1 .1 .1 .1 .1 .1 .1 in
     let l = test .before .before .loop in
     let a = test .before .before .before .args in
-    lt-of-lt-of-le (falls (a .asked) (wide-fits (a .asked .limit) (test .before .before .before .good .0 .1 .1 .1 .1 .0 .1))
+    settled-falls
     (book-of 0 0 (a .goal-flags .now) (a .goal-first .now) (a .goal-len .now) (a .clause-variant .now) (a .clause-flags .now) (a
     .clause-len .now) (a .literal-kind .now) (a .literal-goal .now) (a .literal-want .now))
-    (walk r (lent-with (l .strands) (l .answers) (l .goal) (l .coinductive) (l .floundered) (l .complete) (n .0) (n .1 .0) (n .1 .1 .0)
-    (n .1 .1 .1 .0) (l .ambiguous) (l .variant) (l .waits) (l .wants) (l .answer-next) (l .answer-tail) (l .answer-len) (l
-    .answer-variant) (l .answer-key) (l .answer-ambiguous) (k .0) (k .1 .0) (k .1 .1 .0) (k .1 .1 .1 .0) (k .1 .1 .1 .1 .0) r))
+    (settling .settle .ensures (l .goal) (l .variant) (l .strands) (l .answers) (l .answer-variant) (l .answer-key)
+    (l .answer-ambiguous)) (still-on (l .course .over) (test .if1 .taken))
     (looking .look .result) (looking .look .ensures) (picking .pick .result) (picking .pick .ensures)
     _ (passing .pass .ensures 0 0 (a .clause-len .now) (a .literal-kind .now) (a .literal-goal .now) (a .literal-want .now) (l .strands)
-    (l .answers)) (settling .settle .ensures .0 ∙ still-on (l .course .over) (test .if1 .taken))) (settling .settle .ensures .1)
+    (l .answers)) (wide-fits (a .asked .limit) (test .before .before .before .good .0 .1 .1 .1 .1 .0 .1))
 
 loop-again : tie.Need-loop-again Inv-loop μ-loop
 loop-again c =
@@ -133,25 +126,16 @@ loop-again c =
     in
     let lending = settling .before .before .before .before .before .before .before .before .before .before in
     let test = lending .before .before .before .before .before .before .before .before .before in
-    let r = settling .settle .result in
-    let n = settling .settle .last .1 .1 .1 .1 .1 in
-    let k = n .1 .1 .1 .1 .1 .1 .1 .1 .1 .1 in
     let l = test .before .before .loop in
     let a = test .before .before .before .args in
-    λ goals clauses x h. l .inv goals clauses x (settling .settle .ensures .2
+    λ goals clauses x h. l .inv goals clauses x (settled-further
     (book-of goals clauses (a .goal-flags .now) (a .goal-first .now) (a .goal-len .now) (a .clause-variant .now) (a .clause-flags .now)
     (a .clause-len .now) (a .literal-kind .now) (a .literal-goal .now) (a .literal-want .now))
-    (l .goal) (l .variant) (l .strands) (l .answers) (l .answer-variant) (l .answer-key) (l .answer-ambiguous) x
-    (still-on (l .course .over) (test .if1 .taken)) (further
-    (book-of goals clauses (a .goal-flags .now) (a .goal-first .now) (a .goal-len .now) (a .clause-variant .now) (a .clause-flags .now)
-    (a .clause-len .now) (a .literal-kind .now) (a .literal-goal .now) (a .literal-want .now))
-    (a .asked)
-    (walk r (lent-with (l .strands) (l .answers) (l .goal) (l .coinductive) (l .floundered) (l .complete) (n .0) (n .1 .0) (n .1 .1 .0)
-    (n .1 .1 .1 .0) (l .ambiguous) (l .variant) (l .waits) (l .wants) (l .answer-next) (l .answer-tail) (l .answer-len) (l
-    .answer-variant) (l .answer-key) (l .answer-ambiguous) (k .0) (k .1 .0) (k .1 .1 .0) (k .1 .1 .1 .0) (k .1 .1 .1 .1 .0) r))
+    (settling .settle .ensures (l .goal) (l .variant) (l .strands) (l .answers) (l .answer-variant) (l .answer-key)
+    (l .answer-ambiguous)) (still-on (l .course .over) (test .if1 .taken))
     (looking .look .result) (looking .look .ensures) (picking .pick .result) (picking .pick .ensures)
-    _ x (passing .pass .ensures goals clauses (a .clause-len .now) (a .literal-kind .now) (a .literal-goal .now) (a .literal-want .now)
-    (l .strands) (l .answers)) (settling .settle .ensures .0 ∙ still-on (l .course .over) (test .if1 .taken)) h))
+    _ (passing .pass .ensures goals clauses (a .clause-len .now) (a .literal-kind .now) (a .literal-goal .now) (a .literal-want .now)
+    (l .strands) (l .answers)) x h)
 
 returns : tie.Need-returns Inv-loop μ-loop
 returns c =

@@ -1,16 +1,15 @@
--- `settle` meets its contract: whatever the walk now comes to, the walk that it was begun with comes to.
-use Prim.Native.Nat.{ℕ, _≤_}
-use native.Mathlib.Nat.{le-refl}
-use mathlib.Core.Bool.{true, false}
+-- `settle` meets its contract: whatever the walk now settles to, the walk that it was begun with settles to.
+use Prim.Native.Nat.{ℕ}
+use mathlib.Core.Bool.{true}
 use mathlib.Core.List.{List}
-use mathlib.Core.Path.{_≡_, refl, sym, _∙_}
-use Rattle.book.specs.declared.Book.{Book}
+use mathlib.Core.Path.{_≡_, sym, _∙_}
 use Rattle.strands.specs.declared.Answer.{Answer}
 use Rattle.strands.specs.declared.Strand.{Strand}
-use Rattle.search.specs.Walk.{Walk, walk, may-settle, Comes}
+use Rattle.search.specs.Walk.{Walk, walk, may-settle, Settles}
 use Rattle.search.proofs.Bytes.{wide-fits}
 use Rattle.search.proofs.Looping.{lent-with}
-use Rattle.search.proofs.Settling.{course-so, comes-settled, still-done, still-left, still-may, turns-left, fewer}
+use Rattle.search.proofs.Settling.{course-so, rest-by, rest-none, rest-going, rest-settles, turn-settles}
+use Rattle.search.proofs.Settling.{still-may, turns-left, fewer}
 use Rattle.search.proofs.settle.settle.Statement.{statement}
 use Rattle.search.proofs.settle.settle.Tie as tie
 
@@ -18,14 +17,13 @@ abbrev Inv-loop : tie.InvT-loop
 Inv-loop asked from coinductive floundered complete next₀ tail₀ len₀ time₀ ambiguous waits wants answer-next answer-tail answer-len
     entry-table₀ entry-clock₀ positive₀ negative₀ active₀ depth₀ clock₀ done₀ flow₀ more₀ next tail len time entry-table entry-clock
     positive negative active depth clock done flow more =
-    (from .done ≤ done) × (more ≡ true → may-settle asked done ≡ true)
-    × ((b : Book) (goals variant : List ℕ) (strands : List Strand) (answers : List Answer) (variants keys flags : List ℕ) (x : Walk)
-    → from .over ≡ false
-    → Comes b asked (walk (course-so from depth clock done flow) (lent-with strands answers goals coinductive floundered complete next tail
-    len time ambiguous variant waits wants answer-next answer-tail answer-len variants keys flags entry-table entry-clock positive
-    negative active (course-so from depth clock done flow))) x
-    → Comes b asked (walk from (lent-with strands answers goals coinductive floundered complete next₀ tail₀ len₀ time₀ ambiguous variant
-    waits wants answer-next answer-tail answer-len variants keys flags entry-table₀ entry-clock₀ positive₀ negative₀ active₀ from)) x)
+    (more ≡ true → may-settle asked done ≡ true)
+    × ((goals variant : List ℕ) (strands : List Strand) (answers : List Answer) (variants keys flags : List ℕ) (u : Walk)
+    → rest-by more asked (walk (course-so from depth clock done flow) (lent-with strands answers goals coinductive floundered complete next
+    tail len time ambiguous variant waits wants answer-next answer-tail answer-len variants keys flags entry-table entry-clock positive
+    negative active (course-so from depth clock done flow))) u
+    → Settles asked (walk from (lent-with strands answers goals coinductive floundered complete next₀ tail₀ len₀ time₀ ambiguous variant
+    waits wants answer-next answer-tail answer-len variants keys flags entry-table₀ entry-clock₀ positive₀ negative₀ active₀ from)) u)
 
 abbrev μ-loop : tie.MeasureT-loop
 μ-loop asked from coinductive floundered complete next₀ tail₀ len₀ time₀ ambiguous waits wants answer-next answer-tail answer-len
@@ -38,9 +36,9 @@ may-settle-requires c κs = tt
 
 loop-holds : tie.Need-loop-holds Inv-loop μ-loop
 loop-holds c = (
-  le-refl (c .before .args .from .done),
   λ e. sym (c .may-settle .ensures) ∙ e,
-  λ b goals variant strands answers variants keys flags x o h. h,
+  λ goals variant strands answers variants keys flags u h. rest-settles (c .before .args .asked) _ (c .may-settle .result)
+      (c .may-settle .ensures) u h,
 )
 
 number-turn-requires : tie.Need-number-turn-requires Inv-loop μ-loop
@@ -64,7 +62,7 @@ loop-less c =
     let start = test .before .before .before in
     let a = start .args in
     fewer (a .asked) (wide-fits (a .asked .limit) (start .good .0 .1 .1 .1 .1 .0 .1)) (l .more) (test .loop-test .taken) (l .done)
-    (l .inv .1 (test .loop-test .taken)) (turning .number-turn .result .settled) (counted .done-after .result)
+    (l .inv .0 (test .loop-test .taken)) (turning .number-turn .result .settled) (counted .done-after .result)
     (counted .done-after .ensures) (c .settles-on .result) (c .settles-on .ensures)
 
 loop-again : tie.Need-loop-again Inv-loop μ-loop
@@ -78,29 +76,27 @@ loop-again c =
     let r = turning .number-turn .result in
     let n = turning .number-turn .last .1 .1 .1 .1 .1 .1 in
     let k = n .1 .1 .1 .1 .1 .1 .1 .1 .1 .1 in (
-      still-done (a .from .done) (l .done) (l .inv .0) (r .settled) (counted .done-after .result) (counted .done-after .ensures),
       λ is. still-may (r .settled) (a .asked) (counted .done-after .result) (c .settles-on .result) (c .settles-on .ensures) is,
-      λ b goals variant strands answers variants keys flags x o h. l .inv .2 b goals variant strands answers variants keys flags x o
-          (comes-settled b (a .asked) (course-so (a .from) (l .depth) (l .clock) (l .done) (l .flow)) strands answers goals
+      λ goals variant strands answers variants keys flags u h. l .inv .1 goals variant strands answers variants keys flags u
+          (rest-going (l .more) (test .loop-test .taken)
+          (turn-settles (a .asked) (course-so (a .from) (l .depth) (l .clock) (l .done) (l .flow)) strands answers goals
           (a .coinductive .now) (a .floundered .now) (a .complete .now) (a .ambiguous .now) variant (a .waits .now) (a .wants .now)
           (a .answer-next .now) (a .answer-tail .now) (a .answer-len .now) variants keys flags
           (l .next) (l .tail) (l .len) (l .time) (l .entry-table) (l .entry-clock) (l .positive) (l .negative) (l .active)
           (n .0) (n .1 .0) (n .1 .1 .0) (n .1 .1 .1 .0) (k .0) (k .1 .0) (k .1 .1 .0) (k .1 .1 .1 .0) (k .1 .1 .1 .1 .0)
-          o (l .inv .1 (test .loop-test .taken)) x (r .settled) (r .depth) (r .clock) (counted .done-after .result)
+          (l .inv .0 (test .loop-test .taken)) (r .settled) (r .depth) (r .clock) (counted .done-after .result)
           (flowing .flow-after .result)
           (turning .number-turn .ensures (a .from .count) goals strands variant (a .from .used) answers variants keys flags
           (a .from .«answer_used»))
-          (counted .done-after .ensures) (flowing .flow-after .ensures) h),
+          (counted .done-after .ensures) (flowing .flow-after .ensures) (c .settles-on .result) (c .settles-on .ensures) u h)),
     )
 
 returns : tie.Need-returns Inv-loop μ-loop
 returns c =
     let l = c .before .loop in
-    let a = c .before .before .before .args in (
-      refl,
-      still-left (a .asked) (a .from) (a .from .over) refl (l .depth) (l .clock) (l .done) (l .flow) (l .inv .0),
-      l .inv .2,
-    )
+    let a = c .before .before .before .args in
+    λ goals variant strands answers variants keys flags. l .inv .1 goals variant strands answers variants keys flags _
+    (rest-none (l .more) (c .loop-test .left) (a .asked) _)
 
 pub settle-spec : {M : Type 1} → statement M
 settle-spec =
