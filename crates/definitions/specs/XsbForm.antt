@@ -16,6 +16,7 @@ pub data Ordered (n : ℕ) : (least : ℕ) → List Rule → Type 0 where
   no-rule : {least : ℕ} → Ordered n least []
   and-rule : {least : ℕ} {r : Rule} {rs : List Rule} → least ≤ r .head → r .head < n → Ordered n (r .head) rs → Ordered n least (r ∷ rs)
 
+-- its literals have no flag and no want
 abbrev pub BareRule : Rule → Type 0
 BareRule r = Each PlainLiteral (r .body)
 
