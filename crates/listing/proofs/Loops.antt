@@ -340,7 +340,7 @@ made-unmarked given limit f e = on given (eqb limit 0 || leb MAX limit) e
 pub made-ready : (given : Refusable Book) (r : Made) → MadeSays (said.make-of given listing-clock) r → r .making ≡ makings.Made
     → Ready (r .forest)
 made-ready given r says e = record {
-  sound = says .sound e;
+  sound = says .sound;
   unmarked = made-unmarked given listing-clock (view (r .forest))
       (sym (says .says) ∙ ap (λ (m : Making). made-by m (view (r .forest))) e);
 }

@@ -52,6 +52,6 @@ all-none (t ∷ ts) mark f x = (none-asserts mark f t (x .1), all-none ts (mark-
 
 pub never-asserts : NeverAsserts
 never-asserts bytes limit m says e ss runs =
-    let s = either-made bytes limit m says e .sound e in
+    let s = either-made bytes limit m says e .sound in
     let mark = m .forest .mark in
     tell-so NoneAsserts ss (m .forest) s runs (λ ts g. all-none ts mark (m .forest) (all-listed ts mark (m .forest) s refl g))

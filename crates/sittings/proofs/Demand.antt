@@ -338,7 +338,7 @@ pub sitting-tells : (bytes : List ℕ) (limit : ℕ) (m : Made) → MakeSays byt
     → (book : books.Book) → books.read bytes ≡ accepted book → (level : ℕ → ℕ) → Plain book → Levelled book level
     → (ts : List Told) → Sits (m .forest) ts → Promise level limit book ts
 sitting-tells bytes limit m says e book k level plain levelled ts g =
-    let s = says .sound e in
+    let s = says .sound in
     let told-as = told-calls (m .forest) ts in
     let x = promise bytes limit (view (m .forest)) (is-made bytes limit m says e) book k level plain levelled (map asked ts) told-as
     (sits-calls ts (m .forest) s g) in
@@ -367,5 +367,5 @@ either-made bytes limit m (inr says) e = as-made bytes limit m says e
 pub demand-3 : Demand3
 demand-3 bytes limit m says e book k level plain levelled ss runs =
     let made = either-made bytes limit m says e in
-    tell-so (Promise level limit book) ss (m .forest) (made .sound e) runs
+    tell-so (Promise level limit book) ss (m .forest) (made .sound) runs
     (sitting-tells bytes limit m made e book k level plain levelled)

@@ -6,6 +6,7 @@ use mathlib.Core.List.{List, [], _∷_}
 use mathlib.Core.Logic.{_⊎_, inl, inr}
 use mathlib.Core.Path.{_≡_, refl, sym, ap, subst, _∙_}
 use Rattle.definitions.specs.Calls as said
+use Rattle.definitions.specs.Desk.{make-at-desk}
 use Rattle.definitions.specs.Forest as forests
 use Rattle.definitions.specs.Forest.{open-goal, search, peek}
 use Rattle.definitions.specs.Logic as logic
@@ -37,6 +38,7 @@ use Rattle.sittings.specs.Claim.{MarkedSays}
 use Rattle.sittings.specs.Steps.{Step, Runs, TellSo}
 use Rattle.sittings.specs.Total.{MakingListed, making-mark, OpeningListed, OutcomeListed, FutureListed, UnmarkedListed, MarkedListed}
 use Rattle.sittings.specs.Total.{CallListed, opening-mark, outcome-mark, mark-after, AllListed, StaysMarked}
+use Rattle.sittings.specs.Total.{Demand1}
 use Rattle.sittings.proofs.Calls.{open-unchanged, search-unchanged, peek-unchanged}
 use Rattle.sittings.proofs.Steps.{tell-so}
 
@@ -197,14 +199,22 @@ made-listed numbers what h m says = on (m .making) refl (subst (claim.MakingList
   where
     on : (k : Making) → m .making ≡ k → claim.MakingListed numbers (made-by k (view (m .forest)))
         → MakingListed numbers k × (m .forest .mark ≡ making-mark k)
-    on (makings.Refused n) e x = (x, ap (λ (f : Forest). f .mark) (says .marked n e .1))
+    on (makings.Refused n) e x = (x, ap (λ (f : Forest). f .mark) (says .marked n e))
     on makings.Made e x = (tt, x)
 
-entry-listed : (numbers : List ℕ) (what : Refusable tables.Forest) → claim.MakingListed numbers what
-    → (m : Made) → MadeSays what m → Sound (m .forest)
+entry-listed : (numbers : List ℕ) (what : Refusable tables.Forest) → claim.MakingListed numbers what → (m : Made) → MadeSays what m
     → MakingListed numbers (m .making)
     × ((ss : List Step) → Runs (m .forest) ss → TellSo (m .forest) ss (AllListed (making-mark (m .making)) (m .forest)))
-entry-listed numbers what h m says s =
+entry-listed numbers what h m says =
     let x = made-listed numbers what h m says in
     let mark = making-mark (m .making) in
+    let s = says .sound in
     (x .0, λ ss runs. tell-so (AllListed mark (m .forest)) ss (m .forest) s runs (λ ts g. all-listed ts mark (m .forest) s (x .1) g))
+
+pub demand-1 : Demand1
+demand-1 = record {
+  by-make = λ bytes limit m says.
+      entry-listed claim.making-numbers (forests.make bytes limit) (promised.listed .making bytes limit) m says;
+  at-desk = λ bytes limit m says.
+      entry-listed claim.desk-numbers (make-at-desk bytes limit) (promised.listed .making-at-desk bytes limit) m says;
+}

@@ -4,7 +4,7 @@ use Prim.Native.Nat.{ℕ, zero, suc, _≤_}
 use mathlib.Core.List.{List, [], _∷_}
 use mathlib.Core.Path.{_≡_}
 use Rattle.definitions.specs.Model.{Each}
-use Rattle.promises.specs.Total.{OneOf, open-numbers, search-numbers, future-numbers, StopNumber}
+use Rattle.promises.specs.Total.{OneOf, making-numbers, desk-numbers, open-numbers, search-numbers, future-numbers, StopNumber}
 use Rattle.forest.specs.declared.Forest.{Forest}
 use Rattle.forest.specs.declared.any_future_answer.Future.{Future}
 use Rattle.forest.specs.declared.any_future_answer.Future.the-variants as futures
@@ -15,9 +15,11 @@ use Rattle.forest.specs.declared.open.Opening.{Opening}
 use Rattle.forest.specs.declared.open.Opening.the-variants as openings
 use Rattle.forest.specs.declared.searches.Outcome.{Outcome}
 use Rattle.forest.specs.declared.searches.Outcome.the-variants as outcomes
+use Rattle.forest.specs.Make.{MakeSays, MakeAtDeskSays}
 use Rattle.forest.specs.ServeCalls.{all-left}
 use Rattle.forest.specs.Sittings.{Told, opens, searches, peeks, asks-future, left}
 use Rattle.sittings.specs.Claim.{MarkedSays}
+use Rattle.sittings.specs.Steps.{Step, Runs, TellSo}
 
 -- MAKING, by the numbers of an entry
 abbrev pub MakingListed : List ℕ → Making → Type 0
@@ -100,6 +102,18 @@ mark-after before (asks-future table index variant r) = before
 abbrev pub AllListed : (mark : ℕ) → Forest → List Told → Type 0
 AllListed mark f [] = f .mark ≡ mark
 AllListed mark f (t ∷ ts) = (f .mark ≡ mark) × CallListed mark f t × AllListed (mark-after mark t) (left f t) ts
+
+-- DEMAND 1 OF THE CODE, of an entry, by the numbers that document 01 lists for it: for every byte string and clock limit, making gives one of
+-- its results, and on whatever forest came out, refused or made, every call gives one of its own, whichever way the calls are made
+abbrev pub Demand1Of : List ℕ → ((bytes : List ℕ) → (clock-limit : ℕ) → Made → Type 0) → Type 0
+Demand1Of numbers Says =
+    (bytes : List ℕ) (clock-limit : ℕ) (m : Made) → Says bytes clock-limit m →
+    MakingListed numbers (m .making)
+    × ((ss : List Step) → Runs (m .forest) ss → TellSo (m .forest) ss (AllListed (making-mark (m .making)) (m .forest)))
+
+pub record Demand1 : Type 0 where
+  pub by-make : Demand1Of making-numbers MakeSays
+  pub at-desk : Demand1Of desk-numbers MakeAtDeskSays
 
 -- What follows for a forest that is marked: every open, search and peek gets 20, and all of them leave the very same forest.
 abbrev pub StaysMarked : Type 0
