@@ -12,7 +12,7 @@ use Rattle.forest.specs.declared.searches.Outcome.the-variants as outcomes
 use Rattle.forest.specs.Sittings.{Told, opens, searches, peeks, asks-future, left}
 use Rattle.sittings.specs.Claim.{is-stopped, opening-stopped, NoAssert, NoneAsserts, NeverAsserts}
 use Rattle.sittings.specs.Total.{OpeningListed, OutcomeListed, UnmarkedListed, MarkedListed, CallListed, mark-after, AllListed}
-use Rattle.sittings.proofs.Demand.{either-made}
+use Rattle.sittings.proofs.Demand.{entry-sound}
 use Rattle.sittings.proofs.Steps.{tell-so}
 use Rattle.sittings.proofs.Total.{all-listed}
 
@@ -51,7 +51,7 @@ all-none [] mark f x = tt
 all-none (t ∷ ts) mark f x = (none-asserts mark f t (x .1), all-none ts (mark-after mark t) (left f t) (x .2))
 
 pub never-asserts : NeverAsserts
-never-asserts bytes limit m says e ss runs =
-    let s = either-made bytes limit m says e .sound in
+never-asserts bytes limit m says ss runs =
+    let s = entry-sound bytes limit m says in
     let mark = m .forest .mark in
     tell-so NoneAsserts ss (m .forest) s runs (λ ts g. all-none ts mark (m .forest) (all-listed ts mark (m .forest) s refl g))

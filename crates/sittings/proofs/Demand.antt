@@ -359,13 +359,17 @@ as-made bytes limit m says e =
       marked = says .marked;
     }
 
-pub either-made : (bytes : List ℕ) (limit : ℕ) (m : Made) → EntrySays bytes limit m → m .making ≡ makings.Made → MakeSays bytes limit m
+either-made : (bytes : List ℕ) (limit : ℕ) (m : Made) → EntrySays bytes limit m → m .making ≡ makings.Made → MakeSays bytes limit m
 either-made bytes limit m (inl says) e = says
 either-made bytes limit m (inr says) e = as-made bytes limit m says e
+
+pub entry-sound : (bytes : List ℕ) (limit : ℕ) (m : Made) → EntrySays bytes limit m → Sound (m .forest)
+entry-sound bytes limit m (inl says) = says .sound
+entry-sound bytes limit m (inr says) = says .sound
 
 -- BY ANY STEPS
 pub demand-3 : Demand3
 demand-3 bytes limit m says e book k level plain levelled ss runs =
     let made = either-made bytes limit m says e in
-    tell-so (Promise level limit book) ss (m .forest) (made .sound) runs
+    tell-so (Promise level limit book) ss (m .forest) (entry-sound bytes limit m says) runs
     (sitting-tells bytes limit m made e book k level plain levelled)

@@ -148,8 +148,8 @@ Demand3 =
     TellSo (m .forest) ss (λ ts.
     AllTell (In book level) clock-limit false ts × (exceeded ts ≤ length book + clause-count book + all-granted ts))
 
--- NO ASSERT, for every byte string and clock limit, through either entry, and every sequence of steps: whatever stops has a number of
--- document 01, and a peek never gives InvalidAnswer
+-- NO ASSERT, for every byte string and clock limit, through either entry, and every sequence of steps on whatever forest came out: what
+-- stops has a number of document 01, and a peek never gives InvalidAnswer
 abbrev pub NoAssert : Told → Type 0
 NoAssert (opens goal r) = r .opening ≡ openings.Stopped 0 → ⊥
 NoAssert (searches table index limit r) = r .outcome ≡ outcomes.Stopped 0 → ⊥
@@ -162,5 +162,5 @@ NoneAsserts (t ∷ ts) = NoAssert t × NoneAsserts ts
 
 abbrev pub NeverAsserts : Type 0
 NeverAsserts =
-    (bytes : List ℕ) (clock-limit : ℕ) (m : Made) → EntrySays bytes clock-limit m → m .making ≡ makings.Made →
+    (bytes : List ℕ) (clock-limit : ℕ) (m : Made) → EntrySays bytes clock-limit m →
     (ss : List Step) → Runs (m .forest) ss → TellSo (m .forest) ss NoneAsserts

@@ -103,8 +103,8 @@ abbrev pub AllListed : (mark : ℕ) → Forest → List Told → Type 0
 AllListed mark f [] = f .mark ≡ mark
 AllListed mark f (t ∷ ts) = (f .mark ≡ mark) × CallListed mark f t × AllListed (mark-after mark t) (left f t) ts
 
--- DEMAND 1 OF THE CODE, of an entry, by the numbers that document 01 lists for it: for every byte string and clock limit, making gives one of
--- its results, and on whatever forest came out, refused or made, every call gives one of its own, whichever way the calls are made
+-- DEMAND 1 OF THE CODE, of an entry, by the numbers that document 01 lists for it: for every byte string and clock limit, making gives one
+-- of its results, and on whatever forest came out, refused or made, every call gives one of its own, whichever way the calls are made
 abbrev pub Demand1Of : List ℕ → ((bytes : List ℕ) → (clock-limit : ℕ) → Made → Type 0) → Type 0
 Demand1Of numbers Says =
     (bytes : List ℕ) (clock-limit : ℕ) (m : Made) → Says bytes clock-limit m →
