@@ -2,7 +2,6 @@
 use book::read;
 use control::make_tables::make_tables;
 use control::select_subgoal::Made;
-use search::root_answer::one_more;
 use search::solve_state::Search;
 use stores::queue::blank_strands;
 use stores::stack::blank_stack;
@@ -135,7 +134,9 @@ pub(crate) fn begun(bytes: &[u8]) -> Search {
 
 // With the root's entry alone on the stack.
 pub(crate) fn rooted(s: Search) -> Search {
-    let clock = one_more(s.clock);
+    let was = TimeStamp { clock: s.clock };
+    let time = was.increment();
+    let clock = time.clock;
     let mut entry_table = s.entry_table;
     let mut entry_clock = s.entry_clock;
     let mut positive = s.positive;

@@ -1,5 +1,6 @@
 // A search in the hand: a turn at a time, and a cut, through the functions that are lent the search. A book from standard input, cut
-// after three turns; where there is none, cases p8 and p1 of document 01. `tools/turns` holds it against the Rust's searches.
+// after three turns; where there is none, cases p8 and p1 of document 01. A turn is asked for after each cut too: nothing is on the stack
+// then, and it stops. `tools/turns` holds it against the Rust's searches.
 // No contract can speak of what is written: the program's run, held to its file `stdout`, guards that.
 mod begun; // begun.rt: a search before its first turn
 mod words; // words.rt: what is written
@@ -10,6 +11,7 @@ use control::perform::Flow;
 use in_place::by_value::cut;
 use in_place::by_value::turn;
 use intake::input;
+use search::solve_state::Search;
 
 // A search has so many turns, unless it is the first.
 const MOST_TURNS: u64 = 1000;
@@ -47,15 +49,28 @@ fn turned(out: &mut [u8], p: Progress, flow: Flow, depth: usize, clock: u64) -> 
     }
 }
 
-// After a cut the search is begun again, unless its table has floundered.
-fn put_back(out: &mut [u8], p: Progress, depth: usize, clock: u64, floundered: bool) -> Progress {
-    let at = words::cut(out, p.at, depth, clock);
-    Progress {
+// A search that is begun again.
+struct Again {
+    progress: Progress,
+    search: Search,
+}
+
+// After a cut a turn is asked for all the same, with nothing on the stack. Then the search is begun again, unless its table has floundered.
+fn put_back(out: &mut [u8], p: Progress, c: Search) -> Again {
+    let cut = words::cut(out, p.at, c.depth, c.clock);
+    let over = c.floundered[0] != 0;
+    let t = turn(c);
+    let flow = t.flow;
+    let s = t.search;
+    let at = words::turned(out, cut, flow, s.depth, s.clock);
+    let search = rooted(s);
+    let progress = Progress {
         at,
         turns: MOST_TURNS,
         cuts: false,
-        over: floundered,
-    }
+        over,
+    };
+    Again { progress, search }
 }
 
 // The first search of a book has so many turns at most. The search stays here. A proved loop has to end, and nothing says that searches
@@ -72,9 +87,9 @@ fn run(out: &mut [u8], at: usize, book: &[u8], turns: u64) -> usize {
     while left > 0 && !p.over {
         left -= 1;
         if p.cuts {
-            let c = cut(s);
-            p = put_back(out, p, c.depth, c.clock, c.floundered[0] != 0);
-            s = rooted(c);
+            let r = put_back(out, p, cut(s));
+            p = r.progress;
+            s = r.search;
             continue;
         }
         let t = turn(s);

@@ -26,14 +26,8 @@ sub-left c = search needs
 cut-requires : tie.Need-cut-requires Inv-loop μ-loop
 cut-requires c κs = search needs
 
-element-copy-out-put-back : tie.Need-element-copy-out-put-back Inv-loop μ-loop
-element-copy-out-put-back c = search needs
-
 put-back-requires : tie.Need-put-back-requires Inv-loop μ-loop
 put-back-requires c κs = search needs
-
-rooted-requires-2 : tie.Need-rooted-requires-2 Inv-loop μ-loop
-rooted-requires-2 c κs = search needs
 
 loop-less : tie.Need-loop-less Inv-loop μ-loop
 loop-less c = search needs
@@ -76,9 +70,7 @@ run-spec =
     loop-holds
     sub-left
     cut-requires
-    element-copy-out-put-back
     put-back-requires
-    rooted-requires-2
     loop-less
     loop-again
     turn-requires
