@@ -1,19 +1,21 @@
 // Writes the book of XSB text, which is read in pieces, however long it is. Of a text that is refused nothing is written to standard
 // output: its number and sentence go to standard error.
 // No contract can speak of what is read or written: the program's run on its file `stdin`, held to its file `stdout`, guards that.
+mod lines;
+
 use intake::input;
-use pen::refusals::complain;
 use xsb_import::Imported;
 use xsb_import::import;
 ghost use Rattle.xsb_import.specs.Importing.{Sized};
 
+// The lines of a refusal have at most 76 bytes: all of them are in the buffer when it is written. A text that is refused has no byte of a
+// book.
 fn answer(r: Imported)
     requires { ⌜ Sized r ⌝ }
 {
-    if r.number != 0 {
-        complain(r.number);
-        return;
-    }
+    let mut told = [0u8; 128];
+    let said = lines::say(&mut told, r);
+    pen::tell(&told, said);
     let bytes = r.bytes;
     let used = r.used;
     if !io::write_all(1, &bytes[..used]) {

@@ -1,6 +1,5 @@
 // The refusals as the programs say them to whoever wrote the paper: a line with the number, and below it the number's sentence.
 use crate::counted;
-use crate::send;
 use crate::text;
 ghost use mathlib.Core.Path.{_≡_};
 ghost use Rattle.pen.specs.Pen.{pen, put-all};
@@ -55,12 +54,4 @@ pub fn refusal(out: &mut [u8], at: usize, number: u8) -> usize
 {
     let line = refusal_line(out, at, number);
     sentence(out, line, number)
-}
-
-// A refusal's lines on standard error; answers whether they could be written. The longest are 76 bytes: all of it is in the buffer when it
-// is written, and nothing goes to standard output.
-pub fn complain(number: u8) -> bool {
-    let mut out = [0u8; 128];
-    let used = refusal(&mut out, 0, number);
-    send(2, &out, used)
 }

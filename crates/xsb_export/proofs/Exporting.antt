@@ -12,13 +12,14 @@ use Rattle.laws.specs.Spans.{span}
 use Rattle.laws.proofs.Spans.{length-span, span-left, span-done}
 use Rattle.definitions.specs.Ascii.{ascii}
 use Rattle.definitions.specs.Listing.{decimal}
-use Rattle.definitions.specs.Refusal.{Refusable}
+use Rattle.definitions.specs.Refusal.{Refusable, refused}
 use Rattle.definitions.specs.Book as said
 use Rattle.definitions.specs.Book.{bit0, bit1, read-ahead}
 use Rattle.definitions.specs.Xsb.{Rule, rules-of-goal, rules-from, literal-text, more-text, body-text, rule-line, rule-lines, table-line}
 use Rattle.definitions.specs.Xsb.{table-lines, export, export-at-desk, check-export}
 use Rattle.definitions.proofs.Desk.{desk-take}
 use Rattle.pen.specs.Pen.{Pen, put-all}
+use Rattle.pen.specs.Refusals.{refusal-lines}
 use Rattle.pen.proofs.Putting.{put-two, put-nothing, put-left, put-ended}
 use Rattle.book.specs.declared.Book.{Book}
 use Rattle.book.specs.declared.Literal.{Literal}
@@ -196,15 +197,18 @@ module _ (bytes : List ℕ) (paper : Reading) (given : Gives (plain-paper bytes)
   by-number t e =
       export-of-paper bytes ∙ ap (of-paper export-in) (gave (plain-paper bytes) paper given t e)
 
-  pub refused-exported : (n : ℕ) (p : Pen) → n ≡ paper .number → (paper .number ≡ 0 → ⊥)
-      → _≡_ {A = ℕ × Pen} (n, p) (exported (check-export bytes) p)
-  refused-exported n p e some =
-      ap (λ (m : ℕ). (m, p)) e ∙ ap (λ (x : Refusable (List ℕ)). exported x p) (sym (by-number false (ne-eqb (paper .number) 0 some)))
+  pub refused-exported : (n : ℕ) (out p q : Pen) → n ≡ paper .number → (paper .number ≡ 0 → ⊥) → q ≡ put-all (refusal-lines n) p
+      → _≡_ {A = ℕ × Pen × Pen} (n, out, q) (exported (check-export bytes) out p)
+  refused-exported n out p q e some f =
+      ap (λ (x : Pen). (n, out, x)) f
+      ∙ ap (λ (m : ℕ). exported (refused m) out p) e
+      ∙ ap (λ (x : Refusable (List ℕ)). exported x out p) (sym (by-number false (ne-eqb (paper .number) 0 some)))
 
-  pub book-exported : (p q : Pen) → paper .number ≡ 0 → q ≡ put-all (export (view (paper .book))) p
-      → _≡_ {A = ℕ × Pen} (0, q) (exported (check-export bytes) p)
-  book-exported p q z e =
-      ap (λ (x : Pen). (0, x)) e ∙ ap (λ (x : Refusable (List ℕ)). exported x p) (sym (by-number true (eq-eqb (paper .number) 0 z)))
+  pub book-exported : (p q told : Pen) → paper .number ≡ 0 → q ≡ put-all (export (view (paper .book))) p
+      → _≡_ {A = ℕ × Pen × Pen} (0, q, told) (exported (check-export bytes) p told)
+  book-exported p q told z e =
+      ap (λ (x : Pen). (0, x, told)) e
+      ∙ ap (λ (x : Refusable (List ℕ)). exported x p told) (sym (by-number true (eq-eqb (paper .number) 0 z)))
 
 -- what an input comes to is settled by its first bytes
 pub export-take : (bytes : List ℕ) → check-export (take read-ahead bytes) ≡ check-export bytes

@@ -3,6 +3,7 @@ use crate::rules::rule_lines;
 use book::Book;
 use book::access::clause_count;
 use book::access::first_clause;
+use pen::refusals::refusal;
 use profile::paper::plain;
 ghost use mathlib.Core.Path.{_≡_};
 ghost use Rattle.definitions.specs.Xsb.{table-line as tableLine, table-lines as tableLines, rule-lines, rules-from};
@@ -11,10 +12,12 @@ ghost use Rattle.pen.specs.Pen.{pen, put-all};
 ghost use Rattle.book.specs.View.{view, Sound};
 ghost use Rattle.xsb_export.specs.Exporting.{exported};
 
-// What an export comes to: number 0, and how much of the buffer is in use; or the number of a refusal, and none is.
+// What an export comes to: number 0, and how much is in use of the buffer for the text; or the number of a refusal, and how much is in use
+// of that for its lines. Of the other buffer nothing is.
 pub struct Exported {
     pub number: u8,
     pub used: usize,
+    pub told: usize,
 }
 
 fn table_line(out: &mut [u8], at: usize, goal: usize) -> usize
@@ -65,19 +68,26 @@ fn book_text(out: &mut [u8], at: usize, b: Book) -> usize
     rules(out, tabled, b)
 }
 
-// The text is put down from the start of the buffer on. Where the paper is refused, nothing is.
-pub fn export(out: &mut [u8], bytes: &[u8]) -> Exported
-    ensures { λ r. ⌜ (r .number, pen (now (out .exit)) (r .used))
-        ≡ exported (check-export (now (bytes .entry))) (pen (now (out .entry)) 0) ⌝ }
+// Both are put down from the start of their buffers on: `out` is for standard output, `told` for standard error. Where the paper is
+// refused, there is no text; where it is not, there are no lines.
+pub fn export(out: &mut [u8], told: &mut [u8], bytes: &[u8]) -> Exported
+    ensures { λ r. ⌜ (r .number, pen (now (out .exit)) (r .used), pen (now (told .exit)) (r .told))
+        ≡ exported (check-export (now (bytes .entry))) (pen (now (out .entry)) 0) (pen (now (told .entry)) 0) ⌝ }
 {
     let paper = plain(bytes);
     if paper.number != 0 {
+        let lines = refusal(told, 0, paper.number);
         return Exported {
             number: paper.number,
             used: 0,
+            told: lines,
         };
     }
     let b = paper.book;
     let used = book_text(out, 0, b);
-    Exported { number: 0, used }
+    Exported {
+        number: 0,
+        used,
+        told: 0,
+    }
 }

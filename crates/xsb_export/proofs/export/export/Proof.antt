@@ -2,12 +2,17 @@
 use Rattle.xsb_export.proofs.Exporting.{refused-exported, book-exported}
 use Rattle.profile.proofs.Papers.{book-sound}
 use borrow.Author.Needs.{needs}
-use borrow.Author.Needs.{needs}
 use Rattle.xsb_export.proofs.export.export.Statement.{statement}
 use Rattle.xsb_export.proofs.export.export.Tie as tie
 
 plain-requires : tie.Need-plain-requires
 plain-requires c κs = search needs
+
+refusal-requires : tie.Need-refusal-requires
+refusal-requires c κs = search needs
+
+same-length : tie.Need-same-length
+same-length c = search needs
 
 returns : tie.Need-returns
 returns c = search refused-exported
@@ -15,11 +20,13 @@ returns c = search refused-exported
 book-text-requires : tie.Need-book-text-requires
 book-text-requires c κs = search book-sound
 
-same-length : tie.Need-same-length
-same-length c = search needs
+same-length-2 : tie.Need-same-length-2
+same-length-2 c = search needs
 
 returns-2 : tie.Need-returns-2
 returns-2 c = search book-exported
 
 pub export-spec : {M : Type 1} → statement M
-export-spec = tie.close (tie.spec plain-requires returns book-text-requires same-length returns-2)
+export-spec =
+    tie.close
+    (tie.spec plain-requires refusal-requires same-length returns book-text-requires same-length-2 returns-2)
