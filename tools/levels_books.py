@@ -12,7 +12,7 @@ SENTENCES = {
     4: "unknown flag bit", 5: "a 65th goal, a 257th clause or a 9th literal of a clause", 6: "a literal names no goal",
     7: "bytes after the end", 8: "no goal", 32: "a range with its low end above its high end", 36: "a goal has the same clause twice",
     37: "not plain: a variant, a want or a flag that is not 0, or a range",
-    38: "not levelled: no numbering of the goals satisfies the rule",
+    38: 'not levelled: no numbers can be given to the goals so that each "not" leads lower and no other literal higher',
 }
 
 

@@ -129,7 +129,7 @@ pub fn sentence(number: u8) -> &'static str {
         32 => "a range with its low end above its high end",
         36 => "a goal has the same clause twice",
         37 => "not plain: a variant, a want or a flag that is not 0, or a range",
-        38 => "not levelled: no numbering of the goals satisfies the rule",
+        38 => "not levelled: no numbers can be given to the goals so that each \"not\" leads lower and no other literal higher",
         39 => "not text of the form that a book is written in",
         _ => "",
     }

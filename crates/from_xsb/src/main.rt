@@ -8,7 +8,7 @@ use xsb_import::Imported;
 use xsb_import::import;
 ghost use Rattle.xsb_import.specs.Importing.{Sized};
 
-// The lines of a refusal have at most 76 bytes: all of them are in the buffer when it is written. A text that is refused has no byte of a
+// The lines of a refusal have at most 121 bytes: all of them are in the buffer when it is written. A text that is refused has no byte of a
 // book.
 fn answer(r: Imported)
     requires { ⌜ Sized r ⌝ }

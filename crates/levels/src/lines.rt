@@ -6,7 +6,7 @@
 // One that is refused has its number and the number's sentence; and one that is not levelled also the goals to look at:
 //
 //     refused 38
-//     not levelled: no numbering of the goals satisfies the rule
+//     not levelled: no numbers can be given to the goals so that each "not" leads lower and no other literal higher
 //     goals on a cycle through "not": 0 1 5
 use pen::refusals;
 use profile::levels;

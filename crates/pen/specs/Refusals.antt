@@ -19,7 +19,7 @@ sentences =
     ∷ (32, ascii "a range with its low end above its high end\n")
     ∷ (36, ascii "a goal has the same clause twice\n")
     ∷ (37, ascii "not plain: a variant, a want or a flag that is not 0, or a range\n")
-    ∷ (38, ascii "not levelled: no numbering of the goals satisfies the rule\n")
+    ∷ (38, ascii "not levelled: no numbers can be given to the goals so that each \"not\" leads lower and no other literal higher\n")
     ∷ (39, ascii "not text of the form that a book is written in\n")
     ∷ []
 

@@ -34,7 +34,7 @@ fn sentence(out: &mut [u8], at: usize, number: u8) -> usize
         38 => text(
             out,
             at,
-            b"not levelled: no numbering of the goals satisfies the rule\n",
+            b"not levelled: no numbers can be given to the goals so that each \"not\" leads lower and no other literal higher\n",
         ),
         39 => text(out, at, b"not text of the form that a book is written in\n"),
         _ => text(out, at, b"no goal\n"),
