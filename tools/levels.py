@@ -10,8 +10,8 @@ tools/levels.py --time                whole processes on the worst books, `level
                                       package gringo) side by side, and what the Rust takes within its process
 
 Of a book that is accepted a line is written for each goal, `GOAL LEVEL`, with the least levels there are; of one that is refused
-`refused N` and the sentence of N: the desk's numbers, then 37 for a book that is not plain, then 38 for one that is not levelled, with a
-line that has the goals on a cycle through "not". Books are in the notation of papers.py, or bytes in hex. Status 0 only if all is so.
+`refused N` and the sentence of N: the desk's numbers, then 37 for a book that is not plain, with a line that has the first place that is
+not, then 38 for one that is not levelled, with a line that has the goals on a cycle through "not". Books are in the notation of papers.py, or bytes in hex. Status 0 only if all is so.
 """
 import argparse
 import collections
@@ -27,7 +27,7 @@ import sys
 import papers
 import sides
 import tree
-from levels_books import CASES, SENTENCES, every_book, of_goals
+from levels_books import CASES, SENTENCES, every_book, of_goals, refusal
 from rules import clauses_of, rules, timed
 
 PROFILES = "mix plain tiny answers small limits large".split()
@@ -38,8 +38,8 @@ def text(said):
     if isinstance(said, list):
         return "".join("%d %d\n" % pair for pair in enumerate(said))
     if isinstance(said, int):
-        return "refused %d\n%s\n" % (said, SENTENCES[said])
-    return "refused 38\n%s\ngoals on a cycle through \"not\": %s\n" % (SENTENCES[38], " ".join(map(str, said)))
+        return refusal(said)
+    return refusal(38) + "goals on a cycle through \"not\": %s\n" % " ".join(map(str, said))
 
 
 def cases():

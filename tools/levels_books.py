@@ -1,10 +1,11 @@
-"""Books for tools/levels.py, and what must be said of each, by hand: the levels as a list, a number, or the goals on a cycle through "not"
-(38) as a tuple."""
+"""Books for tools/levels.py, and what must be said of each, by hand: the levels as a list, a number, with 37 the place that is not plain
+first (`at`), or the goals on a cycle through "not" (38) as a tuple."""
 import os
 from itertools import product
 
 import papers
 from limits import hexed, lines
+from sides import Number
 
 # What is written below a number.
 SENTENCES = {
@@ -14,6 +15,16 @@ SENTENCES = {
     37: "not plain: a variant, a want or a flag that is not 0, or a range",
     38: 'not levelled: no numbers can be given to the goals so that each "not" leads lower and no other literal higher',
 }
+
+
+def at(place):
+    return Number(37, place)
+
+
+def refusal(number, sentences=SENTENCES):
+    """The lines of a refusal."""
+    place = getattr(number, "place", "")
+    return "refused %d\n%s\n%s" % (number, sentences[number], place and place + "\n")
 
 
 def of_goals(goals, *clauses):
@@ -123,21 +134,34 @@ CASES = {
         book("a literal behind a later goal", "47 00 43 00 00 00 47 00 4E 00 00 00 45", (0,)),
     ],
     "plain": [
-        book("plain but for nothing", one(), [1, 0]), book("a variant", one(clause="0/1 :- 1"), 37),
-        book("the variant 256", one(clause="0/256"), 37),
-        book("a fact of variant 65535", one(clause="0/65535"), 37),
-        book("a clause that cannot prove", one(clause="0 [cannot prove] :- 1"), 37),
-        book("an outsized clause", one(clause="0 [outsized] :- 1"), 37), book("an outsized literal", one(clause="0 :- 1 [outsized]"), 37),
-        book("an outsized not", one(clause="0 :- not 1 [outsized]"), 37), book("a want", one(clause="0 :- 1/1"), 37),
-        book("the want 256", one(clause="0 :- 1/256"), 37), book("the range 3 to 7", one(clause="0 :- 1/3-7"), 37),
-        book("the range 0 to 65535", one(clause="0 :- 1/0-65535"), 37), book("the range 0 to 0", one(clause="0 :- 1/0-0"), 37),
-        book("a coinductive goal", one(" [coinductive]"), 37), book("a floundered goal", one(" [floundered]"), 37),
-        book("a coinductive goal alone", "47 01 45", 37), book("a floundered goal alone", "47 02 45", 37),
-        ("the last of 64 goals floundered", of_goals(63, *DOWN[:62])[:-1] + b"\x47\x02\x45", 37),
-        ("the last of 256 clauses of another variant", ring(str)[:-53] + b"\x43\x00\x01" + ring(str)[-50:], 37),
-        ("the last of 2048 literals outsized", ring(str)[:-2] + b"\x01\x45", 37),
-        book("the last clause cannot prove", lines("goal 0", "0", "goal 1", "1", "1 [cannot prove]"), 37),
-        book("a want behind a later goal", "47 00 43 00 00 00 47 00 50 00 00 01 00 00 45", 37),
+        book("plain but for nothing", one(), [1, 0]), book("a variant", one(clause="0/1 :- 1"), at("goal 0, clause 0: a variant")),
+        book("the variant 256", one(clause="0/256"), at("goal 0, clause 0: a variant")),
+        book("a fact of variant 65535", one(clause="0/65535"), at("goal 0, clause 0: a variant")),
+        book("a clause that cannot prove", one(clause="0 [cannot prove] :- 1"), at("goal 0, clause 0: a flag")),
+        book("an outsized clause", one(clause="0 [outsized] :- 1"), at("goal 0, clause 0: a flag")), book("an outsized literal", one(clause="0 :- 1 [outsized]"), at("goal 0, clause 0, literal 0: a flag")),
+        book("an outsized not", one(clause="0 :- not 1 [outsized]"), at("goal 0, clause 0, literal 0: a flag")), book("a want", one(clause="0 :- 1/1"), at("goal 0, clause 0, literal 0: a want")),
+        book("the want 256", one(clause="0 :- 1/256"), at("goal 0, clause 0, literal 0: a want")), book("the range 3 to 7", one(clause="0 :- 1/3-7"), at("goal 0, clause 0, literal 0: a range")),
+        book("the range 0 to 65535", one(clause="0 :- 1/0-65535"), at("goal 0, clause 0, literal 0: a range")), book("the range 0 to 0", one(clause="0 :- 1/0-0"), at("goal 0, clause 0, literal 0: a range")),
+        book("a coinductive goal", one(" [coinductive]"), at("goal 0: a flag")), book("a floundered goal", one(" [floundered]"), at("goal 0: a flag")),
+        book("a coinductive goal alone", "47 01 45", at("goal 0: a flag")), book("a floundered goal alone", "47 02 45", at("goal 0: a flag")),
+        ("the last of 64 goals floundered", of_goals(63, *DOWN[:62])[:-1] + b"\x47\x02\x45", at("goal 63: a flag")),
+        ("the last of 256 clauses of another variant", ring(str)[:-53] + b"\x43\x00\x01" + ring(str)[-50:], at("goal 63, clause 3: a variant")),
+        ("the last of 2048 literals outsized", ring(str)[:-2] + b"\x01\x45", at("goal 63, clause 3, literal 7: a flag")),
+        # which comes first
+        book("a goal's flag before its clauses", one(" [floundered]", "0/1 [cannot prove] :- 1/1"), at("goal 0: a flag")),
+        book("a variant before a flag", one(clause="0/1 [cannot prove] [outsized] :- 1/1"), at("goal 0, clause 0: a variant")),
+        book("a flag before the literals", one(clause="0 [outsized] :- 1/1"), at("goal 0, clause 0: a flag")),
+        book("a want before its flag", one(clause="0 :- 1, not 1, 1/1 [outsized]"), at("goal 0, clause 0, literal 2: a want")),
+        book("a range before its flag", one(clause="0 :- 1, 1/0-1 [outsized], 1/1"), at("goal 0, clause 0, literal 1: a range")),
+        book("a literal before a later one", one(clause="0 :- not 1, 1 [outsized], 1/1"), at("goal 0, clause 0, literal 1: a flag")),
+        book("a clause before a later goal", lines("goal 0", "0", "0 :- 1", "0 :- 1/2", "goal 1 [coinductive]", "1"),
+             at("goal 0, clause 2, literal 0: a want")),
+        book("a goal before a later one", lines("goal 0", "0", "goal 1", "1", "1 :- 0, not 0 [outsized]", "goal 2 [floundered]"),
+             at("goal 1, clause 1, literal 1: a flag")),
+        book("a literal behind a later goal, which has a flag", "47 00 43 00 00 00 47 01 50 00 00 01 00 00 45",
+             at("goal 0, clause 0, literal 0: a want")),
+        book("the last clause cannot prove", lines("goal 0", "0", "goal 1", "1", "1 [cannot prove]"), at("goal 1, clause 1: a flag")),
+        book("a want behind a later goal", "47 00 43 00 00 00 47 00 50 00 00 01 00 00 45", at("goal 0, clause 0, literal 0: a want")),
     ],
     "order": [
         book("no bytes", "", 1), book("the end alone", "45", 8), book("no end", "47 00", 1), book("no end, and not plain", "47 01", 1),
@@ -155,11 +179,11 @@ CASES = {
         book("two equal facts, and a coinductive goal", lines("goal 0", "0", "0", "goal 1 [coinductive]"), 36),
         book("not 0 twice", lines("goal 0", "0 :- not 0", "0 :- not 0"), 36),
         book("two equal facts, and no such goal", lines("goal 0", "0", "0", "0 :- 1"), 6),
-        book("not plain, and not levelled", lines("goal 0", "0/1 :- not 0"), 37),
-        book("floundered, and not levelled", "47 02 43 00 00 00 4E 00 00 00 45", 37),
-        book("a range, and not levelled", lines("goal 0", "0 :- 0/0-65535, not 0"), 37),
-        book("an outsized not of itself", lines("goal 0", "0 :- not 0 [outsized]"), 37),
-        book("equal but for the command", lines("goal 0", "0 :- 0", "0 :- 0/0-65535"), 37),
+        book("not plain, and not levelled", lines("goal 0", "0/1 :- not 0"), at("goal 0, clause 0: a variant")),
+        book("floundered, and not levelled", "47 02 43 00 00 00 4E 00 00 00 45", at("goal 0: a flag")),
+        book("a range, and not levelled", lines("goal 0", "0 :- 0/0-65535, not 0"), at("goal 0, clause 0, literal 0: a range")),
+        book("an outsized not of itself", lines("goal 0", "0 :- not 0 [outsized]"), at("goal 0, clause 0, literal 0: a flag")),
+        book("equal but for the command", lines("goal 0", "0 :- 0", "0 :- 0/0-65535"), at("goal 0, clause 1, literal 0: a range")),
         book("equal but for the not", lines("goal 0", "0 :- 0", "0 :- not 0"), (0,)),
         book("the literals in another order", lines("goal 0", "0 :- 1, not 2", "0 :- not 2, 1", "goal 1", "goal 2"), [1, 0, 0]),
     ],
@@ -167,11 +191,11 @@ CASES = {
 
 # Of each paper.
 PAPERS = {
-    "p1": 37, "p2": (0,), "p2-coinductive": 37, "p3": 37, "p4": 37, "p5": 37, "p5-not": 37, "p6": 37, "p6-one-fact": 37, "p7": 37,
-    "p8": [0, 0], "p9-empty": 1, "p9-end": 8, "p9-one-goal": [0], "release": 37, "goals-64": [0] * 64, "goals-65": 5, "clauses-256": 37,
-    "clauses-257": 5, "literals-8": [0] * 9, "literals-9": 5, "range-3-7": 37, "range-crossed": 32, "equal-clauses": 36,
+    "p1": at("goal 1, clause 0: a variant"), "p2": (0,), "p2-coinductive": at("goal 0: a flag"), "p3": at("goal 0: a flag"), "p4": at("goal 0: a flag"), "p5": at("goal 1: a flag"), "p5-not": at("goal 1: a flag"), "p6": at("goal 1, clause 0: a variant"), "p6-one-fact": at("goal 1, clause 0: a variant"), "p7": at("goal 0, clause 1: a variant"),
+    "p8": [0, 0], "p9-empty": 1, "p9-end": 8, "p9-one-goal": [0], "release": at("goal 0, clause 0: a variant"), "goals-64": [0] * 64, "goals-65": 5, "clauses-256": at("goal 0, clause 0: a variant"),
+    "clauses-257": 5, "literals-8": [0] * 9, "literals-9": 5, "range-3-7": at("goal 0, clause 0, literal 0: a range"), "range-crossed": 32, "equal-clauses": 36,
     "levels-p1": [1, 0, 0], "levels-not": (1, 2), "levels-chain": list(range(63, -1, -1)), "levels-cycle": tuple(range(64)),
-    "clauses-256-alike": 37, "clauses-256-twice": 36, "largest": 37, "largest-and-a-byte": 7, "largest-wants": 37,
+    "clauses-256-alike": at("goal 0, clause 0, literal 0: a range"), "clauses-256-twice": 36, "largest": at("goal 0, clause 0, literal 0: a range"), "largest-and-a-byte": 7, "largest-wants": at("goal 0, clause 0, literal 1: a want"),
     "mend-behind": [0, 0], "mend-both": 6, "mend-261": 6, "mend-256": 36, "largest-undefined": 6,
 }
 

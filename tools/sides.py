@@ -45,12 +45,22 @@ def listed_otherwise(who, words, books):
     return wrong
 
 
+class Number(int):
+    """The number of a refusal, and the place that is told behind it, if one is."""
+
+    def __new__(cls, number, place):
+        made = super().__new__(cls, number)
+        made.place = place
+        return made
+
+
 def in_xsb(oracle, command, asked):
-    """What the Rust's `to-xsb` says of books, or its `from-xsb` of texts: bytes, or the number of the refusal."""
+    """What the Rust's `to-xsb` says of books, or its `from-xsb` of texts: bytes, or the number of the refusal, with 37 and its place."""
     lines = "".join(data.hex() + "\n" for data in asked).encode()
     found = said([oracle, command, "lines"], lines).decode().split("\n.\n")[:-1]
     accepted = bytes.fromhex if command == "from-xsb" else lambda text: text.encode() + b"\n"
-    return [int(one[8:]) if one.startswith("refused") else accepted(one) for one in found]
+    refused = lambda number, _, place: Number(int(number[8:]), place)
+    return [refused(*one.partition("\n")) if one.startswith("refused") else accepted(one) for one in found]
 
 
 def failures(program, paper="largest.book"):

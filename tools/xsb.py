@@ -12,9 +12,9 @@ tools/xsb.py --time                   whole processes on the largest books and t
 
 `to_xsb` writes the text of a plain book on standard output: a line `:- table g0/0.` for each goal, and one for each clause. `from_xsb`
 writes the bytes of the book of such a text. Of what is refused nothing is on standard output, and `refused N` and the sentence of N on
-standard error: to_xsb has the desk's numbers, then 37 for a book that is not plain; from_xsb has 39 for a text of another form, wherever
-in the text that shows, and then the desk's numbers 5, 8, 6 and 36. An accepted text comes back from its book byte by byte, and a book from
-its text, with each literal behind its clause. Status 0 only if all is so.
+standard error: to_xsb has the desk's numbers, then 37 for a book that is not plain, with the first place that is not; from_xsb has 39 for a
+text of another form, wherever in the text that shows, and then the desk's numbers 5, 8, 6 and 36. An accepted text comes back from its book
+byte by byte, and a book from its text, with each literal behind its clause. Status 0 only if all is so.
 """
 import argparse
 import collections
@@ -30,7 +30,7 @@ import papers
 import sides
 import tree
 import xsb_texts
-from levels_books import every_book
+from levels_books import every_book, refusal
 from rules import book_of, clauses_of, for_xsb, timed
 
 LONG = 3000000
@@ -53,7 +53,7 @@ class Side:
 
 def wanted(said):
     """What a program must do: what it writes, on standard output and on standard error."""
-    return (b"", b"refused %d\n%s\n" % (said, xsb_texts.SENTENCES[said].encode()), 0) if isinstance(said, int) else (said, b"", 0)
+    return (b"", refusal(said, xsb_texts.SENTENCES).encode(), 0) if isinstance(said, int) else (said, b"", 0)
 
 
 def run(words, data):

@@ -6,7 +6,7 @@
 //! that a "not" within a component leaves none. Without such a "not" the level of a component is the largest
 //! number of "not"s on a way down from it.
 
-use crate::book::{Book, Literal};
+use crate::book::{Book, Clause, Literal};
 use crate::numberings::model_by;
 use chalk_ir::Want;
 use std::fmt::Write;
@@ -43,6 +43,49 @@ pub fn is_plain(book: &Book) -> bool {
         && book.clauses.iter().all(|clause| {
             clause.variant == 0 && !clause.cannot_prove && !clause.outsized && clause.literals.iter().all(literal)
         })
+}
+
+/// All that is not plain in a clause, the `number`th of its goal: the place and what it is, with numbers that say which comes first.
+fn faults_of(clause: &Clause, number: usize, out: &mut Vec<([usize; 4], String)>) {
+    let goal = clause.goal;
+    let mut fault = |literal: Option<usize>, rank: usize, what: &str| {
+        let deeper = literal.map_or(String::new(), |literal| format!(", literal {literal}"));
+        let at = literal.map_or(0, |literal| literal + 1);
+        out.push(([goal, number + 1, at, rank], format!("goal {goal}, clause {number}{deeper}: a {what}\n")));
+    };
+    if clause.variant != 0 {
+        fault(None, 0, "variant");
+    }
+    if clause.cannot_prove || clause.outsized {
+        fault(None, 1, "flag");
+    }
+    for (at, literal) in clause.literals.iter().enumerate() {
+        match literal.want {
+            Want::Any => {}
+            Want::Exactly(_) => fault(Some(at), 0, "want"),
+            Want::Between(..) => fault(Some(at), 0, "range"),
+        }
+        if literal.outsized {
+            fault(Some(at), 1, "flag");
+        }
+    }
+}
+
+/// A line with the first place that is not plain, in book order; none of a book that is plain or that the desk refuses.
+pub fn place_line(bytes: &[u8]) -> String {
+    let Ok(book) = Book::desk(bytes) else { return String::new() };
+    let mut faults = Vec::new();
+    for (goal, flags) in book.goals.iter().enumerate() {
+        if flags.coinductive || flags.floundered {
+            faults.push(([goal, 0, 0, 0], format!("goal {goal}: a flag\n")));
+        }
+    }
+    let mut counted = vec![0; book.goals.len()];
+    for clause in &book.clauses {
+        faults_of(clause, counted[clause.goal], &mut faults);
+        counted[clause.goal] += 1;
+    }
+    faults.into_iter().min().map_or(String::new(), |(_, line)| line)
 }
 
 /// The goals that are led to from a goal and were not seen before, each after those that it leads to, but for
@@ -146,6 +189,7 @@ pub fn text(bytes: &[u8]) -> String {
         }
         Err(Refused { number, on_cycle }) => {
             let _ = writeln!(out, "refused {number}\n{}", sentence(number));
+            out.push_str(&place_line(bytes));
             if number == 38 {
                 let goals: Vec<String> = on_cycle.iter().map(usize::to_string).collect();
                 let _ = writeln!(out, "goals on a cycle through \"not\": {}", goals.join(" "));

@@ -87,11 +87,11 @@ fn each_book(said: fn(&[u8]) -> Result<String, String>) -> Result<(), String> {
 }
 
 /// What came of a book or a text on standard output; a refusal on standard error, with nothing on standard output.
-fn given(said: Result<Vec<u8>, u8>) -> Result<(), String> {
+fn given(said: Result<Vec<u8>, String>) -> Result<(), String> {
     match said {
         Ok(bytes) => io::stdout().write_all(&bytes).map_err(|e| e.to_string()),
-        Err(number) => {
-            eprint!("{}", xsb::refusal(number));
+        Err(lines) => {
+            eprint!("{lines}");
             Ok(())
         }
     }
@@ -169,9 +169,9 @@ fn command(words: &[&str]) -> Result<(), String> {
             io::stdout().write_all(levels::text(&input(rest)?).as_bytes()).map_err(|e| e.to_string())
         }
         ["to-xsb", "lines"] => each_book(|bytes| Ok(xsb::text_line(bytes))),
-        ["to-xsb", rest @ ..] => given(xsb::export(&input(rest)?).map(String::into_bytes)),
+        ["to-xsb", rest @ ..] => given(xsb::export_or_lines(&input(rest)?)),
         ["from-xsb", "lines"] => each_book(|text| Ok(xsb::book_line(text))),
-        ["from-xsb", rest @ ..] => given(xsb::import(&input(rest)?).map(|book| book.bytes())),
+        ["from-xsb", rest @ ..] => given(xsb::import(&input(rest)?).map(|book| book.bytes()).map_err(xsb::refusal)),
         ["mend", "lines"] => each_book(|bytes| Ok(mend::said(bytes))),
         ["mend", "damaged", seed, count] => {
             print!("{}", mend::damaged::damaged(number(seed)?, number(count)?)?.told());

@@ -5,7 +5,7 @@
 //! exam desk, which knows its own numbers.
 
 use crate::book::{Book, CLAUSE, END, GOAL, NOT, POSITIVE};
-use crate::levels::{is_plain, sentence};
+use crate::levels::{is_plain, place_line, sentence};
 use crate::script::to_hex;
 use std::fmt::Write;
 
@@ -18,6 +18,11 @@ const OTHER_FORM: u8 = 39;
 /// What a text is refused with, on two lines.
 pub fn refusal(number: u8) -> String {
     format!("refused {number}\n{}\n", sentence(number))
+}
+
+/// The text of a book, or what it is refused with, and with 37 the place that is not plain first.
+pub fn export_or_lines(bytes: &[u8]) -> Result<Vec<u8>, String> {
+    export(bytes).map(String::into_bytes).map_err(|number| refusal(number) + &place_line(bytes))
 }
 
 /// A literal, or a head.
@@ -135,9 +140,9 @@ pub fn import(text: &[u8]) -> Result<Book, u8> {
     Book::desk(&written(tables, &rules))
 }
 
-/// What `to-xsb lines` says of a book.
+/// What `to-xsb lines` says of a book; behind `refused 37` the place that is not plain first.
 pub fn text_line(bytes: &[u8]) -> String {
-    export(bytes).unwrap_or_else(|number| format!("refused {number}\n"))
+    export(bytes).unwrap_or_else(|number| format!("refused {number}\n{}", place_line(bytes)))
 }
 
 /// What `from-xsb lines` says of a text: the book's bytes as hex digits.

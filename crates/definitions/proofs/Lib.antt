@@ -10,6 +10,7 @@ pub mod Desk
 pub mod DeskNumbers
 pub mod Members
 pub mod PlainTest
+pub mod NotPlain
 pub mod Passes
 pub mod Trails
 pub mod Levels

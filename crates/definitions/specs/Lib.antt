@@ -28,6 +28,7 @@ pub mod RangeCases
 pub mod DeskCases
 pub mod Model
 pub mod Levels
+pub mod NotPlain
 pub mod LevelCases
 pub mod Xsb
 pub mod XsbForm

@@ -5,31 +5,34 @@ use native.Mathlib.Omega.{arith}
 use native.Mathlib.Decide.{ℕ-discrete}
 use mathlib.Core.Path.{_≡_, refl, sym, ap, _∙_}
 use mathlib.Core.Bool.{Bool}
+use mathlib.Core.Option.{Option}
 use mathlib.Core.List.{List, [], _++_}
 use borrow.Author.Tests.{ne-eqb}
 use Rattle.definitions.specs.Refusal.{Refusable, refused, accepted}
 use Rattle.definitions.specs.Book.{Book}
 use Rattle.definitions.specs.Desk.{desk}
 use Rattle.definitions.specs.Levels.{levels-at-desk, check-levels}
+use Rattle.definitions.specs.NotPlain.{Place, not-plain-place}
 use Rattle.definitions.proofs.Refusal.{same-refused}
 use Rattle.definitions.proofs.DeskNumbers.{Below, by-number, taken, desk-below}
 use Rattle.pen.specs.Pen.{Pen, put-all}
 use Rattle.pen.specs.Refusals.{refusal-lines}
+use Rattle.pen.specs.Places.{place-line}
 use Rattle.profile.proofs.Once.{marks-once}
 use Rattle.levels.specs.Words.{reason-words, refused-words, level-words, Tells}
 
 -- the marks are in the words of 38 alone
-words-once : (c : Refusable (List ℕ)) (a b : List ℕ) → (c ≡ refused 38 → a ≡ b) → level-words c a ≡ level-words c b
+words-once : (c : Refusable (List ℕ)) (o : Option Place) (a b : List ℕ) → (c ≡ refused 38 → a ≡ b) → level-words c o a ≡ level-words c o b
 unfolding refused-words
-words-once (accepted levels) a b e = refl
-words-once (refused n) a b e = on (ℕ-discrete n 38)
+words-once (accepted levels) o a b e = refl
+words-once (refused n) o a b e = on (ℕ-discrete n 38)
   where
-    plain : (marks : List ℕ) → (n ≡ 38 → ⊥) → refused-words n marks ≡ refusal-lines n ++ []
-    plain marks o = ap (λ (t : Bool). refusal-lines n ++ reason-words t marks) (ne-eqb n 38 o)
+    plain : (marks : List ℕ) → (n ≡ 38 → ⊥) → refused-words n o marks ≡ refusal-lines n ++ (place-line o ++ [])
+    plain marks k = ap (λ (t : Bool). refusal-lines n ++ (place-line o ++ reason-words t marks)) (ne-eqb n 38 k)
 
-    on : Dec (n ≡ 38) → refused-words n a ≡ refused-words n b
-    on (yes k) = ap (refused-words n) (e (ap refused k))
-    on (no o) = plain a o ∙ sym (plain b o)
+    on : Dec (n ≡ 38) → refused-words n o a ≡ refused-words n o b
+    on (yes k) = ap (refused-words n o) (e (ap refused k))
+    on (no k) = plain a k ∙ sym (plain b k)
 
 told-marks-once : (bytes : List ℕ) (p q r : Pen) (x : Tells bytes p q) (y : Tells bytes p r) → check-levels bytes ≡ refused 38
     → x .marks ≡ y .marks
@@ -41,5 +44,5 @@ told-marks-once bytes p q r x y e = on (desk bytes) refl (desk-below bytes)
 
 pub told-once : (bytes : List ℕ) (p q r : Pen) → Tells bytes p q → Tells bytes p r → q ≡ r
 told-once bytes p q r x y =
-    x .told ∙ ap (λ (w : List ℕ). put-all w p) (words-once (check-levels bytes) (x .marks) (y .marks) (told-marks-once bytes p q r x y))
+    x .told ∙ ap (λ (w : List ℕ). put-all w p) (words-once (check-levels bytes) (not-plain-place bytes) (x .marks) (y .marks) (told-marks-once bytes p q r x y))
     ∙ sym (y .told)

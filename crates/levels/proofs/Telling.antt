@@ -5,6 +5,7 @@ use native.Mathlib.Omega.{arith}
 use native.Mathlib.Numerals.{add-one}
 use mathlib.Core.Bool.{Bool, true, false}
 use mathlib.Core.Path.{_≡_, sym, ap, _∙_}
+use mathlib.Core.Option.{Option}
 use mathlib.Core.List.{List, [], _++_}
 use lib.ListN.{length, getD, take, drop, drop-of-length-le}
 use lib.Seq.{drop-cons, length-take-le}
@@ -13,11 +14,16 @@ use borrow.Author.Tests.{eq-eqb, ne-eqb}
 use Rattle.definitions.specs.Ascii.{ascii}
 use Rattle.definitions.specs.Listing.{decimal}
 use Rattle.definitions.specs.Refusal.{Refusable, refused}
+use Rattle.definitions.specs.NotPlain.{Place, not-plain-place, place-of}
 use Rattle.definitions.proofs.Refusal.{same-refused, not-accepted}
 use Rattle.pen.specs.Pen.{Pen, put-all}
 use Rattle.pen.specs.Refusals.{refusal-lines}
+use Rattle.pen.specs.Places.{place-line}
 use Rattle.pen.proofs.Putting.{put-two, put-nothing, put-left, put-ended}
 use Rattle.profile.specs.declared.Profile.{Profile}
+use Rattle.profile.specs.declared.NotPlain.{NotPlain}
+use Rattle.profile.specs.Places.{numbers}
+use Rattle.profile.proofs.Tested.{place-by}
 use Rattle.profile.specs.Profile.{profile-by, profile-seen, Profiles}
 use Rattle.levels.specs.Words.{words-from, level-line, level-lines, marked-by, marked-words, cycle-words, reason-words, refused-words}
 use Rattle.levels.specs.Words.{level-words, Tells}
@@ -73,20 +79,23 @@ cycle-said marks p q r s e f g =
 
 -- A refusal, by whether its number is 38.
 
-reason-said : (n : ℕ) (b : Bool) (marks : List ℕ) (p q r : Pen) → eqb n 38 ≡ b → q ≡ put-all (refusal-lines n) p
-    → r ≡ put-all (reason-words b marks) q → r ≡ put-all (refused-words n marks) p
-unfolding refused-words
-reason-said n b marks p q r e f g =
-    put-two (refusal-lines n) (reason-words b marks) p q r f g
-    ∙ ap (λ (c : Bool). put-all (refusal-lines n ++ reason-words c marks) p) (sym e)
+module _ (n : ℕ) (o : Option Place) (at : NotPlain) (marks : List ℕ) (p q s : Pen) (e : q ≡ put-all (refusal-lines n) p)
+    (f : at ≡ numbers o)
+    (g : s ≡ put-all (place-line (place-of (at .what) (at .«in_clause») (at .«in_literal») (at .goal) (at .clause) (at .literal))) q)
+  where
+    reason-said : (b : Bool) (r : Pen) → eqb n 38 ≡ b → r ≡ put-all (reason-words b marks) s → r ≡ put-all (refused-words n o marks) p
+    unfolding refused-words
+    reason-said b r k h =
+        put-two (refusal-lines n) (place-line o ++ reason-words b marks) p q r e
+        (put-two (place-line o) (reason-words b marks) q s r
+        (g ∙ ap (λ (x : Option Place). put-all (place-line x) q) (place-by o at f)) h)
+        ∙ ap (λ (c : Bool). put-all (refusal-lines n ++ (place-line o ++ reason-words c marks)) p) (sym k)
 
-pub refused-38-said : (n : ℕ) (marks : List ℕ) (p q r : Pen) → n ≡ 38 → q ≡ put-all (refusal-lines n) p → r ≡ put-all (cycle-words marks) q
-    → r ≡ put-all (refused-words n marks) p
-refused-38-said n marks p q r e f g = reason-said n true marks p q r (eq-eqb n 38 e) f g
+    pub refused-38-said : (r : Pen) → n ≡ 38 → r ≡ put-all (cycle-words marks) s → r ≡ put-all (refused-words n o marks) p
+    refused-38-said r k h = reason-said true r (eq-eqb n 38 k) h
 
-pub refused-said : (n : ℕ) (marks : List ℕ) (p q : Pen) → (n ≡ 38 → ⊥) → q ≡ put-all (refusal-lines n) p
-    → q ≡ put-all (refused-words n marks) p
-refused-said n marks p q e f = reason-said n false marks p q q (ne-eqb n 38 e) f (sym (put-nothing q))
+    pub refused-said : (n ≡ 38 → ⊥) → s ≡ put-all (refused-words n o marks) p
+    refused-said k = reason-said false s (ne-eqb n 38 k) (sym (put-nothing s))
 
 -- What the check says.
 
@@ -95,12 +104,12 @@ refused-by true r n e = absurd (not-accepted (sym e))
 refused-by false r n e = same-refused e
 
 -- the marks are told by the profile wherever the check says 38
-tells : (bytes : List ℕ) (r : Profile) (p q : Pen) → Profiles bytes r → q ≡ put-all (level-words (profile-seen r) (r .«on_cycle»)) p
+tells : (bytes : List ℕ) (r : Profile) (p q : Pen) → Profiles bytes r → q ≡ put-all (level-words (profile-seen r) (not-plain-place bytes) (r .«on_cycle»)) p
     → Tells bytes p q
 tells bytes r p q x e = record {
   marks = r .«on_cycle»;
   marked = λ book d k. x .cycles book d (refused-by (eqb (r .number) 0) r 38 (x .means ∙ k));
-  told = e ∙ ap (λ (c : Refusable (List ℕ)). put-all (level-words c (r .«on_cycle»)) p) (x .means);
+  told = e ∙ ap (λ (c : Refusable (List ℕ)). put-all (level-words c (not-plain-place bytes) (r .«on_cycle»)) p) (x .means);
 }
 
 -- there are as many levels as goals
@@ -110,9 +119,9 @@ as-many-levels bytes r x = sym (length-take-le (r .goals) (r .levels) (omega (ar
 pub tells-levels : (bytes : List ℕ) (r : Profile) (p q : Pen) → Profiles bytes r → r .number ≡ 0
     → q ≡ put-all (level-lines 0 (take (r .goals) (r .levels))) p → Tells bytes p q
 tells-levels bytes r p q x e f =
-    tells bytes r p q x (f ∙ ap (λ (b : Bool). put-all (level-words (profile-by b r) (r .«on_cycle»)) p) (sym (eq-eqb (r .number) 0 e)))
+    tells bytes r p q x (f ∙ ap (λ (b : Bool). put-all (level-words (profile-by b r) (not-plain-place bytes) (r .«on_cycle»)) p) (sym (eq-eqb (r .number) 0 e)))
 
 pub tells-refusal : (bytes : List ℕ) (r : Profile) (p q : Pen) → Profiles bytes r → (r .number ≡ 0 → ⊥)
-    → q ≡ put-all (refused-words (r .number) (r .«on_cycle»)) p → Tells bytes p q
+    → q ≡ put-all (refused-words (r .number) (not-plain-place bytes) (r .«on_cycle»)) p → Tells bytes p q
 tells-refusal bytes r p q x e f =
-    tells bytes r p q x (f ∙ ap (λ (b : Bool). put-all (level-words (profile-by b r) (r .«on_cycle»)) p) (sym (ne-eqb (r .number) 0 e)))
+    tells bytes r p q x (f ∙ ap (λ (b : Bool). put-all (level-words (profile-by b r) (not-plain-place bytes) (r .«on_cycle»)) p) (sym (ne-eqb (r .number) 0 e)))

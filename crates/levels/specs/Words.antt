@@ -1,8 +1,9 @@
--- What `levels` prints: a line for each goal with its level; or a refusal with its sentence, and with 38 the goals that are on a cycle
--- through "not", so that the paper can be mended.
+-- What `levels` prints: a line for each goal with its level; or a refusal with its sentence, and then what to look at: with 37 the place
+-- that is not plain first, with 38 the goals that are on a cycle through "not".
 use Prim.Native.Nat.{ℕ, suc}
 use mathlib.Core.Path.{_≡_}
 use mathlib.Core.Bool.{Bool, true, false}
+use mathlib.Core.Option.{Option}
 use mathlib.Core.List.{List, [], _∷_, _++_}
 use lib.Dec.{eqb}
 use Rattle.definitions.specs.Ascii.{ascii}
@@ -11,9 +12,11 @@ use Rattle.definitions.specs.Refusal.{Refusable, refused, accepted}
 use Rattle.definitions.specs.Book.{Book}
 use Rattle.definitions.specs.Desk.{desk}
 use Rattle.definitions.specs.Levels.{check-levels}
+use Rattle.definitions.specs.NotPlain.{Place, not-plain-place}
 use Rattle.profile.specs.Profile.{Marks}
 use Rattle.pen.specs.Pen.{Pen, put-all}
 use Rattle.pen.specs.Refusals.{refusal-lines}
+use Rattle.pen.specs.Places.{place-line}
 
 -- the words of each goal with its number in a list, from the goal g on
 unfoldable pub words-from : ((goal number : ℕ) → List ℕ) → ℕ → List ℕ → List ℕ
@@ -37,22 +40,23 @@ marked-words goal mark = marked-by (eqb mark 1) goal
 unfoldable pub cycle-words : (marks : List ℕ) → List ℕ
 cycle-words marks = ascii "goals on a cycle through \"not\":" ++ (words-from marked-words 0 marks ++ ascii "\n")
 
--- behind the refusal's lines; the goals on a cycle are why a paper is refused with 38, and with no other number
+-- behind the refusal's lines; the goals on a cycle are why a paper is refused with 38, and with no other number. Nor is there a place that
+-- is not plain with any other number than 37 (definitions NotPlain: `place-of-37`, `no-place-but-37`).
 abbrev pub reason-words : (of-38 : Bool) → (marks : List ℕ) → List ℕ
 reason-words true marks = cycle-words marks
 reason-words false marks = []
 
-unfoldable pub refused-words : ℕ → (marks : List ℕ) → List ℕ
-refused-words n marks = refusal-lines n ++ reason-words (eqb n 38) marks
+unfoldable pub refused-words : ℕ → Option Place → (marks : List ℕ) → List ℕ
+refused-words n place marks = refusal-lines n ++ (place-line place ++ reason-words (eqb n 38) marks)
 
--- THE WORDS of a paper's check, by the marks of the goals on a cycle
-abbrev pub level-words : Refusable (List ℕ) → (marks : List ℕ) → List ℕ
-level-words (accepted levels) marks = level-lines 0 levels
-level-words (refused n) marks = refused-words n marks
+-- THE WORDS of a paper's check, by the place that is not plain first and the marks of the goals on a cycle
+abbrev pub level-words : Refusable (List ℕ) → Option Place → (marks : List ℕ) → List ℕ
+level-words (accepted levels) place marks = level-lines 0 levels
+level-words (refused n) place marks = refused-words n place marks
 
 -- the words of a byte string's check are put down. The marks are those of its goals wherever they are told; so from a buffer and a byte
 -- string there is one outcome (proofs/Once: `told-once`).
 pub record Tells (bytes : List ℕ) (before after : Pen) : Type 0 where
   pub marks : List ℕ
   pub marked : (book : Book) → desk bytes ≡ accepted book → check-levels bytes ≡ refused 38 → Marks book marks
-  pub told : after ≡ put-all (level-words (check-levels bytes) marks) before
+  pub told : after ≡ put-all (level-words (check-levels bytes) (not-plain-place bytes) marks) before

@@ -3,14 +3,21 @@
 //     0 1
 //     1 0
 //
-// One that is refused has its number and the number's sentence; and one that is not levelled also the goals to look at:
+// One that is refused has its number and the number's sentence; and one that is not plain, or not levelled, also where to look:
+//
+//     refused 37
+//     not plain: a variant, a want or a flag that is not 0, or a range
+//     goal 3, clause 0, literal 1: a want
 //
 //     refused 38
 //     not levelled: no numbers can be given to the goals so that each "not" leads lower and no other literal higher
 //     goals on a cycle through "not": 0 1 5
+use pen::places::place;
 use pen::refusals;
 use profile::levels;
+use profile::place::not_plain;
 ghost use mathlib.Core.Path.{_≡_};
+ghost use Rattle.definitions.specs.NotPlain.{not-plain-place};
 ghost use Rattle.pen.specs.Pen.{pen, put-all};
 ghost use Rattle.levels.specs.Words.{words-from, level-line as levelLine, level-lines as levelLines, marked-words};
 ghost use Rattle.levels.specs.Words.{cycle-words, refused-words, Tells};
@@ -65,15 +72,27 @@ fn cycle_line(out: &mut [u8], at: usize, marks: &[u8]) -> usize
     pen::text(out, told, b"\n")
 }
 
-// A refusal, and with 38 the goals that are marked.
-fn refused(out: &mut [u8], at: usize, number: u8, marks: &[u8]) -> usize
-    ensures { λ r. ⌜ pen (now (out .exit)) r ≡ put-all (refused-words number (now (marks .entry))) (pen (now (out .entry)) at) ⌝ }
+// A refusal of a paper; with 37 the place that is not plain first, with 38 the goals that are marked.
+fn refused(out: &mut [u8], at: usize, number: u8, bytes: &[u8], marks: &[u8]) -> usize
+    ensures { λ r. ⌜ pen (now (out .exit)) r
+        ≡ put-all (refused-words number (not-plain-place (now (bytes .entry))) (now (marks .entry))) (pen (now (out .entry)) at) ⌝ }
 {
     let said = refusals::refusal(out, at, number);
+    let p = not_plain(bytes);
+    let placed = place(
+        out,
+        said,
+        p.what,
+        p.in_clause,
+        p.in_literal,
+        p.goal,
+        p.clause,
+        p.literal,
+    );
     if number == 38 {
-        return cycle_line(out, said, marks);
+        return cycle_line(out, placed, marks);
     }
-    said
+    placed
 }
 
 // What the check of a byte string says, put down from the start of the buffer on.
@@ -87,5 +106,5 @@ pub(crate) fn say(out: &mut [u8], bytes: &[u8]) -> usize
         return level_lines(out, 0, &levels[..goals]);
     }
     let marks = p.on_cycle;
-    refused(out, 0, p.number, &marks)
+    refused(out, 0, p.number, bytes, &marks)
 }

@@ -1,5 +1,6 @@
 // Prints whether a paper is plain and levelled, so that what is promised of such papers holds of it: a line for each goal with its least
-// level; or `refused` and the number, with its sentence on the next line, and behind 38 the goals that are on a cycle through "not".
+// level; or `refused` and the number, with its sentence on the next line, and behind 37 the first place that is not plain, behind 38 the
+// goals that are on a cycle through "not".
 // No contract can speak of what is read or written: the program's run on its file `stdin`, held to its file `stdout`, guards that. The
 // paper there is not levelled. Of its goals 0, 1, 2 and 7 are on a cycle through "not"; 4 only leads to one, 3 is only reached from one; 5
 // and 6 rest on each other without a "not", though a clause of theirs has one.

@@ -1,3 +1,4 @@
 pub mod Putting
 pub mod Decimal
 pub mod Sentences
+pub mod Placing

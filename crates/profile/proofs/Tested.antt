@@ -1,235 +1,352 @@
--- Plain, tested by a book's arrays: a literal, a clause, and the loops over literals, clauses and goals.
+-- Where a book is not plain first, by its arrays: the fault of a literal, of a clause's head and of a goal; and the loops over literals,
+-- clauses and goals. What is left decides, as long as nothing before it has a fault.
 use Prim.Native.Nat.{ℕ, zero, suc, _+_, _-_, _%_, _≤_, _<_}
 use native.Mathlib.Omega.{arith}
 use mathlib.Core.Path.{_≡_, refl, sym, ap, ap₂, subst, _∙_}
-use mathlib.Core.Bool.{Bool, true, false, not, _&&_}
+use mathlib.Core.Bool.{Bool, true, false}
+use mathlib.Core.Option.{Option, none, some}
 use mathlib.Core.List.{List}
 use lib.ListN.{getD}
 use lib.Dec.{eqb}
 use borrow.Author.Tests.{eq-eqb, ne-eqb}
 use Rattle.laws.specs.Spans.{span}
-use Rattle.laws.proofs.Bools.{was-true, was-false}
 use Rattle.laws.proofs.Spans.{span-left, span-done}
 use Rattle.definitions.specs.Book as said
 use Rattle.definitions.specs.Book.{bit0, bit1}
-use Rattle.definitions.specs.Levels.{each-passes, wants-any, plain-literal, plain-clause, plain-goal, is-plain}
+use Rattle.definitions.specs.Levels.{is-plain}
+use Rattle.definitions.specs.NotPlain.{Fault, a-flag, a-variant, a-want, a-range, Place, in-goal, in-clause, in-literal, or-else}
+use Rattle.definitions.specs.NotPlain.{flag-fault, want-fault, variant-fault, literal-fault, goal-fault, placed, first-from, literal-place}
+use Rattle.definitions.specs.NotPlain.{clause-place, goal-place, first-not-plain, place-at-desk, not-plain-place, place-of}
+use Rattle.definitions.specs.Desk.{desk}
+use Rattle.definitions.proofs.NotPlain.{is-none, none-is}
 use Rattle.book.specs.declared.Literal.{Literal}
 use Rattle.book.specs.declared.Book.{Book}
-use Rattle.book.specs.View.{meant, signed, wanted, bit2, goal-viewed, view, Sound}
+use Rattle.book.specs.declared.Reading.{Reading}
+use Rattle.book.specs.View.{meant, signed, wanted, bit2, goal-viewed, view, Sound, Taken}
 use Rattle.book.specs.Access.{entry, literal-read}
 use Rattle.book.specs.Repeats.{Lent, clause-read, literals-read}
 use Rattle.book.proofs.Looks.{entry-in}
 use Rattle.book.proofs.Shown.{lent-by}
 use Rattle.book.proofs.TwiceInBook.{goal-shown}
+use Rattle.profile.specs.declared.NotPlain.{NotPlain}
+use Rattle.profile.specs.Places.{fault-number, made, no-place, numbers, head-read, goal-read}
+use Rattle.profile.proofs.Papers.{gave}
 
--- A literal.
+-- A fault and a place by their numbers.
 
-out-fails : (negative : Bool) (goal : ℕ) (want : said.Want) → plain-literal (signed negative goal want true) ≡ false
-out-fails true goal want = refl
-out-fails false goal want = on (wants-any want)
-  where
-    on : (t : Bool) → (t && false) ≡ false
-    on true = refl
-    on false = refl
+no-fault : (o : Option Fault) → fault-number o ≡ 0 → o ≡ none
+no-fault none e = refl
+no-fault (some a-flag) e = absurd (omega arith)
+no-fault (some a-variant) e = absurd (omega arith)
+no-fault (some a-want) e = absurd (omega arith)
+no-fault (some a-range) e = absurd (omega arith)
 
-module _ (l : Literal) where
-  abbrev said-by : (negative outsized ranged : Bool) → said.Literal
-  said-by negative outsized ranged = signed negative (l .goal) (wanted ranged (l .want) (l .high)) outsized
+some-fault : (f : Fault) → fault-number (some f) ≡ 0 → ⊥
+some-fault a-flag e = omega arith
+some-fault a-variant e = omega arith
+some-fault a-want e = omega arith
+some-fault a-range e = omega arith
 
-  abbrev passes-by : (negative outsized ranged : Bool) → Bool
-  passes-by negative outsized ranged = plain-literal (said-by negative outsized ranged)
+nowhere : (o : Option Place) → numbers o .what ≡ 0 → o ≡ none
+nowhere none e = refl
+nowhere (some (in-goal g f)) e = absurd (some-fault f e)
+nowhere (some (in-clause g k f)) e = absurd (some-fault f e)
+nowhere (some (in-literal g k j f)) e = absurd (some-fault f e)
 
-  pub outsized-fails : l .kind % 2 ≡ 1 → false ≡ plain-literal (meant l)
-  outsized-fails e =
-      sym (ap (λ (o : Bool). passes-by (bit1 (l .kind)) o (bit2 (l .kind))) (eq-eqb (l .kind % 2) 1 e)
-      ∙ out-fails (bit1 (l .kind)) (l .goal) (wanted (bit2 (l .kind)) (l .want) (l .high)))
+found-first : (o other : Option Place) → (numbers o .what ≡ 0 → ⊥) → numbers o ≡ numbers (or-else o other)
+found-first none other n = absurd (n refl)
+found-first (some p) other n = refl
 
-  module _ (n : Bool) (small : l .kind % 2 ≡ 1 → ⊥) (hn : n ≡ bit1 (l .kind)) where
-    clear : bit0 (l .kind) ≡ false
-    clear = ne-eqb (l .kind % 2) 1 small
+-- the numbers settle the place
+pub place-told : (o : Option Place)
+    → place-of (numbers o .what) (numbers o .«in_clause») (numbers o .«in_literal») (numbers o .goal) (numbers o .clause) (numbers o .literal)
+    ≡ o
+place-told none = refl
+place-told (some (in-goal g a-flag)) = refl
+place-told (some (in-goal g a-variant)) = refl
+place-told (some (in-goal g a-want)) = refl
+place-told (some (in-goal g a-range)) = refl
+place-told (some (in-clause g k a-flag)) = refl
+place-told (some (in-clause g k a-variant)) = refl
+place-told (some (in-clause g k a-want)) = refl
+place-told (some (in-clause g k a-range)) = refl
+place-told (some (in-literal g k j a-flag)) = refl
+place-told (some (in-literal g k j a-variant)) = refl
+place-told (some (in-literal g k j a-want)) = refl
+place-told (some (in-literal g k j a-range)) = refl
 
-    pub not-passes : n ≡ true → true ≡ plain-literal (meant l)
-    not-passes t =
-        sym (ap (λ (o : Bool). passes-by (bit1 (l .kind)) o (bit2 (l .kind))) clear
-        ∙ ap (λ (m : Bool). passes-by m false (bit2 (l .kind))) (sym hn ∙ t))
+pub place-by : (o : Option Place) (p : NotPlain) → p ≡ numbers o
+    → place-of (p .what) (p .«in_clause») (p .«in_literal») (p .goal) (p .clause) (p .literal) ≡ o
+place-by o p e =
+    ap (λ (r : NotPlain). place-of (r .what) (r .«in_clause») (r .«in_literal») (r .goal) (r .clause) (r .literal)) e ∙ place-told o
 
-    module _ (r : Bool) (hr : r ≡ bit2 (l .kind)) (positive : n ≡ false) where
-      as-positive : plain-literal (meant l) ≡ passes-by false false r
-      as-positive =
-          ap (λ (o : Bool). passes-by (bit1 (l .kind)) o (bit2 (l .kind))) clear
-          ∙ ap (λ (m : Bool). passes-by m false (bit2 (l .kind))) (sym hn ∙ positive)
-          ∙ ap (passes-by false false) (sym hr)
+-- a fault that was found, with its place
+placed-so : (at : Fault → Place) (c? l? : Bool) (g k j : ℕ) → ((f : Fault) → made (fault-number (some f)) c? l? g k j ≡ numbers (some (at f)))
+    → (o : Option Fault) (w : ℕ) → w ≡ fault-number o → (w ≡ 0 → ⊥) → made w c? l? g k j ≡ numbers (placed at o)
+placed-so at c? l? g k j same none w e n = absurd (n e)
+placed-so at c? l? g k j same (some f) w e n = ap (λ (m : ℕ). made m c? l? g k j) e ∙ same f
 
-      pub range-fails : r ≡ true → false ≡ plain-literal (meant l)
-      range-fails t = sym (as-positive ∙ ap (passes-by false false) t)
+-- and none
+unplaced : (at : Fault → Place) (o : Option Fault) (w : ℕ) → w ≡ fault-number o → w ≡ 0 → placed at o ≡ none
+unplaced at o w e z = ap (placed at) (no-fault o (sym e ∙ z))
 
-      pub any-passes : r ≡ false → eqb (l .want) 0 ≡ plain-literal (meant l)
-      any-passes f = wanted-any (l .want) ∙ sym (as-positive ∙ ap (passes-by false false) f)
-        where
-          wanted-any : (w : ℕ) → eqb w 0 ≡ (wants-any (said.want-of w) && true)
-          wanted-any zero = refl
-          wanted-any (suc w) = ne-eqb (suc w) 0 (λ e. omega arith)
+-- The faults.
 
--- A clause.
+pub flag-set : (kind : ℕ) → kind % 2 ≡ 1 → 1 ≡ fault-number (flag-fault (bit0 kind))
+flag-set kind e = sym (ap (λ (b : Bool). fault-number (flag-fault b)) (eq-eqb (kind % 2) 1 e))
 
-module _ (c : said.Clause) where
-  abbrev clause-by : (whole weak out rest : Bool) → Bool
-  clause-by whole weak out rest = whole && (not weak && (not out && rest))
+pub flag-clear : (kind : ℕ) → (kind % 2 ≡ 1 → ⊥) → 0 ≡ fault-number (flag-fault (bit0 kind))
+flag-clear kind n = sym (ap (λ (b : Bool). fault-number (flag-fault b)) (ne-eqb (kind % 2) 1 n))
 
-  rest-of : Bool
-  rest-of = each-passes plain-literal (c .literals)
+module _ (l : Literal) (n : Bool) (hn : n ≡ bit1 (l .kind)) where
+  abbrev fault-by : (negative ranged : Bool) → ℕ
+  fault-by negative ranged = fault-number (literal-fault (signed negative (l .goal) (wanted ranged (l .want) (l .high)) (bit0 (l .kind))))
 
-  whole-is : (v : ℕ) → v ≡ c .variant → v ≡ 0 → eqb (c .variant) 0 ≡ true
-  whole-is v hv z = eq-eqb (c .variant) 0 (sym hv ∙ z)
+  pub not-fault : (r : ℕ) → n ≡ true → r ≡ fault-number (flag-fault (bit0 (l .kind))) → r ≡ fault-number (literal-fault (meant l))
+  not-fault r t e = e ∙ ap (λ (b : Bool). fault-by b (bit2 (l .kind))) (sym t ∙ hn)
 
-  pub variant-fails : (v : ℕ) → v ≡ c .variant → (v ≡ 0 → ⊥) → false ≡ plain-clause c
-  variant-fails v hv n =
-      sym (ap (λ (b : Bool). b && (not (c .cannot-prove) && (not (c .outsized) && each-passes plain-literal (c .literals))))
-      (ne-eqb (c .variant) 0 (λ e. n (hv ∙ e))))
+  module _ (positive : n ≡ false) (q : Bool) (hq : q ≡ bit2 (l .kind)) where
+    as-positive : fault-by false q ≡ fault-number (literal-fault (meant l))
+    as-positive = ap₂ fault-by (sym positive ∙ hn) hq
 
-  module _ (v : ℕ) (hv : v ≡ c .variant) (z : v ≡ 0) (w : Bool) (hw : w ≡ c .cannot-prove) where
-    pub weak-fails : w ≡ true → false ≡ plain-clause c
-    weak-fails t =
-        sym (ap₂ (λ (a b : Bool). a && (not b && (not (c .outsized) && each-passes plain-literal (c .literals))))
-        (whole-is v hv z) (sym hw ∙ t))
+    pub range-fault : q ≡ true → 4 ≡ fault-number (literal-fault (meant l))
+    range-fault t = sym (ap (fault-by false) t) ∙ as-positive
 
-    module _ (o : Bool) (ho : o ≡ c .outsized) (strong : w ≡ false) where
-      pub large-fails : o ≡ true → false ≡ plain-clause c
-      large-fails t =
-          sym (ap₂ (λ (a b : Bool). a && (not b && (not (c .outsized) && each-passes plain-literal (c .literals))))
-          (whole-is v hv z) (sym hw ∙ strong)
-          ∙ ap (λ (x : Bool). not x && each-passes plain-literal (c .literals)) (sym ho ∙ t))
+    module _ (one : q ≡ false) where
+      as-one : fault-by false false ≡ fault-number (literal-fault (meant l))
+      as-one = sym (ap (fault-by false) one) ∙ as-positive
 
-      pub literals-decide : (r : Bool) → r ≡ each-passes plain-literal (c .literals) → o ≡ false → r ≡ plain-clause c
-      literals-decide r hr f =
-          hr ∙ sym (ap₂ (λ (a b : Bool). a && (not b && (not (c .outsized) && each-passes plain-literal (c .literals))))
-          (whole-is v hv z) (sym hw ∙ strong)
-          ∙ ap (λ (x : Bool). not x && each-passes plain-literal (c .literals)) (sym ho ∙ f))
+      wanted-one : (w : ℕ) → (w ≡ 0 → ⊥) → 3 ≡ fault-number (or-else (want-fault (said.want-of w)) (flag-fault (bit0 (l .kind))))
+      wanted-one zero s = absurd (s refl)
+      wanted-one (suc w) s = refl
 
--- The loops: what is left decides, as long as each before it passes.
+      pub one-fault : (l .want ≡ 0 → ⊥) → 3 ≡ fault-number (literal-fault (meant l))
+      one-fault s = wanted-one (l .want) s ∙ as-one
 
-module _ {A : Type 0} (test : A → Bool) (f : ℕ → A) where
-  abbrev pub PassLeft : (i n k : ℕ) → Bool → Type 0
-  PassLeft i n k X = each-passes test (span f i (n - k)) ≡ X
+      pub any-fault : (r : ℕ) → l .want ≡ 0 → r ≡ fault-number (flag-fault (bit0 (l .kind))) → r ≡ fault-number (literal-fault (meant l))
+      any-fault r z e =
+          e ∙ ap (λ (w : ℕ). fault-number (or-else (want-fault (said.want-of w)) (flag-fault (bit0 (l .kind))))) (sym z) ∙ as-one
 
-  pass-begins : (s n : ℕ) → PassLeft s n 0 (each-passes test (span f s n))
-  pass-begins s n = let z : n - 0 ≡ n = omega arith in ap (λ (k : ℕ). each-passes test (span f s k)) z
+-- of a clause's head, by its variant and its flags
+module _ (variants flags : List ℕ) (c v : ℕ) (hv : v ≡ entry 256 variants c) where
+  abbrev head-by : Option Fault → (weak large : Bool) → ℕ
+  head-by o weak large = fault-number (or-else o (or-else (flag-fault weak) (flag-fault large)))
 
-  module _ (i n k : ℕ) (X : Bool) (left : PassLeft i n k X) where
-    pass-again : k < n → test (f i) ≡ true → PassLeft (i + 1) n (k + 1) X
-    pass-again h e = rw (span-left f i n k h, e) at left
+  pub variant-found : (v ≡ 0 → ⊥) → 2 ≡ fault-number (head-read variants flags c)
+  variant-found n = on (entry 256 variants c) (λ z. n (hv ∙ z))
+    where
+      on : (x : ℕ) → (x ≡ 0 → ⊥) → 2 ≡ head-by (variant-fault x) (bit0 (entry 256 flags c)) (bit1 (entry 256 flags c))
+      on zero s = absurd (s refl)
+      on (suc x) s = refl
 
-    pass-fails : k < n → test (f i) ≡ false → false ≡ X
-    pass-fails h e = rw (span-left f i n k h, e) at left
+  module _ (z : v ≡ 0) (w : Bool) (hw : w ≡ bit0 (entry 256 flags c)) where
+    whole : head-by none w (bit1 (entry 256 flags c)) ≡ fault-number (head-read variants flags c)
+    whole =
+        ap₂ (λ (x : ℕ) (b : Bool). head-by (variant-fault x) b (bit1 (entry 256 flags c))) (sym z ∙ hv) hw
 
-    pass-over : n ≤ k → true ≡ X
-    pass-over h = rw (span-done f i n k h) at left
+    pub weak-found : w ≡ true → 1 ≡ fault-number (head-read variants flags c)
+    weak-found t = sym (ap (λ (b : Bool). head-by none b (bit1 (entry 256 flags c))) t) ∙ whole
 
--- The literals of clause c.
-module _ (len kind goal want : List ℕ) (c : ℕ) where
+    module _ (strong : w ≡ false) (o : Bool) (ho : o ≡ bit1 (entry 256 flags c)) where
+      as-strong : fault-number (flag-fault o) ≡ fault-number (head-read variants flags c)
+      as-strong =
+          ap (λ (b : Bool). fault-number (flag-fault b)) ho
+          ∙ sym (ap (λ (b : Bool). head-by none b (bit1 (entry 256 flags c))) strong) ∙ whole
+
+      pub large-found : o ≡ true → 1 ≡ fault-number (head-read variants flags c)
+      large-found t = sym (ap (λ (b : Bool). fault-number (flag-fault b)) t) ∙ as-strong
+
+      pub head-clear : o ≡ false → 0 ≡ fault-number (head-read variants flags c)
+      head-clear f = sym (ap (λ (b : Bool). fault-number (flag-fault b)) f) ∙ as-strong
+
+-- of a goal
+module _ (flags : List ℕ) (g : ℕ) (a : Bool) (ha : a ≡ bit0 (entry 64 flags g)) where
+  abbrev goal-by : (co out : Bool) → ℕ
+  goal-by co out = fault-number (or-else (flag-fault co) (flag-fault out))
+
+  pub coinductive-found : a ≡ true → 1 ≡ fault-number (goal-read flags g)
+  coinductive-found t = ap (λ (b : Bool). goal-by b (bit1 (entry 64 flags g))) (sym t ∙ ha)
+
+  module _ (clear : a ≡ false) (o : Bool) (ho : o ≡ bit1 (entry 64 flags g)) where
+    pub floundered-found : o ≡ true → 1 ≡ fault-number (goal-read flags g)
+    floundered-found t = ap₂ goal-by (sym clear ∙ ha) (sym t ∙ ho)
+
+    pub goal-clear : o ≡ false → 0 ≡ fault-number (goal-read flags g)
+    goal-clear f = ap₂ goal-by (sym clear ∙ ha) (sym f ∙ ho)
+
+-- The loops: what is left decides.
+
+module _ {A : Type 0} (place : ℕ → A → Option Place) (f : ℕ → A) where
+  abbrev pub Left : (i n k : ℕ) → Option Place → Type 0
+  Left i n k X = first-from place k (span f i (n - k)) ≡ X
+
+  left-begins : (s n : ℕ) → Left s n 0 (first-from place 0 (span f s n))
+  left-begins s n = let z : n - 0 ≡ n = omega arith in ap (λ (k : ℕ). first-from place 0 (span f s k)) z
+
+  module _ (i n k : ℕ) (X : Option Place) (left : Left i n k X) where
+    here : k < n → or-else (place k (f i)) (first-from place (suc k) (span f (i + 1) (n - (k + 1)))) ≡ X
+    here h = sym (ap (first-from place k) (span-left f i n k h)) ∙ left
+
+    left-again : k < n → place k (f i) ≡ none → Left (i + 1) n (k + 1) X
+    left-again h e =
+        let one : k + 1 ≡ suc k = omega arith in
+        ap (λ (m : ℕ). first-from place m (span f (i + 1) (n - (k + 1)))) one
+        ∙ sym (ap (λ (o : Option Place). or-else o (first-from place (suc k) (span f (i + 1) (n - (k + 1))))) e) ∙ here h
+
+    left-found : (s : NotPlain) → k < n → s ≡ numbers (place k (f i)) → (s .what ≡ 0 → ⊥) → s ≡ numbers X
+    left-found s h e some-what =
+        e ∙ found-first (place k (f i)) (first-from place (suc k) (span f (i + 1) (n - (k + 1))))
+        (λ z. some-what (ap (λ (r : NotPlain). r .what) e ∙ z))
+        ∙ ap numbers (here h)
+
+    left-over : (r : NotPlain) → n ≤ k → r ≡ no-place → r ≡ numbers X
+    left-over r h e = e ∙ ap numbers (sym (ap (first-from place k) (span-done f i n k h)) ∙ left)
+
+-- The literals of clause c, which is clause k of goal g.
+module _ (len kind goal want : List ℕ) (g k c : ℕ) where
   abbrev read-at : ℕ → said.Literal
   read-at j = meant (literal-read kind goal want c j)
 
-  abbrev whole-clause : Bool
-  whole-clause = each-passes plain-literal (literals-read len kind goal want c)
+  abbrev in-clause-c : Option Place
+  in-clause-c = first-from (literal-place g k) 0 (literals-read len kind goal want c)
 
   abbrev pub LiteralsLeft : (count j : ℕ) → Type 0
-  LiteralsLeft count j = PassLeft plain-literal read-at j count j whole-clause
+  LiteralsLeft count j = Left (literal-place g k) read-at j count j in-clause-c
 
   pub literals-begin : (count : ℕ) → count ≡ entry 256 len c → LiteralsLeft count 0
   literals-begin count e =
-      pass-begins plain-literal read-at 0 count ∙ ap (λ (n : ℕ). each-passes plain-literal (span read-at 0 n)) e
+      left-begins (literal-place g k) read-at 0 count ∙ ap (λ (n : ℕ). first-from (literal-place g k) 0 (span read-at 0 n)) e
 
   module _ (count j : ℕ) (left : LiteralsLeft count j) where
-    module _ (l : Literal) (s : Bool) (lt : j < count) (e : l ≡ literal-read kind goal want c j) (q : s ≡ plain-literal (meant l)) where
-      told : plain-literal (read-at j) ≡ s
-      told = sym (q ∙ ap (λ (x : Literal). plain-literal (meant x)) e)
+    module _ (l : Literal) (w : ℕ) (lt : j < count) (e : l ≡ literal-read kind goal want c j)
+        (q : w ≡ fault-number (literal-fault (meant l))) where
+      told : w ≡ fault-number (literal-fault (read-at j))
+      told = q ∙ ap (λ (x : Literal). fault-number (literal-fault (meant x))) e
 
-      pub literals-again : not s ≡ false → LiteralsLeft count (j + 1)
-      literals-again x = pass-again plain-literal read-at j count j whole-clause left lt (told ∙ was-true s x)
+      pub literals-again : w ≡ 0 → LiteralsLeft count (j + 1)
+      literals-again z =
+          left-again (literal-place g k) read-at j count j in-clause-c left lt
+          (unplaced (in-literal g k j) (literal-fault (read-at j)) w told z)
 
-      pub literal-fails : not s ≡ true → false ≡ whole-clause
-      literal-fails x = pass-fails plain-literal read-at j count j whole-clause left lt (told ∙ was-false s x)
+      pub literal-found : (w ≡ 0 → ⊥) → made w true true g k j ≡ numbers in-clause-c
+      literal-found n =
+          let so = placed-so (in-literal g k j) true true g k j (λ f. refl) (literal-fault (read-at j)) w told n in
+          left-found (literal-place g k) read-at j count j in-clause-c left (made w true true g k j) lt so n
 
-    pub literals-over : count ≤ j → true ≡ whole-clause
-    literals-over h = pass-over plain-literal read-at j count j whole-clause left h
+    pub literals-over : (r : NotPlain) → count ≤ j → r ≡ no-place → r ≡ numbers in-clause-c
+    literals-over r h e = left-over (literal-place g k) read-at j count j in-clause-c left r h e
 
--- The clauses of a goal, from `first` on.
-module _ (a : Lent) (first count : ℕ) where
-  abbrev whole-goal : Bool
-  whole-goal = each-passes plain-clause (span (clause-read a) first count)
+-- Clause k of goal g, which is clause c of the book.
+module _ (a : Lent) (g k c w : ℕ) (q : w ≡ fault-number (head-read (a .variants) (a .flags) c)) where
+  abbrev in-body : Option Place
+  in-body = first-from (literal-place g k) 0 (clause-read a c .literals)
+
+  pub head-found : (w ≡ 0 → ⊥) → made w true false g k 0 ≡ numbers (clause-place g k (clause-read a c))
+  head-found n =
+      let so = placed-so (in-clause g k) true false g k 0 (λ f. refl) (head-read (a .variants) (a .flags) c) w q n in
+      so ∙ found-first (placed (in-clause g k) (head-read (a .variants) (a .flags) c)) in-body
+      (λ z. n (ap (λ (r : NotPlain). r .what) so ∙ z))
+
+  pub body-found : (r : NotPlain) → w ≡ 0 → r ≡ numbers (first-from (literal-place g k) 0 (clause-read a c .literals))
+      → r ≡ numbers (clause-place g k (clause-read a c))
+  body-found r z e =
+      e ∙ ap (λ (o : Option Place). numbers (or-else o in-body))
+      (sym (unplaced (in-clause g k) (head-read (a .variants) (a .flags) c) w q z))
+
+-- The clauses of goal g, from `first` on.
+module _ (a : Lent) (g first count : ℕ) where
+  abbrev in-goal-g : Option Place
+  in-goal-g = first-from (clause-place g) 0 (span (clause-read a) first count)
 
   abbrev pub ClausesLeft : (k : ℕ) → Type 0
-  ClausesLeft k = PassLeft plain-clause (clause-read a) (first + k) count k whole-goal
+  ClausesLeft k = Left (clause-place g) (clause-read a) (first + k) count k in-goal-g
 
   pub clauses-begin : ClausesLeft 0
   clauses-begin =
       let z : first + 0 ≡ first = omega arith in
-      subst (λ (i : ℕ). PassLeft plain-clause (clause-read a) i count 0 whole-goal) (sym z)
-      (pass-begins plain-clause (clause-read a) first count)
+      subst (λ (i : ℕ). Left (clause-place g) (clause-read a) i count 0 in-goal-g) (sym z)
+      (left-begins (clause-place g) (clause-read a) first count)
 
   module _ (k : ℕ) (left : ClausesLeft k) where
-    module _ (s : Bool) (lt : k < count) (q : s ≡ plain-clause (clause-read a (first + k))) where
-      pub clauses-again : not s ≡ false → ClausesLeft (k + 1)
+    module _ (p : NotPlain) (lt : k < count) (q : p ≡ numbers (clause-place g k (clause-read a (first + k)))) where
+      pub clauses-again : p .what ≡ 0 → ClausesLeft (k + 1)
       clauses-again x =
           let z : first + k + 1 ≡ first + (k + 1) = omega arith in
-          subst (λ (i : ℕ). PassLeft plain-clause (clause-read a) i count (k + 1) whole-goal) z
-          (pass-again plain-clause (clause-read a) (first + k) count k whole-goal left lt (sym q ∙ was-true s x))
+          subst (λ (i : ℕ). Left (clause-place g) (clause-read a) i count (k + 1) in-goal-g) z
+          (left-again (clause-place g) (clause-read a) (first + k) count k in-goal-g left lt
+          (nowhere (clause-place g k (clause-read a (first + k))) (sym (ap (λ (r : NotPlain). r .what) q) ∙ x)))
 
-      pub clause-fails : not s ≡ true → false ≡ whole-goal
-      clause-fails x = pass-fails plain-clause (clause-read a) (first + k) count k whole-goal left lt (sym q ∙ was-false s x)
+      pub clause-found : (p .what ≡ 0 → ⊥) → p ≡ numbers in-goal-g
+      clause-found n = left-found (clause-place g) (clause-read a) (first + k) count k in-goal-g left p lt q n
 
-    pub clauses-over : count ≤ k → true ≡ whole-goal
-    clauses-over h = pass-over plain-clause (clause-read a) (first + k) count k whole-goal left h
+    pub clauses-over : (r : NotPlain) → count ≤ k → r ≡ no-place → r ≡ numbers in-goal-g
+    clauses-over r h e = left-over (clause-place g) (clause-read a) (first + k) count k in-goal-g left r h e
 
 -- The goals of a book.
 abbrev pub GoalsLeft : Book → (g : ℕ) → Type 0
-GoalsLeft b g = PassLeft plain-goal (goal-viewed b) g (b .goals) g (is-plain (view b))
+GoalsLeft b g = Left goal-place (goal-viewed b) g (b .goals) g (first-not-plain (view b))
 
 pub goals-begin : (b : Book) → GoalsLeft b 0
-goals-begin b = pass-begins plain-goal (goal-viewed b) 0 (b .goals)
+goals-begin b = left-begins goal-place (goal-viewed b) 0 (b .goals)
 
 module _ (b : Book) (s : Sound b) where
   module _ (g : ℕ) (left : GoalsLeft b g) where
-    pub goals-over : b .goals ≤ g → true ≡ is-plain (view b)
-    goals-over h = pass-over plain-goal (goal-viewed b) g (b .goals) g (is-plain (view b)) left h
+    pub goals-over : (r : NotPlain) → b .goals ≤ g → r ≡ no-place → r ≡ numbers (first-not-plain (view b))
+    goals-over r h e = left-over goal-place (goal-viewed b) g (b .goals) g (first-not-plain (view b)) left r h e
 
-    module _ (h : g < b .goals) (co : Bool) (hco : co ≡ bit0 (entry 64 (b .«goal_flags») g)) where
+    module _ (h : g < b .goals) (w : ℕ) (q : w ≡ fault-number (goal-read (b .«goal_flags») g)) where
       flags-there : entry 64 (b .«goal_flags») g ≡ getD (b .«goal_flags») g 0
       flags-there = entry-in 64 (b .«goal_flags») g (omega (arith, s .few-goals))
 
-      abbrev goal-by : (co out : Bool) → List said.Clause → Bool
-      goal-by x y cs = not x && (not y && each-passes plain-clause cs)
+      told-of-goal : w ≡ fault-number (goal-fault (goal-viewed b g))
+      told-of-goal = q ∙ ap (λ (n : ℕ). fault-number (or-else (flag-fault (bit0 n)) (flag-fault (bit1 n)))) flags-there
 
-      fails : plain-goal (goal-viewed b g) ≡ false → false ≡ is-plain (view b)
-      fails e = pass-fails plain-goal (goal-viewed b) g (b .goals) g (is-plain (view b)) left h e
+      abbrev in-clauses : Option Place
+      in-clauses = first-from (clause-place g) 0 (goal-viewed b g .clauses)
 
-      is-co : goal-viewed b g .coinductive ≡ co
-      is-co = sym (hco ∙ ap bit0 flags-there)
+      found : (p : NotPlain) → p ≡ numbers (goal-place g (goal-viewed b g)) → (p .what ≡ 0 → ⊥) → p ≡ numbers (first-not-plain (view b))
+      found p e n = left-found goal-place (goal-viewed b) g (b .goals) g (first-not-plain (view b)) left p h e n
 
-      pub coinductive-fails : co ≡ true → false ≡ is-plain (view b)
-      coinductive-fails t =
-          fails (ap (λ (x : Bool). goal-by x (goal-viewed b g .floundered) (goal-viewed b g .clauses)) (is-co ∙ t))
+      pub goal-found : (w ≡ 0 → ⊥) → made w false false g 0 0 ≡ numbers (first-not-plain (view b))
+      goal-found n =
+          let so = placed-so (in-goal g) false false g 0 0 (λ f. refl) (goal-fault (goal-viewed b g)) w told-of-goal n in
+          found (made w false false g 0 0)
+          (so ∙ found-first (placed (in-goal g) (goal-fault (goal-viewed b g))) in-clauses
+          (λ z. n (ap (λ (r : NotPlain). r .what) so ∙ z))) n
 
-      module _ (clear : co ≡ false) (out : Bool) (hout : out ≡ bit1 (entry 64 (b .«goal_flags») g)) where
-        is-out : goal-viewed b g .floundered ≡ out
-        is-out = sym (hout ∙ ap bit1 flags-there)
+      module _ (z : w ≡ 0) (first count : ℕ) (hf : first ≡ entry 64 (b .«goal_first») g) (hc : count ≡ entry 64 (b .«goal_len») g)
+          (p : NotPlain) (hp : p ≡ numbers (first-from (clause-place g) 0 (span (clause-read (lent-by b)) first count))) where
+        decided : p ≡ numbers (goal-place g (goal-viewed b g))
+        decided =
+            hp ∙ ap (λ (cs : List said.Clause). numbers (first-from (clause-place g) 0 cs)) (goal-shown b s g first count h hf hc)
+            ∙ ap (λ (o : Option Place). numbers (or-else o in-clauses))
+            (sym (unplaced (in-goal g) (goal-fault (goal-viewed b g)) w told-of-goal z))
 
-        pub floundered-fails : out ≡ true → false ≡ is-plain (view b)
-        floundered-fails t =
-            fails (ap₂ (λ (x y : Bool). goal-by x y (goal-viewed b g .clauses)) (is-co ∙ clear) (is-out ∙ t))
+        pub clauses-found : (p .what ≡ 0 → ⊥) → p ≡ numbers (first-not-plain (view b))
+        clauses-found n = found p decided n
 
-        module _ (still : out ≡ false) (first count : ℕ) (hf : first ≡ entry 64 (b .«goal_first») g)
-            (hc : count ≡ entry 64 (b .«goal_len») g) (r : Bool)
-            (hr : r ≡ each-passes plain-clause (span (clause-read (lent-by b)) first count)) where
-          decided : plain-goal (goal-viewed b g) ≡ r
-          decided =
-              ap₂ (λ (x y : Bool). goal-by x y (goal-viewed b g .clauses)) (is-co ∙ clear) (is-out ∙ still)
-              ∙ sym (hr ∙ ap (each-passes plain-clause) (goal-shown b s g first count h hf hc))
+        pub goals-again : p .what ≡ 0 → GoalsLeft b (g + 1)
+        goals-again x =
+            left-again goal-place (goal-viewed b) g (b .goals) g (first-not-plain (view b)) left h
+            (nowhere (goal-place g (goal-viewed b g)) (sym (ap (λ (r : NotPlain). r .what) decided) ∙ x))
 
-          pub clauses-fail : not r ≡ true → false ≡ is-plain (view b)
-          clauses-fail x = fails (decided ∙ was-false r x)
+-- Plain, where there is no such place.
+pub plain-if-nowhere : (b : Book) (p : NotPlain) → p ≡ numbers (first-not-plain (view b)) → eqb (p .what) 0 ≡ is-plain (view b)
+plain-if-nowhere b p e = ap (λ (r : NotPlain). eqb (r .what) 0) e ∙ on (first-not-plain (view b)) ∙ none-is (view b)
+  where
+    on : (o : Option Place) → eqb (numbers o .what) 0 ≡ is-none o
+    on none = refl
+    on (some (in-goal g f)) = ne-eqb (fault-number (some f)) 0 (some-fault f)
+    on (some (in-clause g k f)) = ne-eqb (fault-number (some f)) 0 (some-fault f)
+    on (some (in-literal g k j f)) = ne-eqb (fault-number (some f)) 0 (some-fault f)
 
-          pub goals-again : not r ≡ false → GoalsLeft b (g + 1)
-          goals-again x =
-              pass-again plain-goal (goal-viewed b) g (b .goals) g (is-plain (view b)) left h (decided ∙ was-true r x)
+-- A paper's, from what the desk gave.
+module _ (bytes : List ℕ) (reading : Reading) (read : Taken bytes reading) where
+  pub refused-nowhere : (r : NotPlain) → (reading .number ≡ 0 → ⊥) → r ≡ no-place → r ≡ numbers (not-plain-place bytes)
+  refused-nowhere r n e =
+      e ∙ ap (λ d. numbers (place-at-desk d)) (sym (gave (desk bytes) reading read false (ne-eqb (reading .number) 0 n)))
+
+  pub paper-place : (p : NotPlain) → reading .number ≡ 0 → p ≡ numbers (first-not-plain (view (reading .book)))
+      → p ≡ numbers (not-plain-place bytes)
+  paper-place p z e =
+      e ∙ ap (λ d. numbers (place-at-desk d)) (sym (gave (desk bytes) reading read true (eq-eqb (reading .number) 0 z)))

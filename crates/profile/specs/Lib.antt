@@ -1,4 +1,5 @@
 pub mod Profile
 pub mod Paper
+pub mod Places
 pub mod Asks
 pub mod Reach

@@ -7,6 +7,7 @@ mod edges;
 pub mod levels;
 mod matrix;
 pub mod paper;
+pub mod place;
 mod plain;
 mod settle;
 
@@ -23,4 +24,16 @@ pub struct Profile {
 pub struct Settled {
     pub settled: bool,
     pub levels: [u8; 64],
+}
+
+// The first place of a paper that is not plain. `what` is not plain there: 1 a flag, 2 a variant, 3 a want, 4 a range; 0: there is no such
+// place. It stands in a goal; or, with `in_clause`, in a clause of the goal, and with `in_literal` in a literal of that, counted from 0
+// within the goal and the clause. All else is 0.
+pub struct NotPlain {
+    pub what: u8,
+    pub in_clause: bool,
+    pub in_literal: bool,
+    pub goal: usize,
+    pub clause: usize,
+    pub literal: usize,
 }

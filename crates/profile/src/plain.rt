@@ -1,5 +1,7 @@
-// Plain, as a test (definitions, `is-plain`): every clause has variant 0, every literal wants any variant, by command 50, and every flag is
-// clear.
+// Plain (definitions, `is-plain`): every clause has variant 0, every literal wants any variant, by command 50, and every flag is clear. And
+// where a book is not plain first (definitions, `first-not-plain`): a search through its goals, their clauses and the literals of these,
+// which ends where it finds a fault. A fault is told by its number: 1 a flag, 2 a variant, 3 a want, 4 a range, 0 none.
+use crate::NotPlain;
 use book::Book;
 use book::Literal;
 use book::access::cannot_prove;
@@ -16,102 +18,172 @@ use book::access::variant_of;
 ghost use mathlib.Core.Path.{_≡_};
 ghost use Prim.Native.Nat.{_+_, _≤_};
 ghost use Rattle.laws.specs.Spans.{span};
-ghost use Rattle.definitions.specs.Levels.{each-passes, plain-literal, plain-clause, is-plain};
+ghost use Rattle.definitions.specs.Book.{bit0};
+ghost use Rattle.definitions.specs.Levels.{is-plain};
+ghost use Rattle.definitions.specs.NotPlain.{flag-fault, literal-fault, first-from, literal-place, clause-place, first-not-plain};
 ghost use Rattle.book.specs.View.{meant, view, Sound};
 ghost use Rattle.book.specs.Repeats.{lent, literals-read, clause-read};
+ghost use Rattle.profile.specs.Places.{fault-number, head-read, goal-read, no-place, numbers};
 
-fn plain_literal(l: Literal) -> bool
-    ensures { λ r. ⌜ r ≡ plain-literal (meant l) ⌝ }
+pub(crate) fn no_place() -> NotPlain
+    ensures { λ r. ⌜ r ≡ no-place ⌝ }
 {
-    if l.kind % 2 == 1 {
-        return false;
+    NotPlain {
+        what: 0,
+        in_clause: false,
+        in_literal: false,
+        goal: 0,
+        clause: 0,
+        literal: 0,
     }
-    if is_negative(l) {
-        return true;
-    }
-    if is_ranged(l) {
-        return false;
-    }
-    l.want == 0
 }
 
-fn plain_literals(
+fn flag_fault(kind: u8) -> u8
+    ensures { λ r. ⌜ r ≡ fault-number (flag-fault (bit0 kind)) ⌝ }
+{
+    if kind % 2 == 1 {
+        return 1;
+    }
+    0
+}
+
+fn literal_fault(l: Literal) -> u8
+    ensures { λ r. ⌜ r ≡ fault-number (literal-fault (meant l)) ⌝ }
+{
+    if is_negative(l) {
+        return flag_fault(l.kind);
+    }
+    if is_ranged(l) {
+        return 4;
+    }
+    if l.want != 0 {
+        return 3;
+    }
+    flag_fault(l.kind)
+}
+
+// Of clause c but for its literals.
+fn head_fault(variants: &[u16; 256], flags: &[u8; 256], c: usize) -> u8
+    ensures { λ r. ⌜ r ≡ fault-number (head-read (now (variants .entry)) (now (flags .entry)) c) ⌝ }
+{
+    if variant_of(variants, c) != 0 {
+        return 2;
+    }
+    if cannot_prove(flags, c) {
+        return 1;
+    }
+    if gives_outsized(flags, c) {
+        return 1;
+    }
+    0
+}
+
+// Of a goal but for its clauses.
+fn goal_fault(flags: &[u8; 64], g: usize) -> u8
+    ensures { λ r. ⌜ r ≡ fault-number (goal-read (now (flags .entry)) g) ⌝ }
+{
+    if is_coinductive(flags, g) {
+        return 1;
+    }
+    if is_floundered(flags, g) {
+        return 1;
+    }
+    0
+}
+
+// The literals of clause c, which is clause k of goal g.
+fn literals_place(
     len: &[u8; 256],
     kind: &[u8; 2048],
     goal: &[u16; 2048],
     want: &[u32; 2048],
+    g: usize,
+    k: usize,
     c: usize,
-) -> bool
-    ensures { λ r. ⌜ r ≡ each-passes plain-literal
-        (literals-read (now (len .entry)) (now (kind .entry)) (now (goal .entry)) (now (want .entry)) c) ⌝ }
+) -> NotPlain
+    ensures { λ r. ⌜ r ≡ numbers (first-from (literal-place g k) 0
+        (literals-read (now (len .entry)) (now (kind .entry)) (now (goal .entry)) (now (want .entry)) c)) ⌝ }
 {
     let count = literal_count(len, c);
     let mut j: usize = 0;
     while j < count {
-        let l = literal_at(kind, goal, want, c, j);
-        if !plain_literal(l) {
-            return false;
+        let what = literal_fault(literal_at(kind, goal, want, c, j));
+        if what != 0 {
+            return NotPlain {
+                what,
+                in_clause: true,
+                in_literal: true,
+                goal: g,
+                clause: k,
+                literal: j,
+            };
         }
         j += 1;
     }
-    true
+    no_place()
 }
 
-fn plain_clause(
+fn clause_place(
     variants: &[u16; 256],
     flags: &[u8; 256],
     len: &[u8; 256],
     kind: &[u8; 2048],
     goal: &[u16; 2048],
     want: &[u32; 2048],
+    g: usize,
+    k: usize,
     c: usize,
-) -> bool
-    ensures { λ r. ⌜ r ≡ plain-clause
+) -> NotPlain
+    ensures { λ r. ⌜ r ≡ numbers (clause-place g k
         (clause-read (lent (now (variants .entry)) (now (flags .entry)) (now (len .entry)) (now (kind .entry)) (now (goal .entry))
-        (now (want .entry))) c) ⌝ }
+        (now (want .entry))) c)) ⌝ }
 {
-    if variant_of(variants, c) != 0 {
-        return false;
+    let what = head_fault(variants, flags, c);
+    if what != 0 {
+        return NotPlain {
+            what,
+            in_clause: true,
+            in_literal: false,
+            goal: g,
+            clause: k,
+            literal: 0,
+        };
     }
-    if cannot_prove(flags, c) {
-        return false;
-    }
-    if gives_outsized(flags, c) {
-        return false;
-    }
-    plain_literals(len, kind, goal, want, c)
+    literals_place(len, kind, goal, want, g, k, c)
 }
 
-// So many clauses from `first` on.
-fn plain_clauses(
+// So many clauses of goal g, from `first` on.
+fn clauses_place(
     variants: &[u16; 256],
     flags: &[u8; 256],
     len: &[u8; 256],
     kind: &[u8; 2048],
     goal: &[u16; 2048],
     want: &[u32; 2048],
+    g: usize,
     first: usize,
     count: usize,
-) -> bool
+) -> NotPlain
     requires { ⌜ first + count ≤ 256 ⌝ }
-    ensures { λ r. ⌜ r ≡ each-passes plain-clause (span
+    ensures { λ r. ⌜ r ≡ numbers (first-from (clause-place g) 0 (span
         (clause-read (lent (now (variants .entry)) (now (flags .entry)) (now (len .entry)) (now (kind .entry)) (now (goal .entry))
         (now (want .entry))))
-        first count) ⌝ }
+        first count)) ⌝ }
 {
     let mut k: usize = 0;
     while k < count {
-        if !plain_clause(variants, flags, len, kind, goal, want, first + k) {
-            return false;
+        let p = clause_place(variants, flags, len, kind, goal, want, g, k, first + k);
+        if p.what != 0 {
+            return p;
         }
         k += 1;
     }
-    true
+    no_place()
 }
 
-pub(crate) fn is_plain(b: Book) -> bool
+pub(crate) fn book_place(b: Book) -> NotPlain
     requires { ⌜ Sound b ⌝ }
-    ensures { λ r. ⌜ r ≡ is-plain (view b) ⌝ }
+    ensures { λ r. ⌜ r ≡ numbers (first-not-plain (view b)) ⌝ }
 {
     let goal_flags = b.goal_flags;
     let goal_first = b.goal_first;
@@ -124,18 +196,42 @@ pub(crate) fn is_plain(b: Book) -> bool
     let want = b.literal_want;
     let mut g: usize = 0;
     while g < b.goals {
-        if is_coinductive(&goal_flags, g) {
-            return false;
-        }
-        if is_floundered(&goal_flags, g) {
-            return false;
+        let what = goal_fault(&goal_flags, g);
+        if what != 0 {
+            return NotPlain {
+                what,
+                in_clause: false,
+                in_literal: false,
+                goal: g,
+                clause: 0,
+                literal: 0,
+            };
         }
         let first = first_clause(&goal_first, g);
         let count = clause_count(&goal_len, g);
-        if !plain_clauses(&variants, &flags, &len, &kind, &goal, &want, first, count) {
-            return false;
+        let p = clauses_place(
+            &variants,
+            &flags,
+            &len,
+            &kind,
+            &goal,
+            &want,
+            g,
+            first,
+            count,
+        );
+        if p.what != 0 {
+            return p;
         }
         g += 1;
     }
-    true
+    no_place()
+}
+
+pub(crate) fn is_plain(b: Book) -> bool
+    requires { ⌜ Sound b ⌝ }
+    ensures { λ r. ⌜ r ≡ is-plain (view b) ⌝ }
+{
+    let p = book_place(b);
+    p.what == 0
 }

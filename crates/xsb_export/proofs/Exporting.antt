@@ -4,6 +4,7 @@ use Prim.Native.Nat.{ℕ, zero, suc, _+_, _-_, _<_, _≤_}
 use native.Mathlib.Omega.{arith}
 use mathlib.Core.Bool.{Bool, true, false}
 use mathlib.Core.Path.{_≡_, refl, sym, ap, ap₂, _∙_}
+use mathlib.Core.Option.{Option}
 use mathlib.Core.List.{List, [], _∷_, _++_, append-assoc}
 use lib.ListN.{take}
 use lib.Dec.{eqb}
@@ -17,9 +18,11 @@ use Rattle.definitions.specs.Book as said
 use Rattle.definitions.specs.Book.{bit0, bit1, read-ahead}
 use Rattle.definitions.specs.Xsb.{Rule, rules-of-goal, rules-from, literal-text, more-text, body-text, rule-line, rule-lines, table-line}
 use Rattle.definitions.specs.Xsb.{table-lines, export, export-at-desk, check-export}
+use Rattle.definitions.specs.NotPlain.{Place, place-of}
 use Rattle.definitions.proofs.Desk.{desk-take}
 use Rattle.pen.specs.Pen.{Pen, put-all}
 use Rattle.pen.specs.Refusals.{refusal-lines}
+use Rattle.pen.specs.Places.{place-line}
 use Rattle.pen.proofs.Putting.{put-two, put-nothing, put-left, put-ended}
 use Rattle.book.specs.declared.Book.{Book}
 use Rattle.book.specs.declared.Literal.{Literal}
@@ -29,9 +32,12 @@ use Rattle.book.specs.View.{meant, signed, wanted, bit2, goal-viewed, view, see
 use Rattle.book.specs.Repeats.{Lent, literals-read, clause-read}
 use Rattle.book.proofs.Shown.{lent-by}
 use Rattle.book.proofs.TwiceInBook.{goal-shown}
+use Rattle.profile.specs.declared.NotPlain.{NotPlain}
 use Rattle.profile.specs.Paper.{plain-paper}
+use Rattle.profile.specs.Places.{numbers}
 use Rattle.profile.proofs.Papers.{of-paper, export-in, export-of-paper, gave}
-use Rattle.xsb_export.specs.Exporting.{exported, literal-said, rule-read}
+use Rattle.profile.proofs.Tested.{place-by}
+use Rattle.xsb_export.specs.Exporting.{lines-of, exported, literal-said, rule-read}
 
 -- The table lines.
 
@@ -190,6 +196,14 @@ module _ (b : Book) where
       put-two (table-lines (b .goals)) (rule-lines (rules-from 0 (view b))) p q r e f
       ∙ ap (λ (n : ℕ). put-all (table-lines n ++ rule-lines (rules-from 0 (view b))) p) (sym (length-span (goal-viewed b) 0 (b .goals)))
 
+-- The lines of a refusal.
+
+pub refusal-said : (n : ℕ) (o : Option Place) (at : NotPlain) (p q r : Pen) → q ≡ put-all (refusal-lines n) p → at ≡ numbers o
+    → r ≡ put-all (place-line (place-of (at .what) (at .«in_clause») (at .«in_literal») (at .goal) (at .clause) (at .literal))) q
+    → r ≡ put-all (lines-of n o) p
+refusal-said n o at p q r e f g =
+    put-two (refusal-lines n) (place-line o) p q r e (g ∙ ap (λ (x : Option Place). put-all (place-line x) q) (place-by o at f))
+
 -- The export.
 
 module _ (bytes : List ℕ) (paper : Reading) (given : Gives (plain-paper bytes) paper) where
@@ -197,18 +211,18 @@ module _ (bytes : List ℕ) (paper : Reading) (given : Gives (plain-paper bytes)
   by-number t e =
       export-of-paper bytes ∙ ap (of-paper export-in) (gave (plain-paper bytes) paper given t e)
 
-  pub refused-exported : (n : ℕ) (out p q : Pen) → n ≡ paper .number → (paper .number ≡ 0 → ⊥) → q ≡ put-all (refusal-lines n) p
-      → _≡_ {A = ℕ × Pen × Pen} (n, out, q) (exported (check-export bytes) out p)
-  refused-exported n out p q e some f =
+  pub refused-exported : (n : ℕ) (place : Option Place) (out p q : Pen) → n ≡ paper .number → (paper .number ≡ 0 → ⊥)
+      → q ≡ put-all (lines-of n place) p → _≡_ {A = ℕ × Pen × Pen} (n, out, q) (exported (check-export bytes) place out p)
+  refused-exported n place out p q e some f =
       ap (λ (x : Pen). (n, out, x)) f
-      ∙ ap (λ (m : ℕ). exported (refused m) out p) e
-      ∙ ap (λ (x : Refusable (List ℕ)). exported x out p) (sym (by-number false (ne-eqb (paper .number) 0 some)))
+      ∙ ap (λ (m : ℕ). exported (refused m) place out p) e
+      ∙ ap (λ (x : Refusable (List ℕ)). exported x place out p) (sym (by-number false (ne-eqb (paper .number) 0 some)))
 
-  pub book-exported : (p q told : Pen) → paper .number ≡ 0 → q ≡ put-all (export (view (paper .book))) p
-      → _≡_ {A = ℕ × Pen × Pen} (0, q, told) (exported (check-export bytes) p told)
-  book-exported p q told z e =
+  pub book-exported : (place : Option Place) (p q told : Pen) → paper .number ≡ 0 → q ≡ put-all (export (view (paper .book))) p
+      → _≡_ {A = ℕ × Pen × Pen} (0, q, told) (exported (check-export bytes) place p told)
+  book-exported place p q told z e =
       ap (λ (x : Pen). (0, x, told)) e
-      ∙ ap (λ (x : Refusable (List ℕ)). exported x p told) (sym (by-number true (eq-eqb (paper .number) 0 z)))
+      ∙ ap (λ (x : Refusable (List ℕ)). exported x place p told) (sym (by-number true (eq-eqb (paper .number) 0 z)))
 
 -- what an input comes to is settled by its first bytes
 pub export-take : (bytes : List ℕ) → check-export (take read-ahead bytes) ≡ check-export bytes

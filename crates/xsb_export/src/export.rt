@@ -3,14 +3,17 @@ use crate::rules::rule_lines;
 use book::Book;
 use book::access::clause_count;
 use book::access::first_clause;
+use pen::places::place;
 use pen::refusals::refusal;
 use profile::paper::plain;
+use profile::place::not_plain;
 ghost use mathlib.Core.Path.{_≡_};
 ghost use Rattle.definitions.specs.Xsb.{table-line as tableLine, table-lines as tableLines, rule-lines, rules-from};
 ghost use Rattle.definitions.specs.Xsb.{export as exportOf, check-export};
+ghost use Rattle.definitions.specs.NotPlain.{not-plain-place};
 ghost use Rattle.pen.specs.Pen.{pen, put-all};
 ghost use Rattle.book.specs.View.{view, Sound};
-ghost use Rattle.xsb_export.specs.Exporting.{exported};
+ghost use Rattle.xsb_export.specs.Exporting.{lines-of, exported};
 
 // What an export comes to: number 0, and how much is in use of the buffer for the text; or the number of a refusal, and how much is in use
 // of that for its lines. Of the other buffer nothing is.
@@ -68,15 +71,35 @@ fn book_text(out: &mut [u8], at: usize, b: Book) -> usize
     rules(out, tabled, b)
 }
 
+// A refusal's lines, from the start of the buffer on; behind those of 37 the place that is not plain first.
+fn refused(told: &mut [u8], number: u8, bytes: &[u8]) -> usize
+    ensures { λ r. ⌜ pen (now (told .exit)) r
+        ≡ put-all (lines-of number (not-plain-place (now (bytes .entry)))) (pen (now (told .entry)) 0) ⌝ }
+{
+    let lines = refusal(told, 0, number);
+    let p = not_plain(bytes);
+    place(
+        told,
+        lines,
+        p.what,
+        p.in_clause,
+        p.in_literal,
+        p.goal,
+        p.clause,
+        p.literal,
+    )
+}
+
 // Both are put down from the start of their buffers on: `out` is for standard output, `told` for standard error. Where the paper is
 // refused, there is no text; where it is not, there are no lines.
 pub fn export(out: &mut [u8], told: &mut [u8], bytes: &[u8]) -> Exported
     ensures { λ r. ⌜ (r .number, pen (now (out .exit)) (r .used), pen (now (told .exit)) (r .told))
-        ≡ exported (check-export (now (bytes .entry))) (pen (now (out .entry)) 0) (pen (now (told .entry)) 0) ⌝ }
+        ≡ exported (check-export (now (bytes .entry))) (not-plain-place (now (bytes .entry)))
+        (pen (now (out .entry)) 0) (pen (now (told .entry)) 0) ⌝ }
 {
     let paper = plain(bytes);
     if paper.number != 0 {
-        let lines = refusal(told, 0, paper.number);
+        let lines = refused(told, paper.number, bytes);
         return Exported {
             number: paper.number,
             used: 0,

@@ -1,4 +1,4 @@
--- `refused`: the refusal's lines, and behind them the goals on a cycle if its number is 38.
+-- `refused`: the refusal's lines, then the place; and behind them the goals on a cycle if the number is 38.
 use Rattle.levels.proofs.Telling.{refused-38-said, refused-said}
 use borrow.Author.Needs.{needs}
 use Rattle.levels.proofs.lines.refused.Statement.{statement}
@@ -6,6 +6,12 @@ use Rattle.levels.proofs.lines.refused.Tie as tie
 
 refusal-requires : tie.Need-refusal-requires
 refusal-requires c κs = search needs
+
+not-plain-requires : tie.Need-not-plain-requires
+not-plain-requires c κs = search needs
+
+place-requires : tie.Need-place-requires
+place-requires c κs = search needs
 
 cycle-line-requires : tie.Need-cycle-line-requires
 cycle-line-requires c κs = search needs
@@ -25,4 +31,12 @@ returns-2 c = search refused-said
 pub refused-spec : {M : Type 1} → statement M
 refused-spec =
     tie.close
-    (tie.spec refusal-requires cycle-line-requires same-length returns same-length-2 returns-2)
+    (tie.spec
+    refusal-requires
+    not-plain-requires
+    place-requires
+    cycle-line-requires
+    same-length
+    returns
+    same-length-2
+    returns-2)

@@ -8,8 +8,8 @@ use Rattle.xsb_export.proofs.export.export.Tie as tie
 plain-requires : tie.Need-plain-requires
 plain-requires c κs = search needs
 
-refusal-requires : tie.Need-refusal-requires
-refusal-requires c κs = search needs
+refused-requires : tie.Need-refused-requires
+refused-requires c κs = search needs
 
 same-length : tie.Need-same-length
 same-length c = search needs
@@ -29,4 +29,4 @@ returns-2 c = search book-exported
 pub export-spec : {M : Type 1} → statement M
 export-spec =
     tie.close
-    (tie.spec plain-requires refusal-requires same-length returns book-text-requires same-length-2 returns-2)
+    (tie.spec plain-requires refused-requires same-length returns book-text-requires same-length-2 returns-2)
