@@ -9,9 +9,10 @@ tools/levels.py --levels [PATH]       target/bin/levels, or a program in its pla
 tools/levels.py --time                whole processes on the worst books, `levels` (where it is there), the Rust and clingo (Debian's
                                       package gringo) side by side, and what the Rust takes within its process
 
-Of a book that is accepted a line is written for each goal, `GOAL LEVEL`, with the least levels there are; of one that is refused
-`refused N` and the sentence of N: the desk's numbers, then 37 for a book that is not plain, with a line that has the first place that is
-not, then 38 for one that is not levelled, with a line that has the goals on a cycle through "not". Books are in the notation of papers.py, or bytes in hex. Status 0 only if all is so.
+Of a book that is accepted `within demand 3` is written, and a line for each goal, `GOAL LEVEL`, with the least levels there are; of one
+that is refused `refused N` and the sentence of N: the desk's numbers; then, behind `outside demand 3`, 37 for a book that is not plain,
+with a line that has the first place that is not, and 38 for one that is not levelled, with a line that has the goals on a cycle through
+"not". Books are in the notation of papers.py, or bytes in hex. Status 0 only if all is so.
 """
 import argparse
 import collections
@@ -36,10 +37,10 @@ PROFILES = "mix plain tiny answers small limits large".split()
 def text(said):
     """What must be written: levels, a number, or the goals on a cycle."""
     if isinstance(said, list):
-        return "".join("%d %d\n" % pair for pair in enumerate(said))
+        return "within demand 3\n" + "".join("%d %d\n" % pair for pair in enumerate(said))
     if isinstance(said, int):
-        return refusal(said)
-    return refusal(38) + "goals on a cycle through \"not\": %s\n" % " ".join(map(str, said))
+        return "outside demand 3\n" * (said == 37) + refusal(said)
+    return "outside demand 3\n" + refusal(38) + "goals on a cycle through \"not\": %s\n" % " ".join(map(str, said))
 
 
 def cases():
@@ -111,8 +112,9 @@ def every_way():
 
 def counted(said, least):
     """How often each number came, and whether each came often enough."""
-    words = collections.Counter(s.split("\n")[0] if s.startswith("refused") else "levelled" for s in said)
-    highest = [max(int(line.split()[1]) for line in s.splitlines()) for s in said if not s.startswith("refused")]
+    number = lambda s: s.removeprefix("outside demand 3\n").split("\n")[0]
+    words = collections.Counter(number(s) if number(s).startswith("refused") else "levelled" for s in said)
+    highest = [max(int(line.split()[1]) for line in s.splitlines()[1:]) for s in said if s.startswith("within")]
     order = ["levelled"] + ["refused %d" % number for number in SENTENCES]
     cells = ["%-11s %8s" % (word, format(words[word], ",")) for word in order]
     print("\n".join("   ".join(cells[at:at + 5]) for at in range(0, len(cells), 5)))

@@ -183,11 +183,15 @@ pub fn text(bytes: &[u8]) -> String {
     let mut out = String::new();
     match check(bytes) {
         Ok(levels) => {
+            out.push_str("within demand 3\n");
             for (goal, level) in levels.iter().enumerate() {
                 let _ = writeln!(out, "{goal} {level}");
             }
         }
         Err(Refused { number, on_cycle }) => {
+            if number >= 37 {
+                out.push_str("outside demand 3\n");
+            }
             let _ = writeln!(out, "refused {number}\n{}", sentence(number));
             out.push_str(&place_line(bytes));
             if number == 38 {

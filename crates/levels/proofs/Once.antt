@@ -19,13 +19,13 @@ use Rattle.pen.specs.Pen.{Pen, put-all}
 use Rattle.pen.specs.Refusals.{refusal-lines}
 use Rattle.pen.specs.Places.{place-line}
 use Rattle.profile.proofs.Once.{marks-once}
-use Rattle.levels.specs.Words.{reason-words, refused-words, level-words, Tells}
+use Rattle.levels.specs.Words.{reason-words, refused-words, outside-words, level-words, Tells}
 
 -- the marks are in the words of 38 alone
 words-once : (c : Refusable (List ℕ)) (o : Option Place) (a b : List ℕ) → (c ≡ refused 38 → a ≡ b) → level-words c o a ≡ level-words c o b
 unfolding refused-words
 words-once (accepted levels) o a b e = refl
-words-once (refused n) o a b e = on (ℕ-discrete n 38)
+words-once (refused n) o a b e = ap (λ (w : List ℕ). outside-words n ++ w) (on (ℕ-discrete n 38))
   where
     plain : (marks : List ℕ) → (n ≡ 38 → ⊥) → refused-words n o marks ≡ refusal-lines n ++ (place-line o ++ [])
     plain marks k = ap (λ (t : Bool). refusal-lines n ++ (place-line o ++ reason-words t marks)) (ne-eqb n 38 k)

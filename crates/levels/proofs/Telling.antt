@@ -26,7 +26,7 @@ use Rattle.profile.specs.Places.{numbers}
 use Rattle.profile.proofs.Tested.{place-by}
 use Rattle.profile.specs.Profile.{profile-by, profile-seen, Profiles}
 use Rattle.levels.specs.Words.{words-from, level-line, level-lines, marked-by, marked-words, cycle-words, reason-words, refused-words}
-use Rattle.levels.specs.Words.{level-words, Tells}
+use Rattle.levels.specs.Words.{outside-by, outside-words, level-words, Tells}
 
 -- The goals one after the other.
 
@@ -97,6 +97,24 @@ module _ (n : ℕ) (o : Option Place) (at : NotPlain) (marks : List ℕ) (p q s 
     pub refused-said : (n ≡ 38 → ⊥) → s ≡ put-all (refused-words n o marks) p
     refused-said k = reason-said false s (ne-eqb n 38 k) (sym (put-nothing s))
 
+-- The first line of a refusal.
+
+pub outside-37 : (n : ℕ) (p q : Pen) → n ≡ 37 → q ≡ put-all (ascii "outside demand 3\n") p → q ≡ put-all (outside-words n) p
+unfolding outside-words
+outside-37 n p q e f = f ∙ ap (λ (b : Bool). put-all (outside-by b (eqb n 38)) p) (sym (eq-eqb n 37 e))
+
+pub outside-38 : (n : ℕ) (p q : Pen) → n ≡ 38 → q ≡ put-all (ascii "outside demand 3\n") p → q ≡ put-all (outside-words n) p
+unfolding outside-words
+outside-38 n p q e f =
+    f ∙ ap (λ (b : Bool). put-all (outside-by b true) p) (sym (ne-eqb n 37 (λ x. omega arith)))
+    ∙ ap (λ (b : Bool). put-all (outside-by (eqb n 37) b) p) (sym (eq-eqb n 38 e))
+
+pub not-outside : (n : ℕ) (p : Pen) → (n ≡ 37 → ⊥) → (n ≡ 38 → ⊥) → p ≡ put-all (outside-words n) p
+unfolding outside-words
+not-outside n p e f =
+    sym (put-nothing p) ∙ ap (λ (b : Bool). put-all (outside-by b false) p) (sym (ne-eqb n 37 e))
+    ∙ ap (λ (b : Bool). put-all (outside-by (eqb n 37) b) p) (sym (ne-eqb n 38 f))
+
 -- What the check says.
 
 refused-by : (b : Bool) (r : Profile) (n : ℕ) → profile-by b r ≡ refused n → r .number ≡ n
@@ -116,12 +134,17 @@ tells bytes r p q x e = record {
 pub as-many-levels : (bytes : List ℕ) (r : Profile) → Profiles bytes r → r .goals ≡ length (take (r .goals) (r .levels))
 as-many-levels bytes r x = sym (length-take-le (r .goals) (r .levels) (omega (arith, x .few, x .whole)))
 
-pub tells-levels : (bytes : List ℕ) (r : Profile) (p q : Pen) → Profiles bytes r → r .number ≡ 0
-    → q ≡ put-all (level-lines 0 (take (r .goals) (r .levels))) p → Tells bytes p q
-tells-levels bytes r p q x e f =
-    tells bytes r p q x (f ∙ ap (λ (b : Bool). put-all (level-words (profile-by b r) (not-plain-place bytes) (r .«on_cycle»)) p) (sym (eq-eqb (r .number) 0 e)))
+pub tells-levels : (bytes : List ℕ) (r : Profile) (p s q : Pen) → Profiles bytes r → r .number ≡ 0
+    → s ≡ put-all (ascii "within demand 3\n") p → q ≡ put-all (level-lines 0 (take (r .goals) (r .levels))) s → Tells bytes p q
+tells-levels bytes r p s q x e h f =
+    tells bytes r p q x
+    (put-two (ascii "within demand 3\n") (level-lines 0 (take (r .goals) (r .levels))) p s q h f
+    ∙ ap (λ (b : Bool). put-all (level-words (profile-by b r) (not-plain-place bytes) (r .«on_cycle»)) p) (sym (eq-eqb (r .number) 0 e)))
 
-pub tells-refusal : (bytes : List ℕ) (r : Profile) (p q : Pen) → Profiles bytes r → (r .number ≡ 0 → ⊥)
-    → q ≡ put-all (refused-words (r .number) (not-plain-place bytes) (r .«on_cycle»)) p → Tells bytes p q
-tells-refusal bytes r p q x e f =
-    tells bytes r p q x (f ∙ ap (λ (b : Bool). put-all (level-words (profile-by b r) (not-plain-place bytes) (r .«on_cycle»)) p) (sym (ne-eqb (r .number) 0 e)))
+pub tells-refusal : (bytes : List ℕ) (r : Profile) (p s q : Pen) → Profiles bytes r → (r .number ≡ 0 → ⊥)
+    → s ≡ put-all (outside-words (r .number)) p → q ≡ put-all (refused-words (r .number) (not-plain-place bytes) (r .«on_cycle»)) s
+    → Tells bytes p q
+tells-refusal bytes r p s q x e h f =
+    tells bytes r p q x
+    (put-two (outside-words (r .number)) (refused-words (r .number) (not-plain-place bytes) (r .«on_cycle»)) p s q h f
+    ∙ ap (λ (b : Bool). put-all (level-words (profile-by b r) (not-plain-place bytes) (r .«on_cycle»)) p) (sym (ne-eqb (r .number) 0 e)))

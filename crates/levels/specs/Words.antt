@@ -1,5 +1,5 @@
--- What `levels` prints: a line for each goal with its level; or a refusal with its sentence, and then what to look at: with 37 the place
--- that is not plain first, with 38 the goals that are on a cycle through "not".
+-- What `levels` prints: whether the paper is within demand 3, and then a line for each goal with its level; or a refusal with its sentence,
+-- and where to look: with 37 the place that is not plain first, with 38 the goals that are on a cycle through "not".
 use Prim.Native.Nat.{ℕ, suc}
 use mathlib.Core.Path.{_≡_}
 use mathlib.Core.Bool.{Bool, true, false}
@@ -49,10 +49,20 @@ reason-words false marks = []
 unfoldable pub refused-words : ℕ → Option Place → (marks : List ℕ) → List ℕ
 refused-words n place marks = refusal-lines n ++ (place-line place ++ reason-words (eqb n 38) marks)
 
+-- A paper that the check accepts is within demand 3 (promises Profile: `accepted-as-promised`). One that is not plain, or not levelled, is
+-- outside it; of one that the desk refuses neither is said, for the old entry may take it.
+abbrev pub outside-by : (of-37 of-38 : Bool) → List ℕ
+outside-by true of-38 = ascii "outside demand 3\n"
+outside-by false true = ascii "outside demand 3\n"
+outside-by false false = []
+
+unfoldable pub outside-words : ℕ → List ℕ
+outside-words n = outside-by (eqb n 37) (eqb n 38)
+
 -- THE WORDS of a paper's check, by the place that is not plain first and the marks of the goals on a cycle
 abbrev pub level-words : Refusable (List ℕ) → Option Place → (marks : List ℕ) → List ℕ
-level-words (accepted levels) place marks = level-lines 0 levels
-level-words (refused n) place marks = refused-words n place marks
+level-words (accepted levels) place marks = ascii "within demand 3\n" ++ level-lines 0 levels
+level-words (refused n) place marks = outside-words n ++ refused-words n place marks
 
 -- the words of a byte string's check are put down. The marks are those of its goals wherever they are told; so from a buffer and a byte
 -- string there is one outcome (proofs/Once: `told-once`).

@@ -1,14 +1,18 @@
-// What the check of a paper says. One that is taken has a line for each goal, with its least level:
+// What the check of a paper says. One that is accepted is within demand 3, and has a line for each goal, with its least level:
 //
+//     within demand 3
 //     0 1
 //     1 0
 //
-// One that is refused has its number and the number's sentence; and one that is not plain, or not levelled, also where to look:
+// One that is refused has its number and the number's sentence. One that is not plain, or not levelled, is outside demand 3, and has also
+// where to look:
 //
+//     outside demand 3
 //     refused 37
 //     not plain: a variant, a want or a flag that is not 0, or a range
 //     goal 3, clause 0, literal 1: a want
 //
+//     outside demand 3
 //     refused 38
 //     not levelled: no numbers can be given to the goals so that each "not" leads lower and no other literal higher
 //     goals on a cycle through "not": 0 1 5
@@ -20,7 +24,7 @@ ghost use mathlib.Core.Path.{_≡_};
 ghost use Rattle.definitions.specs.NotPlain.{not-plain-place};
 ghost use Rattle.pen.specs.Pen.{pen, put-all};
 ghost use Rattle.levels.specs.Words.{words-from, level-line as levelLine, level-lines as levelLines, marked-words};
-ghost use Rattle.levels.specs.Words.{cycle-words, refused-words, Tells};
+ghost use Rattle.levels.specs.Words.{cycle-words, refused-words, outside-words, Tells};
 
 fn level_line(out: &mut [u8], at: usize, goal: usize, level: u8) -> usize
     ensures { λ r. ⌜ pen (now (out .exit)) r ≡ put-all (levelLine goal level) (pen (now (out .entry)) at) ⌝ }
@@ -95,6 +99,19 @@ fn refused(out: &mut [u8], at: usize, number: u8, bytes: &[u8], marks: &[u8]) ->
     placed
 }
 
+// The first line of a refusal by 37 or 38, from the start of the buffer on.
+fn outside(out: &mut [u8], n: u8) -> usize
+    ensures { λ r. ⌜ pen (now (out .exit)) r ≡ put-all (outside-words n) (pen (now (out .entry)) 0) ⌝ }
+{
+    if n == 37 {
+        return pen::text(out, 0, b"outside demand 3\n");
+    }
+    if n == 38 {
+        return pen::text(out, 0, b"outside demand 3\n");
+    }
+    0
+}
+
 // What the check of a byte string says, put down from the start of the buffer on.
 pub(crate) fn say(out: &mut [u8], bytes: &[u8]) -> usize
     ensures { λ r. ⌜ Tells (now (bytes .entry)) (pen (now (out .entry)) 0) (pen (now (out .exit)) r) ⌝ }
@@ -103,8 +120,10 @@ pub(crate) fn say(out: &mut [u8], bytes: &[u8]) -> usize
     if p.number == 0 {
         let levels = p.levels;
         let goals = p.goals;
-        return level_lines(out, 0, &levels[..goals]);
+        let within = pen::text(out, 0, b"within demand 3\n");
+        return level_lines(out, within, &levels[..goals]);
     }
     let marks = p.on_cycle;
-    refused(out, 0, p.number, bytes, &marks)
+    let began = outside(out, p.number);
+    refused(out, began, p.number, bytes, &marks)
 }

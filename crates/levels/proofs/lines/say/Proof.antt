@@ -7,6 +7,12 @@ use Rattle.levels.proofs.lines.say.Tie as tie
 levels-requires : tie.Need-levels-requires
 levels-requires c κs = search needs
 
+slice-aggregate-text : tie.Need-slice-aggregate-text
+slice-aggregate-text c = search needs
+
+text-requires : tie.Need-text-requires
+text-requires c κs = search needs
+
 array-share-prefix-levels : tie.Need-array-share-prefix-levels
 array-share-prefix-levels c = search needs
 
@@ -21,6 +27,9 @@ same-length c = search needs
 
 returns : tie.Need-returns
 returns c = search tells-levels
+
+outside-requires : tie.Need-outside-requires
+outside-requires c κs = search needs
 
 slice-aggregate-refused : tie.Need-slice-aggregate-refused
 slice-aggregate-refused c = search needs
@@ -39,11 +48,14 @@ say-spec =
     tie.close
     (tie.spec
     levels-requires
+    slice-aggregate-text
+    text-requires
     array-share-prefix-levels
     slice-aggregate-level-lines
     level-lines-requires
     same-length
     returns
+    outside-requires
     slice-aggregate-refused
     refused-requires
     same-length-2
