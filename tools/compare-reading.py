@@ -6,7 +6,8 @@ tools/compare-reading.py [SEED [COUNT]]     default 1 300000
 The oracle makes COUNT books and says of each how it reads it, by the old entry and at the desk. The same books go, in one list, through
 the program `reading_tests`, which ends its line with `desk 36` where the desk alone refuses, and, each as the input of a process of its
 own, through `inspect`, whose first line is `refused N` or the line of goal 0, and whose last two lines say where a clause stands twice.
-Both programs are taken from target/bin, so `rt check` comes first. Last, `inspect` is run where it can't read or can't write, and has to
+Of a book that is refused with 6 all that `inspect` says is held to what is made here of its bytes, by a reader that knows no refusal
+(`behind_6`): the book, and the literals that name no goal of it. Both programs are taken from target/bin, so `rt check` comes first. Last, `inspect` is run where it can't read or can't write, and has to
 say so on standard error. Status 0 if all agree, and each number came up with one book in 300.
 """
 import argparse
@@ -16,6 +17,7 @@ import re
 import subprocess
 import sys
 
+import papers
 import sides
 import tree
 
@@ -26,6 +28,40 @@ def output(words, given):
 
 # What the desk says behind the words of a book, in the last two lines of inspect.
 TWICE = re.compile(r"desk refused 36\ngoal (\d+), clause (\d+): the same as clause (\d+)\n?$")
+
+
+def want_of(command):
+    """What a positive literal or a range wants, behind a slash."""
+    ends = [command[i] + 256 * command[i + 1] for i in range(3, len(command) - 1, 2)]
+    return "/%d-%d" % tuple(ends) if len(ends) == 2 else "/%d" % ends[0] if ends[0] else ""
+
+
+def behind_6(data):
+    """What inspect says of a book that is refused with 6. A clause is its head, its literals in words, and the goals that they name."""
+    goals, clauses, at = [], [], 0
+    while data[at] != 0x45:
+        command = data[at:at + papers.LENGTHS[data[at]]]
+        at += len(command)
+        if command[0] == 0x47:
+            goals.append(("goal %d" % len(goals) + papers.marked(command[1], ["coinductive", "floundered"]), []))
+            continue
+        # a clause's variant, or the goal that a literal names
+        number = command[1] + 256 * command[2]
+        if command[0] == 0x43:
+            head = "%d%s" % (len(goals) - 1, "/%d" % number if number else "")
+            clauses.append((head + papers.marked(command[3], ["cannot prove", "outsized"]), [], []))
+            goals[-1][1].append(clauses[-1])
+        else:
+            word = "not %d" % number if command[0] == 0x4E else "%d%s" % (number, want_of(command))
+            clauses[-1][1].append(word + papers.marked(command[-1], ["outsized"]))
+            clauses[-1][2].append(number)
+    out = ["refused 6", "a literal names no goal", "neither entry takes it"]
+    for line, own in goals:
+        out += [line] + [head + (" :- " + ", ".join(body) if body else "") for head, body, _ in own]
+    for g, (_, own) in enumerate(goals):
+        for k, (_, _, named) in enumerate(own):
+            out += ["goal %d, clause %d, literal %d: no goal %d" % (g, k, j, n) for j, n in enumerate(named) if n >= len(goals)]
+    return "".join(line + "\n" for line in out)
 
 
 def without_place(said):
@@ -55,6 +91,8 @@ def inspected(inspect, book):
     os.close(out[0])
     os.waitpid(child, 0)
     text = said.decode()
+    if text.startswith("refused 6\n") and text != behind_6(bytes.fromhex(book)):
+        return "refused 6, and otherwise than it should: " + text
     if not text.startswith("goal 0"):
         return text.split("\n")[0]
     twice = TWICE.search(text)

@@ -1,2 +1,3 @@
 pub mod Saying
 pub mod Lines
+pub mod Looking

@@ -4,15 +4,17 @@ use Prim.Native.Nat.{ℕ, suc, _+_, _-_, _*_, _<_, _≤_}
 use native.Mathlib.Omega.{arith}
 use mathlib.Core.Bool.{Bool, true, false, not}
 use mathlib.Core.Option.{Option}
-use mathlib.Core.Path.{_≡_, sym, ap, _∙_}
+use mathlib.Core.Path.{_≡_, refl, sym, ap, _∙_}
 use mathlib.Core.List.{List, [], _∷_, _++_}
 use lib.ListN.{getD}
-use borrow.Author.Tests.{eq-eqb, ne-eqb}
+use lib.Dec.{eqb}
+use borrow.Author.Tests.{eq-eqb, ne-eqb, eqb-true}
 use Rattle.definitions.specs.Ascii.{ascii}
 use Rattle.definitions.specs.Listing.{decimal}
 use Rattle.definitions.specs.Desk as Desk
 use Rattle.definitions.specs.Desk.{repeat-of}
 use Rattle.definitions.specs.Refusal.{Refusable}
+use Rattle.definitions.specs.Mend.{read-loosely}
 use Rattle.definitions.specs.Book as Said
 use Rattle.definitions.specs.Book.{Literal, Clause, Goal, bit0, bit1}
 use Rattle.pen.specs.Pen.{Pen, put, put-all}
@@ -25,26 +27,27 @@ use Rattle.book.specs.declared.Reading.{Reading}
 use Rattle.book.specs.declared.Repeat.{Repeat}
 use Rattle.book.specs.declared.Looked.{Looked}
 use Rattle.book.specs.Repeats.{repeat-seen, Looks}
-use Rattle.book.specs.View.{Sound, clause-made, view, seen, seen-by}
+use Rattle.book.specs.View.{Formed, clause-made, view, seen, seen-by}
 use Rattle.book.proofs.Held.{goal-within}
 use Rattle.inspect.specs.Words.{before, literal-words, body-words, head-words, clause-words, clauses-words, goal-line, goal-words}
 use Rattle.inspect.specs.Words.{goals-words, refusal-words, book-words, desk-words, reading-words}
+use Rattle.inspect.specs.Missing.{behind-6, behind-by, behind-words, paper-words}
 
 module _ {A : Type 0} (f : ℕ → A) where
   -- f from a place on, k places in, of n
   abbrev pub from : (s n k : ℕ) → List A
   from s n k = span f (s + k) (n - k)
 
-  from-next : (s n k : ℕ) → k < n → from s n k ≡ f (s + k) ∷ from s n (k + 1)
+  pub from-next : (s n k : ℕ) → k < n → from s n k ≡ f (s + k) ∷ from s n (k + 1)
   from-next s n k h = span-left f (s + k) n k h ∙ ap (λ (t : ℕ). f (s + k) ∷ span f t (n - (k + 1))) (next-place s k)
     where
       next-place : (s k : ℕ) → s + k + 1 ≡ s + (k + 1)
       next-place s k = omega arith
 
-  from-end : (s n k : ℕ) → n ≤ k → from s n k ≡ []
+  pub from-end : (s n k : ℕ) → n ≤ k → from s n k ≡ []
   from-end s n k h = span-done f (s + k) n k h
 
-  from-start : (s n : ℕ) → from s n 0 ≡ span f s n
+  pub from-start : (s n : ℕ) → from s n 0 ≡ span f s n
   from-start s n = ap (λ (t : ℕ). span f t (n - 0)) (start s) ∙ ap (span f s) (whole n)
     where
       start : (s : ℕ) → s + 0 ≡ s
@@ -170,7 +173,7 @@ goal-all g h p q r e f = put-two (goal-line g (h .coinductive) (h .floundered)) 
 
 -- The clauses of a goal are clauses of the book.
 
-pub clauses-in : (b : Book) (g : ℕ) → Sound b → g < b .goals → getD (b .«goal_first») g 0 + getD (b .«goal_len») g 0 ≤ 256
+pub clauses-in : (b : Book) (g : ℕ) → Formed b → g < b .goals → getD (b .«goal_first») g 0 + getD (b .«goal_len») g 0 ≤ 256
 clauses-in b g s h = omega (arith, goal-within b (b .goals) g (s .tiles) h, s .few-clauses)
 
 -- What reading gave.
@@ -200,9 +203,26 @@ repeat-said r p q s t u e a b c d =
     (put-two (ascii ", clause " ++ decimal (r .clause)) _ q s u b
     (put-two (ascii ": the same as clause " ++ decimal (r .earlier)) (ascii "\n") s t u c d)))
 
-pub paper-said : (bytes : List ℕ) (l : Looked) (p q s : Pen) → Looks bytes l → q ≡ put-all (book-words (seen (l .reading))) p
-    → s ≡ put-all (desk-words (repeat-seen (l .repeat))) q → s ≡ put-all (reading-words (Said.read bytes)) p
-paper-said bytes l p q s x e f =
-    put-two (book-words (Said.read bytes)) (desk-words (repeat-of (Said.read bytes))) p q s
+-- behind what was accepted nothing stands
+not-6 : (loose : Refusable Said.Book) (n : ℕ) → n ≡ 0 → behind-by n loose ≡ []
+unfolding behind-by
+not-6 loose n z = ap (λ (m : ℕ). behind-6 (eqb m 6) loose) z
+
+pub paper-said : (bytes : List ℕ) (l : Looked) (p q s u : Pen) → Looks bytes l → q ≡ put-all (book-words (seen (l .reading))) p
+    → s ≡ put-all (desk-words (repeat-seen (l .repeat))) q → u ≡ put-all (behind-by (l .reading .number) (read-loosely bytes)) s
+    → u ≡ put-all (paper-words bytes) p
+paper-said bytes l p q s u x e f g =
+    put-two (reading-words (Said.read bytes)) (behind-words (Said.read bytes) (read-loosely bytes)) p s u
+    (put-two (book-words (Said.read bytes)) (desk-words (repeat-of (Said.read bytes))) p q s
     (e ∙ ap (λ (b : Refusable Said.Book). put-all (book-words b) p) (x .reads .means))
-    (f ∙ ap (λ (o : Option Desk.Repeat). put-all (desk-words o) q) (x .repeats))
+    (f ∙ ap (λ (o : Option Desk.Repeat). put-all (desk-words o) q) (x .repeats)))
+    (g ∙ ap (λ (w : List ℕ). put-all w s) (behind-read (eqb (l .reading .number) 0) refl (x .reads .means)))
+  where
+    behind-read : (t : Bool) → eqb (l .reading .number) 0 ≡ t → seen-by (eqb (l .reading .number) 0) (l .reading) ≡ Said.read bytes
+        → behind-by (l .reading .number) (read-loosely bytes) ≡ behind-words (Said.read bytes) (read-loosely bytes)
+    behind-read true z m =
+        not-6 (read-loosely bytes) (l .reading .number) (eqb-true (l .reading .number) 0 z)
+        ∙ ap (λ (b : Refusable Said.Book). behind-words b (read-loosely bytes))
+        (sym (ap (λ (t : Bool). seen-by t (l .reading)) z) ∙ m)
+    behind-read false z m =
+        ap (λ (b : Refusable Said.Book). behind-words b (read-loosely bytes)) (sym (ap (λ (t : Bool). seen-by t (l .reading)) z) ∙ m)

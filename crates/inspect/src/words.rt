@@ -11,6 +11,9 @@
 //
 //     desk refused 36
 //     goal 1, clause 2: the same as clause 0
+//
+// Behind a refusal by 6 stand the book all the same and the literals that name no goal of it (missing.rt).
+use crate::missing::behind;
 use book::Book;
 use book::Reading;
 use book::Repeat;
@@ -19,21 +22,22 @@ use book::access::low_end;
 use pen::refusals;
 ghost use mathlib.Core.Path.{_≡_};
 ghost use Prim.Native.Nat.{_<_, _/_, _%_};
-ghost use Rattle.definitions.specs.Book.{bit0 as bit0Of, bit1 as bit1Of, read as readBook};
+ghost use Rattle.definitions.specs.Book.{bit0 as bit0Of, bit1 as bit1Of};
 ghost use Rattle.pen.specs.Pen.{pen, put-all};
 ghost use Rattle.book.specs.Repeats.{repeat-seen};
-ghost use Rattle.book.specs.View.{Sound, wanted, bit2 as bit2Of, kept, clause-viewed, goal-viewed, view, seen};
+ghost use Rattle.book.specs.View.{Sound, Formed, wanted, bit2 as bit2Of, kept, clause-viewed, goal-viewed, view, seen};
 ghost use Rattle.inspect.specs.Words.{mark as markOf, slashed as slashedOf, ranged as rangedOf, want-words, name-words, literal-words, before, head-words};
 ghost use Rattle.inspect.specs.Words.{clause-words, clauses-words, goal-line as goalLine, goal-words, goals-words};
-ghost use Rattle.inspect.specs.Words.{refusal-words, book-words, desk-words, reading-words};
+ghost use Rattle.inspect.specs.Words.{refusal-words, book-words, desk-words};
+ghost use Rattle.inspect.specs.Missing.{paper-words};
 
-fn wide(n: u16) -> usize
+pub(crate) fn wide(n: u16) -> usize
     ensures { λ r. ⌜ (r ≡ n) × (r < 65536) ⌝ }
 {
     n as usize
 }
 
-fn wide8(n: u8) -> usize
+pub(crate) fn wide8(n: u8) -> usize
     ensures { λ r. ⌜ r ≡ n ⌝ }
 {
     n as usize
@@ -150,7 +154,7 @@ fn goal_line(out: &mut [u8], at: usize, goal: usize, flags: u8) -> usize
 
 // The line of clause c, of the goal that is given.
 fn clause_line(out: &mut [u8], at: usize, book: Book, goal: usize, c: usize) -> usize
-    requires { ⌜ Sound book ⌝ }
+    requires { ⌜ Formed book ⌝ }
     requires { ⌜ c < 256 ⌝ }
     ensures { λ r. ⌜ pen (now (out .exit)) r ≡ put-all (clause-words goal (clause-viewed book c)) (pen (now (out .entry)) at) ⌝ }
 {
@@ -174,7 +178,7 @@ fn clause_line(out: &mut [u8], at: usize, book: Book, goal: usize, c: usize) -> 
 
 // The lines of the clauses of goal g.
 fn clauses(out: &mut [u8], at: usize, book: Book, g: usize) -> usize
-    requires { ⌜ Sound book ⌝ }
+    requires { ⌜ Formed book ⌝ }
     requires { ⌜ g < book .goals ⌝ }
     ensures { λ r. ⌜ pen (now (out .exit)) r ≡ put-all (clauses-words g (goal-viewed book g .clauses)) (pen (now (out .entry)) at) ⌝ }
 {
@@ -191,7 +195,7 @@ fn clauses(out: &mut [u8], at: usize, book: Book, g: usize) -> usize
 
 // Goal g's line and those of its clauses.
 fn goal(out: &mut [u8], at: usize, book: Book, g: usize) -> usize
-    requires { ⌜ Sound book ⌝ }
+    requires { ⌜ Formed book ⌝ }
     requires { ⌜ g < book .goals ⌝ }
     ensures { λ r. ⌜ pen (now (out .exit)) r ≡ put-all (goal-words g (goal-viewed book g)) (pen (now (out .entry)) at) ⌝ }
 {
@@ -199,8 +203,8 @@ fn goal(out: &mut [u8], at: usize, book: Book, g: usize) -> usize
     clauses(out, line, book, g)
 }
 
-fn goals(out: &mut [u8], at: usize, book: Book) -> usize
-    requires { ⌜ Sound book ⌝ }
+pub(crate) fn goals(out: &mut [u8], at: usize, book: Book) -> usize
+    requires { ⌜ Formed book ⌝ }
     ensures { λ r. ⌜ pen (now (out .exit)) r ≡ put-all (goals-words 0 (view book)) (pen (now (out .entry)) at) ⌝ }
 {
     let mut used = at;
@@ -244,13 +248,15 @@ fn at_desk(out: &mut [u8], at: usize, r: Repeat) -> usize
     pen::text(out, earlier, b"\n")
 }
 
-// What a byte string says as a book, in words, and what the desk says to it, put down from the start of the buffer on.
+// What a byte string says as a book, in words, and what the desk says to it, put down from the start of the buffer on. Of one that is
+// refused with 6 the book stands behind the refusal, as it is read without that test, and behind it the literals that name no goal.
 pub(crate) fn say(out: &mut [u8], bytes: &[u8]) -> usize
-    ensures { λ r. ⌜ pen (now (out .exit)) r ≡ put-all (reading-words (readBook (now (bytes .entry)))) (pen (now (out .entry)) 0) ⌝ }
+    ensures { λ r. ⌜ pen (now (out .exit)) r ≡ put-all (paper-words (now (bytes .entry))) (pen (now (out .entry)) 0) ⌝ }
 {
     let l = book::desk::look(bytes);
     let r = l.reading;
     let repeat = l.repeat;
     let read = reading(out, r);
-    at_desk(out, read, repeat)
+    let told = at_desk(out, read, repeat);
+    behind(out, told, r.number, bytes)
 }

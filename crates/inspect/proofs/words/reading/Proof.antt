@@ -1,11 +1,12 @@
 -- `reading`: by whether the book was accepted.
 use Rattle.inspect.proofs.Lines.{accepted-said, refused-said}
+use Rattle.book.proofs.Shown.{sound-formed}
 use borrow.Author.Needs.{needs}
 use Rattle.inspect.proofs.words.reading.Statement.{statement}
 use Rattle.inspect.proofs.words.reading.Tie as tie
 
 goals-requires : tie.Need-goals-requires
-goals-requires c κs = c .before .before .before .before .before .pre (search needs)
+goals-requires c κs = sound-formed _ (c .before .before .before .before .before .pre (search needs))
 
 same-length : tie.Need-same-length
 same-length c = search needs

@@ -13,6 +13,9 @@ reading-requires c κs = search needs
 at-desk-requires : tie.Need-at-desk-requires
 at-desk-requires c κs = search needs
 
+behind-requires : tie.Need-behind-requires
+behind-requires c κs = search needs
+
 same-length : tie.Need-same-length
 same-length c = search needs
 
@@ -20,4 +23,5 @@ returns : tie.Need-returns
 returns c = search paper-said
 
 pub say-spec : {M : Type 1} → statement M
-say-spec = tie.close (tie.spec look-requires reading-requires at-desk-requires same-length returns)
+say-spec =
+    tie.close (tie.spec look-requires reading-requires at-desk-requires behind-requires same-length returns)
