@@ -21,7 +21,7 @@ use Rattle.batch.specs.declared.calls.Serving.{Serving}
 use Rattle.batch.specs.Calls.{call-at}
 use Rattle.batch.specs.Serve.{Stage, stage, open-by, table-of, live-with, opens, search-by, peek-by, refusal-at}
 use Rattle.batch.specs.Serve.{begun-by, begun, told, served-by, served}
-use Rattle.batch.specs.ServeAll.{runs-by, runs, walk-of, with-course, with-walk, next-begun, Serves, all-told, hand-told, call-served}
+use Rattle.batch.specs.ServeAll.{runs-by, runs, walk-of, with-course, with-walk, Serves, all-told, hand-told, call-served}
 use Rattle.batch.specs.ServeAll.{most-left, share-left, serving-left}
 
 -- A CALL THAT IS BEGUN is at hand, and no other
