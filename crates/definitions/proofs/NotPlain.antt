@@ -61,7 +61,7 @@ literal-none (Negative g o) = flag-none o
 module _ {A : Type 0} (test : A → Bool) (place : ℕ → A → Option Place) (agrees : (i : ℕ) (a : A) → is-none (place i a) ≡ test a) where
   first-none : (i : ℕ) (l : List A) → is-none (first-from place i l) ≡ each-passes test l
   first-none i [] = refl
-  first-none i (a ∷ l) = none-or (place i a) (first-from place (suc i) l) ∙ both (agrees i a) (first-none (suc i) l)
+  first-none i (a ∷ l) = none-or (place i a) _ ∙ both (agrees i a) (first-none _ l)
 
   -- the first is somewhere in the list
   pub record Found (i : ℕ) (l : List A) (p : Place) : Type 0 where
