@@ -7,8 +7,9 @@ The oracle makes COUNT books and says of each how it reads it, by the old entry 
 the program `reading_tests`, which ends its line with `desk 36` where the desk alone refuses, and, each as the input of a process of its
 own, through `inspect`, whose first line is `refused N` or the line of goal 0, and whose last two lines say where a clause stands twice.
 Of a book that is refused with 6 all that `inspect` says is held to what is made here of its bytes, by a reader that knows no refusal
-(`behind_6`): the book, and the literals that name no goal of it. Both programs are taken from target/bin, so `rt check` comes first. Last, `inspect` is run where it can't read or can't write, and has to
-say so on standard error. Status 0 if all agree, and each number came up with one book in 300.
+(`behind_6`): the book, and the literals that name no goal of it; and so is what it says of the book with most words. Both programs are
+taken from target/bin, so `rt check` comes first. Last, `inspect` is run where it can't read or can't write, and has to say so on standard
+error. Status 0 if all agree, and each number came up with one book in 300.
 """
 import argparse
 import collections
@@ -62,6 +63,12 @@ def behind_6(data):
         for k, (_, _, named) in enumerate(own):
             out += ["goal %d, clause %d, literal %d: no goal %d" % (g, k, j, n) for j, n in enumerate(named) if n >= len(goals)]
     return "".join(line + "\n" for line in out)
+
+
+def most_words():
+    """A book of which inspect has most to say: 64 goals, 256 clauses of the last of them, 8 ranges of no goal in each, and every mark."""
+    clause = b"\x43\xff\xff\x03" + b"\x52\xff\xff\xff\xff\xff\xff\x01" * 8
+    return b"\x47\x03" * 64 + clause * 256 + b"\x45"
 
 
 def without_place(said):
@@ -127,6 +134,9 @@ def main():
         print("too few books are refused by: %s" % ", ".join(map(str, rare)))
     right = report("reading_tests", books, list(map(without_place, wanted)), listed(books))
     right = report("inspect", books, wanted, [inspected(inspect, book) for book in books]) and right
+    most = most_words()
+    print("inspect: %d bytes of a book with most words" % len(behind_6(most)))
+    right = inspected(inspect, most.hex()) == "refused 6" and right
     return 0 if sides.failures(inspect) and right and not rare else 1
 
 
