@@ -1,7 +1,7 @@
 -- "The Rust's other asserts and panics are proved never to be met" (document 01, "Stopped by the state"). In the definitions each of
 -- them is stop 0, but for one: where `reconsider_floundered_subgoals` would index past its list, the definition passes by. And a
 -- peek whose passes ran out would end in InvalidAnswer. The statement is for every book, every clock limit that making accepts and
--- every list of calls. The proof is in proofs/Asserts.
+-- every list of calls. The proof is in proofs/Theorem.
 use Prim.Native.Nat.{ℕ, zero, suc}
 use mathlib.Core.Path.{_≡_}
 use mathlib.Core.Bool.{true, false}
