@@ -94,7 +94,7 @@ flounder-subgoal x i = do
   go (with-floundered x (remove (x .subgoals) i) (push (x .floundered-subgoals) floundered))
 
 -- The loop of `reconsider_floundered_subgoals`, at index i - 1 and down to 0. Each pass finds its literal, on any clause (`NeverAsserts` of
--- the promises): where none is found the Rust would panic.
+-- crate asserts): where none is found the Rust would panic.
 abbrev pub reconsider-from : ℕ → ExClause → ExClause
 reconsider-from zero x = x
 reconsider-from (suc i) x = elim (getElem? (x .floundered-subgoals) i) [
