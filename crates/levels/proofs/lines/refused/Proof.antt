@@ -1,5 +1,6 @@
 -- `refused`: the refusal's lines, then the place; and behind them the goals on a cycle if the number is 38.
 use Rattle.levels.proofs.Telling.{refused-38-said, refused-said}
+use Rattle.definitions.specs.NotPlain.{not-plain-place}
 use borrow.Author.Needs.{needs}
 use Rattle.levels.proofs.lines.refused.Statement.{statement}
 use Rattle.levels.proofs.lines.refused.Tie as tie
@@ -20,13 +21,27 @@ same-length : tie.Need-same-length
 same-length c = search needs
 
 returns : tie.Need-returns
-returns c = search refused-38-said
+returns c =
+    let line = c .before .before in
+    let t = line .before .before in
+    let placed = t .before .before .before in
+    let found = placed .before .before in
+    let said = found .before .before .before in
+    let start = said .before .before .before .before .before in
+    refused-38-said _ (not-plain-place (start .args .bytes .now)) _ _ _ _ _ (said .refusal .ensures) (found .not-plain .ensures)
+    (placed .place .ensures) _ (t .if1 .taken) (line .cycle-line .ensures)
 
 same-length-2 : tie.Need-same-length-2
 same-length-2 c = search needs
 
 returns-2 : tie.Need-returns-2
-returns-2 c = search refused-said
+returns-2 c =
+    let placed = c .before .before .before in
+    let found = placed .before .before in
+    let said = found .before .before .before in
+    let start = said .before .before .before .before .before in
+    refused-said _ (not-plain-place (start .args .bytes .now)) _ _ _ _ _ (said .refusal .ensures) (found .not-plain .ensures)
+    (placed .place .ensures) (c .if1 .left)
 
 pub refused-spec : {M : Type 1} → statement M
 refused-spec =
