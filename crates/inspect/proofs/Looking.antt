@@ -22,8 +22,8 @@ use Rattle.book.specs.View.{view, seen-by, literal-viewed, clause-viewed, goal-
 use Rattle.book.proofs.Held.{goals-counted}
 use Rattle.book.proofs.MoreLiterals.{goal-of-kept}
 use Rattle.inspect.specs.Words.{goals-words}
-use Rattle.inspect.specs.Missing.{numbered-words, missing-by, missing-literal, missing-clause, missing-goal, missing-from, loose-words}
-use Rattle.inspect.specs.Missing.{behind-6, behind-by}
+use Rattle.inspect.specs.Missing.{numbered-words, missing-by, missing-literal, missing-clause, missing-goal, missing-from}
+use Rattle.inspect.specs.Missing.{loose-words, behind-6, behind-by}
 use Rattle.inspect.proofs.Lines.{from, from-next, from-end, from-start}
 
 -- A literal.

@@ -44,5 +44,6 @@ told-marks-once bytes p q r x y e = on (desk bytes) refl (desk-below bytes)
 
 pub told-once : (bytes : List ℕ) (p q r : Pen) → Tells bytes p q → Tells bytes p r → q ≡ r
 told-once bytes p q r x y =
-    x .told ∙ ap (λ (w : List ℕ). put-all w p) (words-once (check-levels bytes) (not-plain-place bytes) (x .marks) (y .marks) (told-marks-once bytes p q r x y))
+    x .told ∙ ap (λ (w : List ℕ). put-all w p)
+    (words-once (check-levels bytes) (not-plain-place bytes) (x .marks) (y .marks) (told-marks-once bytes p q r x y))
     ∙ sym (y .told)

@@ -122,7 +122,8 @@ refused-by true r n e = absurd (not-accepted (sym e))
 refused-by false r n e = same-refused e
 
 -- the marks are told by the profile wherever the check says 38
-tells : (bytes : List ℕ) (r : Profile) (p q : Pen) → Profiles bytes r → q ≡ put-all (level-words (profile-seen r) (not-plain-place bytes) (r .«on_cycle»)) p
+tells : (bytes : List ℕ) (r : Profile) (p q : Pen) → Profiles bytes r
+    → q ≡ put-all (level-words (profile-seen r) (not-plain-place bytes) (r .«on_cycle»)) p
     → Tells bytes p q
 tells bytes r p q x e = record {
   marks = r .«on_cycle»;

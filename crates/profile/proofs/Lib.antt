@@ -1,7 +1,7 @@
--- The check of a paper. `Papers`: a plain paper; `Tested`: where it is not plain; `Asking`: what clauses ask of a level; `Settling`: one pass, and whether
--- it changes anything; `Ending`: where the passes end. Of the goals on a cycle through "not": `Raising`, a matrix that is written;
--- `Closing`, its closure; `Walks`, walks of the definitions; `Members`, the clauses and literals of a book by their places; `Leading`, the
--- edges; `Rounds`, the marks. `Checked` puts the parts together; `Once`: what is said of a profile settles it.
+-- The check of a paper. `Papers`: a plain paper; `Tested`: where it is not plain; `Asking`: what clauses ask of a level; `Settling`: one
+-- pass, and whether it changes anything; `Ending`: where the passes end. Of the goals on a cycle through "not": `Raising`, a matrix that is
+-- written; `Closing`, its closure; `Walks`, walks of the definitions; `Members`, the clauses and literals of a book by their places;
+-- `Leading`, the edges; `Rounds`, the marks. `Checked` puts the parts together; `Once`: what is said of a profile settles it.
 pub mod Asking
 pub mod Papers
 pub mod Tested

@@ -59,8 +59,8 @@ found-first (some p) other n = refl
 
 -- the numbers settle the place
 pub place-told : (o : Option Place)
-    → place-of (numbers o .what) (numbers o .«in_clause») (numbers o .«in_literal») (numbers o .goal) (numbers o .clause) (numbers o .literal)
-    ≡ o
+    → place-of (numbers o .what) (numbers o .«in_clause») (numbers o .«in_literal») (numbers o .goal) (numbers o .clause)
+    (numbers o .literal) ≡ o
 place-told none = refl
 place-told (some (in-goal g a-flag)) = refl
 place-told (some (in-goal g a-variant)) = refl
@@ -81,8 +81,8 @@ place-by o p e =
     ap (λ (r : NotPlain). place-of (r .what) (r .«in_clause») (r .«in_literal») (r .goal) (r .clause) (r .literal)) e ∙ place-told o
 
 -- a fault that was found, with its place
-placed-so : (at : Fault → Place) (c? l? : Bool) (g k j : ℕ) → ((f : Fault) → made (fault-number (some f)) c? l? g k j ≡ numbers (some (at f)))
-    → (o : Option Fault) (w : ℕ) → w ≡ fault-number o → (w ≡ 0 → ⊥) → made w c? l? g k j ≡ numbers (placed at o)
+placed-so : (at : Fault → Place) (c? l? : Bool) (g k j : ℕ)
+    → ((f : Fault) → made (fault-number (some f)) c? l? g k j ≡ numbers (some (at f))) → (o : Option Fault) (w : ℕ) → w ≡ fault-number o → (w ≡ 0 → ⊥) → made w c? l? g k j ≡ numbers (placed at o)
 placed-so at c? l? g k j same none w e n = absurd (n e)
 placed-so at c? l? g k j same (some f) w e n = ap (λ (m : ℕ). made m c? l? g k j) e ∙ same f
 
