@@ -66,9 +66,8 @@ def all_models(data):
 def levelled(oracle, seed, count):
     """Plain levelled papers that have a clause twice: about every second one that is made."""
     chance = random.Random(seed)
-    script = sides.said([oracle, "gen", str(seed), str(4 * count), "plain"], b"").decode()
-    # the desk and the old entry have the same book
-    made = list(dict.fromkeys(map(bytes.fromhex, re.findall(r"^book ([0-9A-F]*) clock", script, re.M))))
+    some = sides.said([oracle, "books", str(seed), str(4 * count), "levelled"], b"").decode().split()
+    made = list(dict.fromkeys(map(bytes.fromhex, some)))
     twice = [data for data, said in zip(made, mended.read(oracle, made)) if said.startswith("accepted, desk refused 36")]
     return [loosened(chance, data) if n % 2 else data for n, data in enumerate(twice[:count])]
 

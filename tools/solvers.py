@@ -1,5 +1,4 @@
 """Other solvers, and the listing that they are held against: what is shared by the tools that run them."""
-import re
 import shutil
 import subprocess
 import sys
@@ -56,7 +55,7 @@ class Listing:
 
 def plain_books(oracle, seed, count):
     """So many that the desk takes; it refuses about every second one that is made."""
-    run = subprocess.run([oracle, "gen", str(seed), str(3 * count), "plain"], capture_output=True, text=True, check=True)
-    made = re.findall(r"^book ([0-9A-F]*) clock", run.stdout, re.M)
+    run = subprocess.run([oracle, "books", str(seed), str(3 * count), "levelled"], capture_output=True, text=True, check=True)
+    made = run.stdout.split()
     read = subprocess.run([oracle, "read"], input="\n".join(made) + "\n", capture_output=True, text=True, check=True).stdout
     return [bytes.fromhex(digits) for digits, said in zip(made, read.split("\n")) if said == "accepted"][:count]

@@ -36,7 +36,7 @@ const USAGE: &str = "usage: oracle list [hex] < BOOK
        oracle searches < SCRIPT
        oracle read < LINES OF HEX
        oracle gen SEED COUNT [mix|plain|tiny|bytes|answers|small|limits|large|lines]
-       oracle books SEED COUNT [damaged|plain|few|torn]
+       oracle books SEED COUNT [damaged|plain|levelled|few|torn]
        oracle check [CALLS [SEED]]
        oracle demand3 SEED COUNT
        oracle bench [PROGRAM [ARGUMENT..]]
@@ -199,6 +199,9 @@ fn command(words: &[&str]) -> Result<(), String> {
             books(number(seed)?, number(count)?, gen::damaged_book)
         }
         ["books", seed, count, "plain"] => books(number(seed)?, number(count)?, gen::nearly_plain),
+        ["books", seed, count, "levelled"] => {
+            books(number(seed)?, number(count)?, |rng| gen::plain_book(rng).0.bytes())
+        }
         ["books", seed, count, "few"] => {
             books(number(seed)?, number(count)?, |rng| gen::few_goals(rng).bytes())
         }
