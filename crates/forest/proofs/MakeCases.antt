@@ -57,10 +57,12 @@ bare-is b limit mark ts et s es a ea =
     ∙ ap (λ (u : Strands). forest-with b blank-tables u a limit mark) es
     ∙ ap (λ (u : Answers). forest-with b blank-tables blank-strands u limit mark) ea
 
-pub refused-is : (n : ℕ) (b : Book) → b ≡ books.blank → (f : Forest) → f ≡ bare b 0 n
-    → _≡_ {A = Made} (record { making = makings.Refused n; forest = f }) (refused-with n)
-refused-is n b eb f e =
-    ap (λ (g : Forest). record { making = makings.Refused n; forest = g }) (e ∙ ap (λ (c : Book). bare c 0 n) eb)
+pub refused-is : (n : ℕ) (b : Book) (f : Forest) → f ≡ bare b 0 n
+    → _≡_ {A = Made} (record { making = makings.Refused n; forest = f }) (refused-with n b)
+refused-is n b f e = ap (λ (g : Forest). record { making = makings.Refused n; forest = g }) e
+
+pub limit-refused-is : (b : Book) → b ≡ books.blank → (m : Made) → m ≡ refused-with 13 b → m ≡ refused-with 13 books.blank
+limit-refused-is b eb m e = e ∙ ap (refused-with 13) eb
 
 -- blank stores are sound, with any book
 pub bare-sounds : (b : Book) (limit mark : ℕ) → Sounds [] (stores-in (bare b limit mark))
@@ -81,7 +83,7 @@ blank-rests n = record {
   forest = bare-sound [] 0 n (omega arith) end (omega arith);
 }
 
-refused-says : (what : Refusable tables.Forest) (n : ℕ) → refused n ≡ what → MadeSays what (refused-with n)
+refused-says : (what : Refusable tables.Forest) (n : ℕ) → refused n ≡ what → MadeSays what (refused-with n books.blank)
 refused-says what n e = record {
   says = e;
   sound = blank-rests n;
@@ -102,8 +104,10 @@ module _ (limit : ℕ) where
     what = said.make-of (books.seen r) limit
 
     -- the book's number
-    pub says-unread : 0 < r .number → (m : Made) → m ≡ refused-with (r .number) → MakeOfSays r limit m
-    says-unread some m is = subst (MadeSays what) (sym is) (refused-says what (r .number)
+    pub says-unread : Stems r → 0 < r .number → (m : Made) → m ≡ refused-with (r .number) (r .book) → MakeOfSays r limit m
+    says-unread h some m is =
+        let blank = ap (refused-with (r .number)) (h .bare (λ e. omega (arith, e, some))) in
+        subst (MadeSays what) (sym (is ∙ blank)) (refused-says what (r .number)
         (sym (ap (λ (b : Bool). said.make-of (books.seen-by b r) limit) (ne-eqb (r .number) 0 (λ e. omega (arith, e, some))))))
 
     module _ (read : r .number ≤ 0) where
@@ -111,7 +115,7 @@ module _ (limit : ℕ) where
       make-is = sym (ap (λ (b : Bool). said.make-of (books.seen-by b r) limit) (eq-eqb (r .number) 0 (omega (arith, read))))
 
       -- the limit's number
-      pub says-zero : limit ≡ 0 → (m : Made) → m ≡ refused-with 13 → MakeOfSays r limit m
+      pub says-zero : limit ≡ 0 → (m : Made) → m ≡ refused-with 13 books.blank → MakeOfSays r limit m
       says-zero e m is = subst (MadeSays what) (sym is) (refused-says what 13
           (sym (ap (λ (b : Bool). limited b (leb MAX limit) (books.view (r .book))) (eq-eqb limit 0 e)) ∙ make-is))
 
@@ -119,7 +123,7 @@ module _ (limit : ℕ) where
         above : limited false (leb MAX limit) (books.view (r .book)) ≡ limited (eqb limit 0) (leb MAX limit) (books.view (r .book))
         above = sym (ap (λ (b : Bool). limited b (leb MAX limit) (books.view (r .book))) (ne-eqb limit 0 some))
 
-        pub says-large : MAX ≤ limit → (m : Made) → m ≡ refused-with 13 → MakeOfSays r limit m
+        pub says-large : MAX ≤ limit → (m : Made) → m ≡ refused-with 13 books.blank → MakeOfSays r limit m
         says-large large m is = subst (MadeSays what) (sym is) (refused-says what 13
             (sym (ap (λ (b : Bool). limited false b (books.view (r .book))) (le-leb MAX limit large)) ∙ above ∙ make-is))
 
@@ -162,6 +166,7 @@ module _ (bytes : List ℕ) (r : Reading) where
       bytes,
       as-read (books.view (r .book)) (sym (h .means) ∙ ap (λ (b : Bool). books.seen-by b r) (eq-eqb (r .number) 0 e)),
     );
+    bare = h .bare;
   }
 
   gives-says : (given : Refusable said-book.Book) → books.Gives given r → (limit : ℕ) (m : Made) → MakeOfSays r limit m

@@ -33,8 +33,8 @@ abbrev pub bare : Book → (limit mark : ℕ) → Forest
 bare b limit mark = forest-with b blank-tables blank-strands blank-answers limit mark
 
 -- `refused`: what a refusal with this number leaves
-abbrev pub refused-with : (number : ℕ) → Made
-refused-with n = record { making = makings.Refused n; forest = bare books.blank 0 n }
+abbrev pub refused-with : (number : ℕ) → Book → Made
+refused-with n b = record { making = makings.Refused n; forest = bare b 0 n }
 
 abbrev pub made-by : Making → tables.Forest → Refusable tables.Forest
 made-by (makings.Refused n) f = refused n
@@ -58,10 +58,12 @@ MakeSays bytes limit r = MadeSays (said.make bytes limit) r
 abbrev pub MakeAtDeskSays : (bytes : List ℕ) → (limit : ℕ) → Made → Type 0
 MakeAtDeskSays bytes limit r = MadeSays (make-at-desk bytes limit) r
 
--- A reading that stems from bytes: a book that it holds is sound, and one that `read` gives. Both entries leave such.
+-- A reading that stems from bytes: a book that it holds is sound, and one that `read` gives; with a refusal it is blank. Both entries leave
+-- such.
 pub record Stems (r : Reading) : Type 0 where
   pub sound : r .number ≡ 0 → books.Sound (r .book)
   pub from : r .number ≡ 0 → (bytes : List ℕ) × (said-book.read bytes ≡ accepted (books.view (r .book)))
+  pub bare : (r .number ≡ 0 → ⊥) → r .book ≡ books.blank
 
 -- what is made of a reading: the two ways in differ in the reading alone
 abbrev pub MakeOfSays : Reading → (limit : ℕ) → Made → Type 0

@@ -9,6 +9,7 @@ use stores::table::blank_answers;
 use stores::tables::blank_tables;
 use strands::times::TimeStamp;
 ghost use mathlib.Core.Path.{_≡_};
+ghost use Rattle.book.specs.View.{blank as blankBook};
 ghost use Rattle.forest.specs.Make.{bare, refused-with, MakeSays, MakeAtDeskSays, Stems, MakeOfSays};
 
 pub enum Making {
@@ -101,15 +102,22 @@ fn bare_forest(b: Book, clock_limit: u64, mark: u8) -> Forest
     }
 }
 
-// A forest that was not made holds nothing and is marked with the number, so that whoever calls it is refused.
-fn refused(number: u8) -> Made
-    ensures { λ r. ⌜ r ≡ refused-with number ⌝ }
+// A forest that was not made is marked with the number, so that whoever calls it is refused.
+fn refused(number: u8, blank: Book) -> Made
+    ensures { λ r. ⌜ r ≡ refused-with number blank ⌝ }
 {
     let making = Making::Refused(number);
-    let reading = book::refused(number);
-    let blank = reading.book;
     let forest = bare_forest(blank, 0, number);
     Made { making, forest }
+}
+
+// The clock's limit is refused: nothing is kept of the book.
+fn limit_refused() -> Made
+    ensures { λ r. ⌜ r ≡ refused-with 13 blankBook ⌝ }
+{
+    let reading = book::refused(13);
+    let blank = reading.book;
+    refused(13, blank)
 }
 
 // What both ways in do behind the reading: refused by its number, then with 13 where the clock's limit is 0 or the largest number.
@@ -117,16 +125,16 @@ fn make_of(r: Reading, clock_limit: u64) -> Made
     requires { ⌜ Stems r ⌝ }
     ensures { λ m. ⌜ MakeOfSays r «clock_limit» m ⌝ }
 {
+    let b = r.book;
     if r.number > 0 {
-        return refused(r.number);
+        return refused(r.number, b);
     }
     if clock_limit == 0 {
-        return refused(13);
+        return limit_refused();
     }
     if clock_limit >= TimeStamp::MAX.clock {
-        return refused(13);
+        return limit_refused();
     }
-    let b = r.book;
     let making = Making::Made;
     let forest = bare_forest(b, clock_limit, 0);
     Made { making, forest }

@@ -10,40 +10,41 @@ refused-requires c κs = search needs
 returns : tie.Need-returns
 returns c =
     let test = c .before in
-    let a = test .before .before .args in
-    says-unread (a .clock-limit) (a .r) (test .if1 .taken) (c .refused .result) (c .refused .ensures)
+    let start = test .before .before .before in
+    let a = start .args in
+    says-unread (a .clock-limit) (a .r) (start .pre) (test .if1 .taken) (c .refused .result) (c .refused .ensures)
 
-refused-requires-2 : tie.Need-refused-requires-2
-refused-requires-2 c κs = search needs
+limit-refused-requires : tie.Need-limit-refused-requires
+limit-refused-requires c κs = search needs
 
 returns-2 : tie.Need-returns-2
 returns-2 c =
     let zero = c .before in
     let test = zero .before in
-    let a = test .before .before .args in
-    says-zero (a .clock-limit) (a .r) (test .if1 .left) (zero .if2 .taken) (c .refused2 .result) (c .refused2 .ensures)
+    let a = test .before .before .before .args in
+    says-zero (a .clock-limit) (a .r) (test .if1 .left) (zero .if2 .taken) (c .limit-refused .result) (c .limit-refused .ensures)
 
-refused-requires-3 : tie.Need-refused-requires-3
-refused-requires-3 c κs = search needs
+limit-refused-requires-2 : tie.Need-limit-refused-requires-2
+limit-refused-requires-2 c κs = search needs
 
 returns-3 : tie.Need-returns-3
 returns-3 c =
     let large = c .before in
     let zero = large .before .before in
     let test = zero .before in
-    let a = test .before .before .args in
-    says-large (a .clock-limit) (a .r) (test .if1 .left) (zero .if2 .left) (large .if3 .taken) (c .refused3 .result)
-    (c .refused3 .ensures)
+    let a = test .before .before .before .args in
+    says-large (a .clock-limit) (a .r) (test .if1 .left) (zero .if2 .left) (large .if3 .taken) (c .limit-refused2 .result)
+    (c .limit-refused2 .ensures)
 
 bare-forest-requires : tie.Need-bare-forest-requires
 bare-forest-requires c κs = search needs
 
 returns-4 : tie.Need-returns-4
 returns-4 c =
-    let large = c .before .before in
+    let large = c .before in
     let zero = large .before .before in
     let test = zero .before in
-    let start = test .before .before in
+    let start = test .before .before .before in
     let a = start .args in
     says-made (a .clock-limit) (a .r) (test .if1 .left) (zero .if2 .left) (large .if3 .left) (start .pre) (c .bare-forest .result)
     (c .bare-forest .ensures)
@@ -54,9 +55,9 @@ make-of-spec =
     (tie.spec
     refused-requires
     returns
-    refused-requires-2
+    limit-refused-requires
     returns-2
-    refused-requires-3
+    limit-refused-requires-2
     returns-3
     bare-forest-requires
     returns-4)
