@@ -1,4 +1,4 @@
--- What a text of the form is (change request 13), said without reading it: the text that is written for so many goals and these rules, where
+-- What a text of the form is (change request 13), said without reading it: the text written for so many goals and these rules, where
 -- each head has a table line and none comes behind a larger one. A literal may have any number, and has no flag and no want.
 use Prim.Native.Nat.{ℕ, _<_, _≤_, min}
 use mathlib.Core.Path.{_≡_}

@@ -82,7 +82,8 @@ place-by o p e =
 
 -- a fault that was found, with its place
 placed-so : (at : Fault → Place) (c? l? : Bool) (g k j : ℕ)
-    → ((f : Fault) → made (fault-number (some f)) c? l? g k j ≡ numbers (some (at f))) → (o : Option Fault) (w : ℕ) → w ≡ fault-number o → (w ≡ 0 → ⊥) → made w c? l? g k j ≡ numbers (placed at o)
+    → ((f : Fault) → made (fault-number (some f)) c? l? g k j ≡ numbers (some (at f)))
+    → (o : Option Fault) (w : ℕ) → w ≡ fault-number o → (w ≡ 0 → ⊥) → made w c? l? g k j ≡ numbers (placed at o)
 placed-so at c? l? g k j same none w e n = absurd (n e)
 placed-so at c? l? g k j same (some f) w e n = ap (λ (m : ℕ). made m c? l? g k j) e ∙ same f
 
