@@ -35,7 +35,10 @@ pub mod XsbForm
 pub mod XsbCases
 pub mod Mend
 pub mod MendCases
+pub mod Derive
+pub mod Spoilt
 pub mod Claim
+pub mod Certified
 pub mod Instances
 
 abbrev pub TableIndex : Type 0

@@ -63,8 +63,8 @@ placed at none = none
 placed at (some fault) = some (at fault)
 
 -- the first in a list, whose members are numbered from i on
-module _ {A : Type 0} where
-  abbrev pub first-from : (place : ℕ → A → Option Place) → (i : ℕ) → List A → Option Place
+module _ {A B : Type 0} where
+  abbrev pub first-from : (place : ℕ → A → Option B) → (i : ℕ) → List A → Option B
   first-from place i [] = none
   first-from place i (a ∷ l) = or-else (place i a) (first-from place (suc i) l)
 
