@@ -1,0 +1,14 @@
+-- A yes that can be printed (change request 2). `Kept` states the local steps and what is kept of a state; `Choosing` to `Calls` show that
+-- every call keeps it, whatever P and Q are; `Derive` is the instance, and `Theorem` has `certified`. `Spoilt` shows that the goals which
+-- nothing spoils are the largest clean set.
+pub mod Fine
+pub mod Kept
+pub mod Choosing
+pub mod States
+pub mod Merging
+pub mod Answers
+pub mod Turns
+pub mod Calls
+pub mod Derive
+pub mod Spoilt
+pub mod Theorem
