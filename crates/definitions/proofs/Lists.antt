@@ -187,6 +187,36 @@ module _ {A : Type 0} {P : A → Type 0} where
   pub all-swap-remove : {l : List A} (i : ℕ) → All P l → All P (swap-remove l i)
   all-swap-remove {l} i x = all-swapped i (getElem? l (length l - 1)) refl x
 
+  -- what was taken out, put back
+  pub all-unremove : (l : List A) (i : ℕ) (a : A) → getElem? l i ≡ some a → P a → All P (remove l i) → All P l
+  all-unremove [] i a e r x = end
+  all-unremove (b ∷ []) zero a e r x = more (subst P (sym (same-some e)) r) end
+  all-unremove (b ∷ c ∷ l) zero a e r x = more (subst P (sym (same-some e)) r) x
+  all-unremove (b ∷ l) (suc i) a e r (more y x) = more y (all-unremove l i a e r x)
+
+  -- the last one of a list written over the one at i, and the end cut off
+  all-unswap : (l : List A) (z : A) (i : ℕ) (a : A) → getElem? (l ++ (z ∷ [])) i ≡ some a → P a
+      → All P (take (length l) (set (l ++ (z ∷ [])) i z)) → All P (l ++ (z ∷ []))
+  all-unswap [] z zero a e r x = more (subst P (sym (same-some e)) r) end
+  all-unswap [] z (suc i) a e r x = absurd (no-such e)
+  all-unswap (b ∷ l) z zero a e r (more y x) = more (subst P (sym (same-some e)) r) (rest l x)
+    where
+      rest : (l : List A) → All P (take (length l) (l ++ (z ∷ []))) → All P (l ++ (z ∷ []))
+      rest [] x = more y end
+      rest (b ∷ l) (more w x) = more w (rest l x)
+  all-unswap (b ∷ l) z (suc i) a e r (more y x) = more y (all-unswap l z i a e r x)
+
+  pub all-unswap-remove : (l : List A) (i : ℕ) (a : A) → getElem? l i ≡ some a → P a → All P (swap-remove l i) → All P l
+  all-unswap-remove [] i a e r x = end
+  all-unswap-remove (b ∷ l) i a e r x =
+      let q = snoc b l in
+      let m = q .0 in
+      let z = q .1 in
+      subst (All P) (q .2) (all-unswap m z i a (ap (λ (w : List A). getElem? w i) (q .2) ∙ e) r
+      (subst (All P) (swap-remove-is (m ++ (z ∷ [])) i z (ap (getElem? (m ++ (z ∷ []))) (last-place m z) ∙ last-one m z)
+      ∙ ap (λ (k : ℕ). take k (set (m ++ (z ∷ [])) i z)) (last-place m z))
+      (subst (λ (w : List A). All P (swap-remove w i)) (sym (q .2)) x)))
+
 -- Goals but one.
 
 pub length-other-than : (goal : ℕ) (ds : List ℕ) → length (other-than goal ds) ≤ length ds

@@ -4,6 +4,7 @@ use mathlib.Core.Path.{_≡_, refl, sym, subst}
 use mathlib.Core.Option.{Option, none, some}
 use mathlib.Core.List.{List, [], _∷_, List·Memᴰ, List·Memᴰ·head, List·Memᴰ·tail, List·Memᴰ·not-nil}
 use lib.ListN.{length, getElem?}
+use Rattle.laws.proofs.All.{All, end, more}
 use Rattle.laws.proofs.Lists.{place-under}
 use Rattle.definitions.specs.Book.{Clause, Goal, Book}
 use Rattle.definitions.specs.Model.{Each, clauses-of}
@@ -16,6 +17,16 @@ module _ {A : Type 0} (P : A → Type 0) where
   pub each-by : (l : List A) → ((a : A) → List·Memᴰ a l → P a) → Each P l
   each-by [] h = tt
   each-by (a ∷ l) h = (h a (List·Memᴰ·head refl), each-by l (λ b m. h b (List·Memᴰ·tail m)))
+
+-- the same, as a type of its own
+module _ {A : Type 0} {P : A → Type 0} where
+  pub each-all : (l : List A) → Each P l → All P l
+  each-all [] x = end
+  each-all (a ∷ l) x = more (x .0) (each-all l (x .1))
+
+  pub all-each : {l : List A} → All P l → Each P l
+  all-each end = tt
+  all-each (more p x) = (p, all-each x)
 
 pub clause-inside : (book : Book) (g : ℕ) (c : Clause) → List·Memᴰ c (clauses-of book g) → g < length book
 clause-inside book g c m = on (getElem? book g) refl m

@@ -1,74 +1,25 @@
 -- A yes that can be printed (change request 2): in a clean set of goals, every unambiguous answer can be derived. What is kept of a strand:
 -- where its literals, floundered ones included, can be derived, its goal can; of an answer: where it is unambiguous, it can be derived.
-use Prim.Native.Nat.{ℕ, zero, suc, _-_}
+use Prim.Native.Nat.{ℕ}
 use mathlib.Core.Path.{_≡_, refl, sym, ap, subst, _∙_}
 use mathlib.Core.Bool.{Bool, true, false, not, _&&_, true≢false}
 use mathlib.Core.Option.{Option, none, some}
 use mathlib.Core.List.{List, [], _∷_, _++_}
-use lib.ListN.{length, getElem?, take, set}
+use lib.ListN.{getElem?}
 use Rattle.definitions.specs.{FlounderedSubgoal, Answer}
 use Rattle.definitions.specs.Book.{Want, Literal, Positive, Negative, Book, goal-of}
 use Rattle.definitions.specs.Fitting.{gets-table, answer-fits}
-use Rattle.definitions.specs.Lists.{push, remove, swap-remove, is-empty}
+use Rattle.definitions.specs.Lists.{push, remove, is-empty}
 use Rattle.definitions.specs.Strand.{SelectedSubgoal, Strand}
 use Rattle.definitions.specs.Turn.{other-than, create-refinement-strand}
 use Rattle.definitions.specs.Model.{Each}
 use Rattle.definitions.specs.Derive.{Derives, derives-end, derives, Derivable, CleanLiteral, Clean}
-use Rattle.definitions.proofs.Lists.{all-push, all-remove, all-swap-remove, swap-remove-is}
-use Rattle.definitions.proofs.Members.{each-at}
-use Rattle.laws.proofs.Lists.{last-place, last-one, snoc}
+use Rattle.definitions.proofs.Lists.{all-push, all-remove, all-swap-remove, all-unremove, all-unswap-remove}
+use Rattle.definitions.proofs.Members.{each-at, each-all}
 use Rattle.laws.proofs.Options.{same-some, no-such}
 use Rattle.laws.proofs.Bools.{both-false, was-false}
-use Rattle.laws.proofs.All.{All, end, more, all-at}
+use Rattle.laws.proofs.All.{All, end, more, all-at, all-front, all-last}
 use Rattle.derivable.proofs.Kept.{Within, Closed}
-
--- Lists with one more, or one less.
-
-module _ {A : Type 0} {R : A → Type 0} where
-  all-front : (l : List A) (a : A) → All R (l ++ (a ∷ [])) → All R l
-  all-front [] a x = end
-  all-front (b ∷ l) a (more y x) = more y (all-front l a x)
-
-  all-last : (l : List A) (a : A) → All R (l ++ (a ∷ [])) → R a
-  all-last [] a (more y x) = y
-  all-last (b ∷ l) a (more y x) = all-last l a x
-
-  all-unremove : (l : List A) (i : ℕ) (a : A) → getElem? l i ≡ some a → R a → All R (remove l i) → All R l
-  all-unremove [] i a e r x = end
-  all-unremove (b ∷ []) zero a e r x = more (subst R (sym (same-some e)) r) end
-  all-unremove (b ∷ c ∷ l) zero a e r x = more (subst R (sym (same-some e)) r) x
-  all-unremove (b ∷ l) (suc i) a e r (more y x) = more y (all-unremove l i a e r x)
-
-  -- the last one of a list written over the one at i, and the end cut off
-  all-unswap : (l : List A) (z : A) (i : ℕ) (a : A) → getElem? (l ++ (z ∷ [])) i ≡ some a → R a
-      → All R (take (length l) (set (l ++ (z ∷ [])) i z)) → All R (l ++ (z ∷ []))
-  all-unswap [] z zero a e r x = more (subst R (sym (same-some e)) r) end
-  all-unswap [] z (suc i) a e r x = absurd (no-such e)
-  all-unswap (b ∷ l) z zero a e r (more y x) = more (subst R (sym (same-some e)) r) (rest l x)
-    where
-      rest : (l : List A) → All R (take (length l) (l ++ (z ∷ []))) → All R (l ++ (z ∷ []))
-      rest [] x = more y end
-      rest (b ∷ l) (more w x) = more w (rest l x)
-  all-unswap (b ∷ l) z (suc i) a e r (more y x) = more y (all-unswap l z i a e r x)
-
-  all-unswap-remove : (l : List A) (i : ℕ) (a : A) → getElem? l i ≡ some a → R a → All R (swap-remove l i) → All R l
-  all-unswap-remove [] i a e r x = end
-  all-unswap-remove (b ∷ l) i a e r x =
-      let q = snoc b l in
-      let m = q .0 in
-      let z = q .1 in
-      subst (All R) (q .2) (all-unswap m z i a (ap (λ (w : List A). getElem? w i) (q .2) ∙ e) r
-      (subst (All R) (swap-remove-is (m ++ (z ∷ [])) i z (ap (getElem? (m ++ (z ∷ []))) (last-place m z) ∙ last-one m z)
-      ∙ ap (λ (k : ℕ). take k (set (m ++ (z ∷ [])) i z)) (last-place m z))
-      (subst (λ (w : List A). All R (swap-remove w i)) (sym (q .2)) x)))
-
-each-all : {A : Type 0} {R : A → Type 0} (l : List A) → Each R l → All R l
-each-all [] x = end
-each-all (a ∷ l) x = more (x .0) (each-all l (x .1))
-
-pub all-each : {A : Type 0} {R : A → Type 0} {l : List A} → All R l → Each R l
-all-each end = tt
-all-each (more p x) = (p, all-each x)
 
 same-goal-of : {g h : ℕ} {v w : Want} {o p : Bool} → Positive g v o ≡ Positive h w p → (g ≡ h) × (o ≡ p)
 same-goal-of {g} {h} {v} {w} {o} {p} e = (cc, cc)

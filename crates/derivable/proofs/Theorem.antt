@@ -1,5 +1,5 @@
 -- Every unambiguous answer of a clean goal can be derived, in every forest that a list of calls leaves and in every reply.
-use Prim.Native.Nat.{ℕ, zero, suc, _+_, _<_}
+use Prim.Native.Nat.{ℕ, _+_, _<_}
 use native.Mathlib.Omega.{arith}
 use borrow.Author.Tests.{eq-eqb, eqb-true, lt-leb}
 use mathlib.Core.Path.{_≡_, refl, sym, ap, subst, _∙_}
@@ -9,7 +9,7 @@ use mathlib.Core.List.{List, [], _∷_, _++_}
 use lib.ListN.{length, getElem?}
 use lib.Dec.{eqb, leb, ltb}
 use Rattle.definitions.specs.{MAX, TableIndex}
-use Rattle.definitions.specs.Book.{Goal, Book, read}
+use Rattle.definitions.specs.Book.{Book, read}
 use Rattle.definitions.specs.Refusal.{Refusable, refused, accepted, _refuses_}
 use Rattle.definitions.specs.Stop.{Stops, stop, go, _>>=_, _>>_, stop-if}
 use Rattle.definitions.specs.Table.{Table}
@@ -23,21 +23,22 @@ use Rattle.definitions.specs.Calls as said
 use Rattle.definitions.specs.Calls.{sitting, Call, Reply}
 use Rattle.definitions.specs.Claim.{Names, Named, about}
 use Rattle.definitions.specs.Model.{Each}
-use Rattle.definitions.specs.Derive.{Derivable, Clean, CleanGoal, CleanBook}
+use Rattle.definitions.specs.Derive.{Derivable, Clean, CleanBook}
 use Rattle.definitions.specs.Certified.{StoredDerivable, EndingDerivable, ReplyDerivable, CallDerivable}
 use Rattle.definitions.specs.Certified.{Certified, CertifiedAtDesk, BookCertified, UnspoiltCertified}
 use Rattle.definitions.proofs.Desk.{made-as-read}
 use Rattle.definitions.proofs.Lists.{position-at, position-none}
+use Rattle.definitions.proofs.Members.{each-all, all-each}
 use Rattle.definitions.proofs.Refusal.{not-accepted, all-pass, same-accepted}
 use Rattle.laws.proofs.Lists.{place-under}
-use Rattle.laws.proofs.Options.{same-some, no-such}
+use Rattle.laws.proofs.Options.{same-some}
 use Rattle.laws.proofs.All.{all-at, all-map}
 use Rattle.asserts.proofs.Safe.{stop-go}
 use Rattle.asserts.proofs.Sound.{SoundForest}
 use Rattle.asserts.proofs.Reading.{bare, made-sound}
 use Rattle.asserts.proofs.Theorem.{forests-sound}
 use Rattle.derivable.proofs.Calls.{Between, Says, ReplyStored, Called, calls-kept, made-kept}
-use Rattle.derivable.proofs.Derive.{all-each, closed}
+use Rattle.derivable.proofs.Derive.{closed}
 use Rattle.derivable.proofs.Spoilt.{unspoilt-clean}
 
 -- A table names its goal.
@@ -181,13 +182,8 @@ pub certified-at-desk : CertifiedAtDesk
 certified-at-desk bytes limit f e = certified bytes limit f (made-as-read bytes limit f e)
 
 -- a book with no "not" and no coinductive goal is clean as a whole
-clean-at : (R : Goal → Type 0) (book : List Goal) (i : ℕ) (g : Goal) → Each R book → getElem? book i ≡ some g → R g
-clean-at R [] i g x e = absurd (no-such e)
-clean-at R (h ∷ gs) zero g x e = subst R (same-some e) (x .0)
-clean-at R (h ∷ gs) (suc i) g x e = clean-at R gs i g (x .1) e
-
 pub whole-book : (book : Book) → CleanBook book → Clean book (λ goal. Unit {0})
-whole-book book x goal g c e = clean-at (CleanGoal (λ h. Unit {0})) book goal g x e
+whole-book book x goal g c e = all-at goal (each-all book x) e
 
 pub book-certified : BookCertified
 book-certified bytes limit f e x cs = certified bytes limit f e (λ goal. Unit {0}) (whole-book (f .book) x) cs

@@ -27,6 +27,15 @@ module _ {A : Type 0} {P : A → Type 0} where
   all-append end y = y
   all-append (more p x) y = more p (all-append x y)
 
+  -- all but the last, and the last
+  pub all-front : (l : List A) (a : A) → All P (l ++ (a ∷ [])) → All P l
+  all-front [] a x = end
+  all-front (b ∷ l) a (more p x) = more p (all-front l a x)
+
+  pub all-last : (l : List A) (a : A) → All P (l ++ (a ∷ [])) → P a
+  all-last [] a (more p x) = p
+  all-last (b ∷ l) a (more p x) = all-last l a x
+
   pub all-take : (i : ℕ) {l : List A} → All P l → All P (take i l)
   all-take zero end = end
   all-take zero (more p x) = end
