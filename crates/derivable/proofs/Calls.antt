@@ -117,7 +117,14 @@ module _ {book : Book} {P : List ℕ → ℕ → Strand → Type 0} {Q : ℕ →
         still-unmarked = λ e. absurd (false≢true e);
         unless-stopped = λ e. absurd (true≢false e);
       })
-      (λ f x. record { mark = m; between = record { goals = gs; kept = x }; says = says f; unmarked = inv; still-unmarked = exc; unless-stopped = stp })
+      (λ f x. record {
+        mark = m;
+        between = record { goals = gs; kept = x };
+        says = says f;
+        unmarked = inv;
+        still-unmarked = exc;
+        unless-stopped = stp;
+      })
 
   -- with the answer: the stack is empty, and nothing is put back
   puts-answer : (t : TableIndex) (i : ℕ) (gs : List ℕ) (turns : ℕ) (f : Forest) (es : Stack)
@@ -172,7 +179,14 @@ module _ {book : Book} {P : List ℕ → ℕ → Strand → Type 0} {Q : ℕ →
 
   same-forest : (t : TableIndex) (turns : ℕ) (f : Forest) (e : Ending) → Between 0 f → Says f t e
       → EndsIn t (record { ending = e; turns = turns; forest = f })
-  same-forest t turns f e b x = record { mark = 0; between = b; says = x; unmarked = λ q. refl; still-unmarked = λ q. refl; unless-stopped = λ q. refl }
+  same-forest t turns f e b x = record {
+    mark = 0;
+    between = b;
+    says = x;
+    unmarked = λ q. refl;
+    still-unmarked = λ q. refl;
+    unless-stopped = λ q. refl;
+  }
 
   pub root-kept : (limit : ℕ) (t : TableIndex) (i : ℕ) (f : Forest) → Between 0 f → EndsIn t (root-answer limit t i f)
   root-kept limit t i f b = case-stops (EndsIn t) (table-at f t)

@@ -279,7 +279,8 @@ module _ (book : Book) where
   bad-literal ss [] s e = absurd (no-such e)
   bad-literal ss (l ∷ ls) s e = on (λ q. bad-literal ss ls s q) (spoiler-in ss (goal-of l)) refl e
     where
-      on : (literals-spoilt ss ls ≡ some s → (k : Literal) × List·Memᴰ k ls × (spoiler-in ss (goal-of k) ≡ some s)) → (o : Option ℕ) → spoiler-in ss (goal-of l) ≡ o → or-else o (literals-spoilt ss ls) ≡ some s
+      on : (literals-spoilt ss ls ≡ some s → (k : Literal) × List·Memᴰ k ls × (spoiler-in ss (goal-of k) ≡ some s))
+          → (o : Option ℕ) → spoiler-in ss (goal-of l) ≡ o → or-else o (literals-spoilt ss ls) ≡ some s
           → (k : Literal) × List·Memᴰ k (l ∷ ls) × (spoiler-in ss (goal-of k) ≡ some s)
       on behind none q e = let x = behind e in (x .0, List·Memᴰ·tail (x .1), x .2)
       on behind (some t) q e = (l, List·Memᴰ·head refl, q ∙ e)
@@ -288,7 +289,8 @@ module _ (book : Book) where
   bad-clause ss [] s e = absurd (no-such e)
   bad-clause ss (c ∷ cs) s e = on (λ q. bad-clause ss cs s q) (literals-spoilt ss (c .literals)) refl e
     where
-      on : (clauses-spoilt ss cs ≡ some s → Bad ss cs s) → (o : Option ℕ) → literals-spoilt ss (c .literals) ≡ o → or-else o (clauses-spoilt ss cs) ≡ some s → Bad ss (c ∷ cs) s
+      on : (clauses-spoilt ss cs ≡ some s → Bad ss cs s) → (o : Option ℕ) → literals-spoilt ss (c .literals) ≡ o
+          → or-else o (clauses-spoilt ss cs) ≡ some s → Bad ss (c ∷ cs) s
       on behind none q e =
           let x = behind e in
           record {
@@ -316,7 +318,8 @@ module _ (book : Book) where
       on (some h) q = so h q (spoil h) refl (sym (themselves-here book goal h q) ∙ e)
   spoilt-after (suc n) goal by e = on (λ g q. spoilt-after n g by q) (getElem? book goal) refl
     where
-      so : ((g : ℕ) → spoiler-in (after n) g ≡ some by → SpoiltBy book g by) → (h : Goal) → getElem? book goal ≡ some h → (o : Option ℕ) → spoiler-in (after n) goal ≡ o
+      so : ((g : ℕ) → spoiler-in (after n) g ≡ some by → SpoiltBy book g by) → (h : Goal)
+          → getElem? book goal ≡ some h → (o : Option ℕ) → spoiler-in (after n) goal ≡ o
           → or-else o (clauses-spoilt (after n) (h .clauses)) ≡ some by → SpoiltBy book goal by
       so before h q (some s) k x = before goal (k ∙ x)
       so before h q none k x =
@@ -333,7 +336,8 @@ module _ (book : Book) where
             itself = z .itself;
           }
 
-      on : ((g : ℕ) → spoiler-in (after n) g ≡ some by → SpoiltBy book g by) → (o : Option Goal) → getElem? book goal ≡ o → SpoiltBy book goal by
+      on : ((g : ℕ) → spoiler-in (after n) g ≡ some by → SpoiltBy book g by) → (o : Option Goal) → getElem? book goal ≡ o
+          → SpoiltBy book goal by
       on before none q = absurd (no-such (sym (pass-past (after n) 0 book goal q) ∙ e))
       on before (some h) q = so before h q (spoiler-in (after n) goal) refl (sym (pass-here (after n) book goal h q) ∙ e)
 
