@@ -2,7 +2,7 @@
 use Prim.Native.Nat.{ℕ, _<_}
 use mathlib.Core.Path.{_≡_, refl, sym, subst}
 use mathlib.Core.Option.{Option, none, some}
-use mathlib.Core.List.{List, [], _∷_, List·Memᴰ, List·Memᴰ·head, List·Memᴰ·tail, List·Memᴰ·not-nil}
+use mathlib.Core.List.{List, [], _∷_, _++_, List·Memᴰ, List·Memᴰ·head, List·Memᴰ·tail, List·Memᴰ·not-nil}
 use lib.ListN.{length, getElem?}
 use Rattle.laws.proofs.All.{All, end, more}
 use Rattle.laws.proofs.Lists.{place-under}
@@ -17,6 +17,10 @@ module _ {A : Type 0} (P : A → Type 0) where
   pub each-by : (l : List A) → ((a : A) → List·Memᴰ a l → P a) → Each P l
   each-by [] h = tt
   each-by (a ∷ l) h = (h a (List·Memᴰ·head refl), each-by l (λ b m. h b (List·Memᴰ·tail m)))
+
+  pub each-append : (l m : List A) → Each P l → Each P m → Each P (l ++ m)
+  each-append [] m x y = y
+  each-append (a ∷ l) m x y = (x .0, each-append l m (x .1) y)
 
 -- the same, as a type of its own
 module _ {A : Type 0} {P : A → Type 0} where

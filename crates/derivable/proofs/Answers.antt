@@ -113,10 +113,10 @@ module _ {book : Book} {P : List ℕ → ℕ → Strand → Type 0} {Q : ℕ →
       active-kept closed c y s q,
     ))
 
-    answered : (s : SolveState) → Kept s → (t : TableIndex) (index : ℕ) → Fine (Flows closed m) (on-answer s t index)
+    answered : (s : SolveState) → Kept s → (t : TableIndex) (index : ℕ) → Fine (Flows closed gs m) (on-answer s t index)
     answered s k t index = after (pops-taking (s .stack) (k .kept-stack)) by-popped
       where
-        by-popped : (r : Popped) → Pops r → Fine (Flows closed m) (elim r [
+        by-popped : (r : Popped) → Pops r → Fine (Flows closed gs m) (elim r [
           | caller strand es ↦ activate (record { forest = s .forest; stack = es }) strand >>= λ s′. go (continue s′)
           | no-caller ↦ table-at (s .forest) t >>= λ table. unwrap (answer table index) >>= λ a. elim (create-refinement-strand a) [
             | none ↦ go (return-ok (record { forest = s .forest; stack = [] }))
@@ -133,13 +133,13 @@ module _ {book : Book} {P : List ℕ → ℕ → Strand → Type 0} {Q : ℕ →
             (λ f z. goes {a = return-ok (record { forest = f; stack = [] })} (onward closed gs m
             (record { kept-forest = z; kept-stack = end }))))))
         by-popped (caller strand es) x =
-            subst (λ (z : Stack). Fine (Flows closed m) (activate (record { forest = s .forest; stack = z }) strand >>= λ s′. go
+            subst (λ (z : Stack). Fine (Flows closed gs m) (activate (record { forest = s .forest; stack = z }) strand >>= λ s′. go
             (continue s′)))
             (sym (x .2)) (after (activates closed gs m (s .forest) (x .0) (x .1) (k .kept-forest) (x .3) (x .4) strand (x .5))
             (λ s′ y. goes-on closed gs m s′ y))
 
     pub no-remaining : (f : Forest) (e : StackEntry) (es : Stack) (k : KeptF f) (x : Entry e) (xs : All Entry es) (strand : Strand)
-        (p : P gs (x .goal) strand) → Fine (Flows closed m) (on-no-remaining-subgoals (record { forest = f; stack = e ∷ es }) strand)
+        (p : P gs (x .goal) strand) → Fine (Flows closed gs m) (on-no-remaining-subgoals (record { forest = f; stack = e ∷ es }) strand)
     no-remaining f e es k x xs strand p = unwrapping (getElem? (f .tables) (e .table)) (λ t q.
         by-bool (is-complete (t .answer-mode) && strand .ex-clause .ambiguous)
         (λ b. after (enqueues-top closed gs m f e es k x xs strand p) (λ s′ y. goes {a = return-err QuantumExceeded s′}

@@ -31,9 +31,9 @@ use Rattle.laws.proofs.Bools.{case-bool, was-true}
 use Rattle.laws.proofs.All.{end, more, all-at}
 use Rattle.asserts.proofs.Safe.{case-stops, unwrapped}
 use Rattle.derivable.proofs.Fine.{case-fine}
-use Rattle.derivable.proofs.Kept.{Closed, KeptForest, KeptState, table-goal-at}
+use Rattle.derivable.proofs.Kept.{Within, Closed, KeptForest, KeptState, table-goal-at}
 use Rattle.derivable.proofs.Choosing.{makes, drops}
-use Rattle.derivable.proofs.States.{Onward, Flows, ticks}
+use Rattle.derivable.proofs.States.{Onward, Flows, flows-after, ticks}
 use Rattle.derivable.proofs.Turns.{turn-kept}
 
 module _ {book : Book} {P : List ℕ → ℕ → Strand → Type 0} {Q : ℕ → Answer → Type 0} (closed : Closed book P Q) where
@@ -55,9 +55,12 @@ module _ {book : Book} {P : List ℕ → ℕ → Strand → Type 0} {Q : ℕ →
   Says f t cut = Unit {0}
   Says f t (stopped n) = Unit {0}
 
-  pub record Ends (t : TableIndex) (e : Ending) (f : Forest) : Type 0 where
+  -- how a search or peek ends, from tables of these goals
+  pub record Ends (gs : List ℕ) (t : TableIndex) (e : Ending) (f : Forest) : Type 0 where
     pub mark : ℕ
     pub between : Between mark f
+    -- the tables that were there have the goals that they had
+    pub within : Within gs (between .goals)
     pub says : Says f t e
     -- no mark but by a stop, so that a peek goes on with none
     pub unmarked : is-invalid e ≡ true → mark ≡ 0
@@ -100,18 +103,20 @@ module _ {book : Book} {P : List ℕ → ℕ → Strand → Type 0} {Q : ℕ →
       on-table none q = tt
       on-table (some u) q = on-answer u q (answer u i) refl
 
-  abbrev pub EndsIn : TableIndex → Searched → Type 0
-  EndsIn t r = Ends t (r .ending) (r .forest)
+  abbrev pub EndsIn : List ℕ → TableIndex → Searched → Type 0
+  EndsIn gs t r = Ends gs t (r .ending) (r .forest)
 
   -- a search that is put back, with an ending that found nothing
-  puts-back : (t : TableIndex) (gs : List ℕ) (m : ℕ) (ending : Ending) (turns : ℕ) (s : SolveState) → KeptState book P Q gs m s
+  puts-back : (from : List ℕ) (t : TableIndex) (gs : List ℕ) → Within from gs → (m : ℕ) (ending : Ending) (turns : ℕ) (s : SolveState)
+      → KeptState book P Q gs m s
       → ((f : Forest) → Says f t ending) → (is-invalid ending ≡ true → m ≡ 0) → (is-exceeded ending ≡ true → m ≡ 0)
       → (is-stopped ending ≡ false → m ≡ 0)
-      → EndsIn t (put-back ending turns s)
-  puts-back t gs m ending turns s k says inv exc stp = case-fine (EndsIn t) (drops closed s k)
+      → EndsIn from t (put-back ending turns s)
+  puts-back from t gs w m ending turns s k says inv exc stp = case-fine (EndsIn from t) (drops closed s k)
       (λ n. record {
         mark = m;
         between = record { goals = gs; kept = k .kept-forest };
+        within = w;
         says = tt;
         unmarked = λ e. absurd (false≢true e);
         still-unmarked = λ e. absurd (false≢true e);
@@ -120,6 +125,7 @@ module _ {book : Book} {P : List ℕ → ℕ → Strand → Type 0} {Q : ℕ →
       (λ f x. record {
         mark = m;
         between = record { goals = gs; kept = x };
+        within = w;
         says = says f;
         unmarked = inv;
         still-unmarked = exc;
@@ -127,104 +133,128 @@ module _ {book : Book} {P : List ℕ → ℕ → Strand → Type 0} {Q : ℕ →
       })
 
   -- with the answer: the stack is empty, and nothing is put back
-  puts-answer : (t : TableIndex) (i : ℕ) (gs : List ℕ) (turns : ℕ) (f : Forest) (es : Stack)
+  puts-answer : (from : List ℕ) (t : TableIndex) (i : ℕ) (gs : List ℕ) → Within from gs → (turns : ℕ) (f : Forest) (es : Stack)
       → KeptState book P Q gs 0 (record { forest = f; stack = es })
-      → EndsIn t (put-back (ok-ending (record { forest = f; stack = es }) t i) turns (record { forest = f; stack = es }))
-  puts-answer t i gs turns f [] k = record {
+      → EndsIn from t (put-back (ok-ending (record { forest = f; stack = es }) t i) turns (record { forest = f; stack = es }))
+  puts-answer from t i gs w turns f [] k = record {
     mark = 0;
     between = record { goals = gs; kept = k .kept-forest };
+    within = w;
     says = stored-says f t i (record { goals = gs; kept = k .kept-forest });
     unmarked = λ e. refl;
     still-unmarked = λ e. refl;
     unless-stopped = λ e. refl;
   }
-  puts-answer t i gs turns f (e ∷ es) k =
-      puts-back t gs 0 (stopped 0) turns (record { forest = f; stack = e ∷ es }) k (λ f′. tt) (λ q. refl) (λ q. refl) (λ q. refl)
+  puts-answer from t i gs w turns f (e ∷ es) k =
+      puts-back from t gs w 0 (stopped 0) turns (record { forest = f; stack = e ∷ es }) k (λ f′. tt) (λ q. refl) (λ q. refl) (λ q. refl)
 
-  by-flow : (limit done : ℕ) (t : TableIndex) (i : ℕ)
-      → ((s : SolveState) → Onward closed 0 s → EndsIn t (search-turns limit (suc done) t i s))
-      → (flow : Flow) → Flows closed 0 flow → EndsIn t (elim flow [
+  by-flow : (from : List ℕ) (limit done : ℕ) (t : TableIndex) (i : ℕ)
+      → ((s : SolveState) → Onward closed from 0 s → EndsIn from t (search-turns limit (suc done) t i s))
+      → (flow : Flow) → Flows closed from 0 flow → EndsIn from t (elim flow [
         | continue s′ ↦ search-turns limit (suc done) t i s′
         | return-ok s′ ↦ put-back (ok-ending s′ t i) (suc done) s′
         | return-err e s′ ↦ put-back (fail e) (suc done) s′
       ])
-  by-flow limit done t i ih (continue s′) x = ih s′ x
-  by-flow limit done t i ih (return-ok s′) x = puts-answer t i (x .goals) (suc done) (s′ .forest) (s′ .stack) (x .kept)
-  by-flow limit done t i ih (return-err e s′) x =
-      puts-back t (x .goals) 0 (fail e) (suc done) s′ (x .kept) (λ f. tt) (λ q. refl) (λ q. refl) (λ q. refl)
+  by-flow from limit done t i ih (continue s′) x = ih s′ x
+  by-flow from limit done t i ih (return-ok s′) x =
+      puts-answer from t i (x .goals) (x .within) (suc done) (s′ .forest) (s′ .stack) (x .kept)
+  by-flow from limit done t i ih (return-err e s′) x =
+      puts-back from t (x .goals) (x .within) 0 (fail e) (suc done) s′ (x .kept) (λ f. tt) (λ q. refl) (λ q. refl) (λ q. refl)
 
-  searches-kept : (limit done : ℕ) (t : TableIndex) (i : ℕ) (s : SolveState) → Onward closed 0 s → EndsIn t (search-turns limit done t i s)
-  searches-kept zero done t i s o = puts-back t (o .goals) 0 cut done s (o .kept) (λ f. tt) (λ q. refl) (λ q. refl) (λ q. refl)
-  searches-kept (suc limit) done t i s o = case-fine (EndsIn t) (turn-kept closed (o .goals) 0 s (o .kept))
-      (λ n. puts-back t (o .goals) n (stopped n) done (record { forest = with-mark (s .forest) n; stack = s .stack })
+  searches-kept : (from : List ℕ) (limit done : ℕ) (t : TableIndex) (i : ℕ) (s : SolveState) → Onward closed from 0 s
+      → EndsIn from t (search-turns limit done t i s)
+  searches-kept from zero done t i s o =
+      puts-back from t (o .goals) (o .within) 0 cut done s (o .kept) (λ f. tt) (λ q. refl) (λ q. refl) (λ q. refl)
+  searches-kept from (suc limit) done t i s o = case-fine (EndsIn from t)
+      (flows-after closed (o .within) (turn-kept closed (o .goals) 0 s (o .kept)))
+      (λ n. puts-back from t (o .goals) (o .within) n (stopped n) done (record { forest = with-mark (s .forest) n; stack = s .stack })
       (record { kept-forest = marked-kept n (o .kept .kept-forest); kept-stack = o .kept .kept-stack }) (λ f. tt)
       (λ q. absurd (false≢true q)) (λ q. absurd (false≢true q)) (λ q. absurd (true≢false q)))
-      (λ flow x. by-flow limit done t i (searches-kept limit (suc done) t i) flow x)
+      (λ flow x. by-flow from limit done t i (searches-kept from limit (suc done) t i) flow x)
 
   begins-kept : (limit : ℕ) (t : TableIndex) (i : ℕ) (f : Forest) (b : Between 0 f) (g : ℕ) → getElem? (b .goals) t ≡ some g
-      → EndsIn t (begin limit t i f)
-  begins-kept limit t i f b g q = case-fine (EndsIn t) (ticks closed (b .goals) 0 f (b .kept))
+      → EndsIn (b .goals) t (begin limit t i f)
+  begins-kept limit t i f b g q = case-fine (EndsIn (b .goals) t) (ticks closed (b .goals) 0 f (b .kept))
       (λ n. record {
         mark = n;
         between = record { goals = b .goals; kept = marked-kept n (b .kept) };
+        within = λ j h r. r;
         says = tt;
         unmarked = λ e. absurd (false≢true e);
         still-unmarked = λ e. absurd (false≢true e);
         unless-stopped = λ e. absurd (true≢false e);
       })
-      (λ f′ x. searches-kept limit 0 t i (record { forest = f′; stack = push-entry t minimums-MAX (f′ .clock) [] }) (record {
+      (λ f′ x. searches-kept (b .goals) limit 0 t i (record { forest = f′; stack = push-entry t minimums-MAX (f′ .clock) [] }) (record {
         goals = b .goals;
+        within = λ j h r. r;
         kept = record { kept-forest = x; kept-stack = more (record { goal = g; is-made = q; kept-active = tt }) end };
       }))
 
-  same-forest : (t : TableIndex) (turns : ℕ) (f : Forest) (e : Ending) → Between 0 f → Says f t e
-      → EndsIn t (record { ending = e; turns = turns; forest = f })
+  same-forest : (t : TableIndex) (turns : ℕ) (f : Forest) (e : Ending) (b : Between 0 f) → Says f t e
+      → EndsIn (b .goals) t (record { ending = e; turns = turns; forest = f })
   same-forest t turns f e b x = record {
     mark = 0;
     between = b;
+    within = λ i g q. q;
     says = x;
     unmarked = λ q. refl;
     still-unmarked = λ q. refl;
     unless-stopped = λ q. refl;
   }
 
-  pub root-kept : (limit : ℕ) (t : TableIndex) (i : ℕ) (f : Forest) → Between 0 f → EndsIn t (root-answer limit t i f)
-  root-kept limit t i f b = case-stops (EndsIn t) (table-at f t)
+  pub root-kept : (limit : ℕ) (t : TableIndex) (i : ℕ) (f : Forest) (b : Between 0 f) → EndsIn (b .goals) t (root-answer limit t i f)
+  root-kept limit t i f b = case-stops (EndsIn (b .goals) t) (table-at f t)
       (λ n e. same-forest t 0 f (stopped n) b tt)
       (λ u e. let q = unwrapped (getElem? (f .tables) t) u e in
-      case-bool (EndsIn t) (u .floundered)
+      case-bool (EndsIn (b .goals) t) (u .floundered)
       (λ c. same-forest t 0 f (fail Floundered) b tt)
-      (λ c. case-option (EndsIn t) (answer u i)
-      (λ h. case-bool (EndsIn t) (eqb (next-answer-index u) i)
+      (λ c. case-option (EndsIn (b .goals) t) (answer u i)
+      (λ h. case-bool (EndsIn (b .goals) t) (eqb (next-answer-index u) i)
       (λ d. begins-kept limit t i f b (u .table-goal) (table-goal-at (b .kept) t u q))
       (λ d. same-forest t 0 f (stopped 0) b tt))
       (λ a h. same-forest t 0 f (stored-answer f t i) b (stored-says f t i b))))
 
   -- Peeks.
 
-  abbrev pub EndsPeek : TableIndex → Peeked → Type 0
-  EndsPeek t p = Ends t (p .ending) (p .forest)
+  abbrev pub EndsPeek : List ℕ → TableIndex → Peeked → Type 0
+  EndsPeek gs t p = Ends gs t (p .ending) (p .forest)
 
-  pub at-mark : {m : ℕ} {f : Forest} → m ≡ 0 → Between m f → Between 0 f
-  at-mark {f = f} e b = subst (λ (z : ℕ). Between z f) e b
+  abbrev pub at-mark : {m : ℕ} {f : Forest} → m ≡ 0 → Between m f → Between 0 f
+  at-mark {f = f} e b = record { goals = b .goals; kept = subst (λ (z : ℕ). KeptForest book P Q (b .goals) z f) e (b .kept) }
 
-  pub skips-kept : (passes limit k : ℕ) (t : TableIndex) (i : ℕ) (f : Forest) → Between 0 f → EndsPeek t (skip-invalid passes limit k t i f)
+  -- from fewer tables
+  ends-after : {gs gs' : List ℕ} {t : TableIndex} {e : Ending} {f : Forest} → Within gs gs' → Ends gs' t e f → Ends gs t e f
+  ends-after w x = record {
+    mark = x .mark;
+    between = x .between;
+    within = λ i g q. x .within i g (w i g q);
+    says = x .says;
+    unmarked = x .unmarked;
+    still-unmarked = x .still-unmarked;
+    unless-stopped = x .unless-stopped;
+  }
+
+  pub skips-kept : (passes limit k : ℕ) (t : TableIndex) (i : ℕ) (f : Forest) (b : Between 0 f)
+      → EndsPeek (b .goals) t (skip-invalid passes limit k t i f)
   skips-kept zero limit k t i f b = root-kept limit t i f b
   skips-kept (suc passes) limit k t i f b =
       let r = root-kept limit t i f b in
-      case-bool (EndsPeek t) (is-invalid (root-answer limit t i f .ending))
-      (λ e. skips-kept passes limit k t (suc i) (root-answer limit t i f .forest) (at-mark (r .unmarked e) (r .between)))
+      case-bool (EndsPeek (b .goals) t) (is-invalid (root-answer limit t i f .ending))
+      (λ e. ends-after (r .within)
+      (skips-kept passes limit k t (suc i) (root-answer limit t i f .forest) (at-mark (r .unmarked e) (r .between))))
       (λ e. r)
 
-  pub peeks-kept : (rounds limit k : ℕ) (t : TableIndex) (i : ℕ) (f : Forest) → Between 0 f → EndsPeek t (peek-rounds rounds limit k t i f)
+  pub peeks-kept : (rounds limit k : ℕ) (t : TableIndex) (i : ℕ) (f : Forest) (b : Between 0 f)
+      → EndsPeek (b .goals) t (peek-rounds rounds limit k t i f)
   peeks-kept zero limit k t i f b =
       let p = skips-kept 256 limit k t i f b in
-      case-bool (EndsPeek t) (is-exceeded (skip-invalid 256 limit k t i f .ending)) (λ e. p) (λ e. p)
+      case-bool (EndsPeek (b .goals) t) (is-exceeded (skip-invalid 256 limit k t i f .ending)) (λ e. p) (λ e. p)
   peeks-kept (suc rest) limit k t i f b =
       let p = skips-kept 256 limit k t i f b in
-      case-bool (EndsPeek t) (is-exceeded (skip-invalid 256 limit k t i f .ending))
-      (λ e. peeks-kept rest limit (suc k) t (skip-invalid 256 limit k t i f .index) (skip-invalid 256 limit k t i f .forest)
-      (at-mark (p .still-unmarked e) (p .between)))
+      case-bool (EndsPeek (b .goals) t) (is-exceeded (skip-invalid 256 limit k t i f .ending))
+      (λ e. ends-after (p .within)
+      (peeks-kept rest limit (suc k) t (skip-invalid 256 limit k t i f .index) (skip-invalid 256 limit k t i f .forest)
+      (at-mark (p .still-unmarked e) (p .between))))
       (λ e. p)
 
   -- Calls.
@@ -281,7 +311,8 @@ module _ {book : Book} {P : List ℕ → ℕ → Strand → Type 0} {Q : ℕ →
     searched-kept t i limit (accepted r) e =
         let a = all-pass (is-marked f refuses 20 ∷ not-made f t refuses 10 ∷ index-above f t i refuses 11 ∷ eqb limit 0 refuses 12 ∷ [])
         (root-answer limit t i f) r e in
-        let w = subst (EndsIn t) (a .1) (root-kept limit t i f (unmarked-is (a .0 .0))) in
+        let z = unmarked-is (a .0 .0) in
+        let w = subst (EndsIn (z .goals) t) (a .1) (root-kept limit t i f z) in
         record { mark = w .mark; between = w .between; says = w .says; unless-stopped = w .unless-stopped }
 
     peeked-kept : (t i rounds limit : ℕ) (o : Refusable Peeked) → peek f t i rounds limit ≡ o → Called (some (t, i)) (elim o [
@@ -292,7 +323,8 @@ module _ {book : Book} {P : List ℕ → ℕ → Strand → Type 0} {Q : ℕ →
     peeked-kept t i rounds limit (accepted r) e =
         let a = all-pass (is-marked f refuses 20 ∷ not-made f t refuses 10 ∷ index-above f t
         i refuses 11 ∷ (eqb rounds 0 || eqb limit 0) refuses 12 ∷ []) (peek-rounds (rounds - 1) limit 0 t i f) r e in
-        let w = subst (EndsPeek t) (a .1) (peeks-kept (rounds - 1) limit 0 t i f (unmarked-is (a .0 .0))) in
+        let z = unmarked-is (a .0 .0) in
+        let w = subst (EndsPeek (z .goals) t) (a .1) (peeks-kept (rounds - 1) limit 0 t i f z) in
         record { mark = w .mark; between = w .between; says = w .says; unless-stopped = w .unless-stopped }
 
     asked-kept : (t i v : ℕ) (o : Refusable Bool) → Called none (elim o [

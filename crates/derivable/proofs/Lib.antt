@@ -12,3 +12,4 @@ pub mod Calls
 pub mod Derive
 pub mod Spoilt
 pub mod Theorem
+pub mod Listing

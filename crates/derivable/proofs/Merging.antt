@@ -134,7 +134,7 @@ module _ {book : Book} {P : List ℕ → ℕ → Strand → Type 0} {Q : ℕ →
           → Fine (λ x′. x′ ≡ with-delayed rest (rest .delayed-subgoals ++ (goal ∷ []))) (delay (goal ∷ []) rest)
       delays-one goal rest = guard (ltb most-delayed (length (rest .delayed-subgoals) + 1)) 24 (λ c. goes refl)
 
-      coinducts : (l : Literal) → getElem? (strand .ex-clause .subgoals) (selected .subgoal-index) ≡ some l → Fine (Flows closed m)
+      coinducts : (l : Literal) → getElem? (strand .ex-clause .subgoals) (selected .subgoal-index) ≡ some l → Fine (Flows closed gs m)
           (elim l [
             | Positive goal want outsized ↦ table-at f (e .table) >>= λ table. table-at f (selected .subgoal-table) >>= λ subgoal-table.
                 stop-if (not (table .coinductive-goal && subgoal-table .coinductive-goal)) 0 >> (delay (goal ∷ [])
@@ -158,10 +158,10 @@ module _ {book : Book} {P : List ℕ → ℕ → Strand → Type 0} {Q : ℕ →
           first-of false b e = absurd (true≢false e)
       coinducts (Negative goal outsized) here = stops
 
-      cycles : (depth : ℕ) → Fine (Flows closed m) (on-cycle state strand selected depth)
+      cycles : (depth : ℕ) → Fine (Flows closed gs m) (on-cycle state strand selected depth)
       cycles depth = unwrapping (getElem? (e ∷ es) depth) (λ entry q. any-test (top-of-stack-is-coinductive-from state depth) entry)
         where
-          any-test : (r : Stops Bool) (entry : StackEntry) → Fine (Flows closed m) (r >>= λ coinductive. elim coinductive [
+          any-test : (r : Stops Bool) (entry : StackEntry) → Fine (Flows closed gs m) (r >>= λ coinductive. elim coinductive [
             | true ↦ on-coinductive-subgoal state strand selected
             | false ↦ on-positive-cycle state strand selected (record { positive = entry .clock; negative = MAX })
           ])
@@ -175,7 +175,7 @@ module _ {book : Book} {P : List ℕ → ℕ → Strand → Type 0} {Q : ℕ →
               (λ s′ y. goes-on closed gs m s′ y))
 
     -- the table that the strand waits on is pushed
-    pushes : (s : SolveState) → Kept s → (t g : ℕ) → getElem? gs t ≡ some g → Fine (Flows closed m) (increment-clock (s .forest) >>= λ f. go
+    pushes : (s : SolveState) → Kept s → (t g : ℕ) → getElem? gs t ≡ some g → Fine (Flows closed gs m) (increment-clock (s .forest) >>= λ f. go
         (continue (record { forest = f; stack = push-entry t minimums-MAX (f .clock) (s .stack) })))
     pushes s k t g q = after (ticks closed gs m (s .forest) (k .kept-forest)) (λ f x. goes-on closed gs m
         (record { forest = f; stack = push-entry t minimums-MAX (f .clock) (s .stack) })
@@ -183,17 +183,17 @@ module _ {book : Book} {P : List ℕ → ℕ → Strand → Type 0} {Q : ℕ →
 
     by-merge : (f : Forest) (e : StackEntry) (es : Stack) (k : KeptF f) (x : Entry e) (xs : All Entry es) (strand : Strand)
         (p : P gs (x .goal) strand) (selected : SelectedSubgoal) (is : strand .selected-subgoal ≡ some selected) (r : Merge)
-        → Merges f e es k x xs strand p selected is r → Fine (Flows closed m) (elim r [
+        → Merges f e es k x xs strand p selected is r → Fine (Flows closed gs m) (elim r [
           | failed s′ ↦ go (return-err QuantumExceeded s′)
           | merged strand′ s′ ↦ activate s′ strand′ >>= λ s″. go (continue s″)
         ])
     by-merge f e es k x xs strand p selected is (failed s) y = goes {a = return-err QuantumExceeded s} (onward closed gs m y)
     by-merge f e es k x xs strand p selected is (merged strand′ s) y =
-        subst (λ (z : SolveState). Fine (Flows closed m) (activate z strand′ >>= λ s″. go (continue s″))) (sym (y .1))
+        subst (λ (z : SolveState). Fine (Flows closed gs m) (activate z strand′ >>= λ s″. go (continue s″))) (sym (y .1))
         (after (activates closed gs m (y .0) e es (y .2) x xs strand′ (y .3)) (λ s″ z. goes-on closed gs m s″ z))
 
     pub selected-kept : (f : Forest) (e : StackEntry) (es : Stack) (k : KeptF f) (x : Entry e) (xs : All Entry es) (strand : Strand)
-        (p : P gs (x .goal) strand) → Fine (Flows closed m) (on-subgoal-selected (record { forest = f; stack = e ∷ es }) strand)
+        (p : P gs (x .goal) strand) → Fine (Flows closed gs m) (on-subgoal-selected (record { forest = f; stack = e ∷ es }) strand)
     selected-kept f e es k x xs strand p = unwrapping (strand .selected-subgoal) (λ selected is.
         unwrapping (getElem? (f .tables) (selected .subgoal-table)) (λ t q.
         let at = table-goal-at k (selected .subgoal-table) t q in

@@ -5,7 +5,7 @@ use mathlib.Core.List.{List, _∷_}
 use lib.Dec.{leb}
 use Rattle.definitions.specs.{Answer, Minimums}
 use Rattle.definitions.specs.Book.{Literal, Positive, Negative, Book}
-use Rattle.definitions.specs.Stop.{go}
+use Rattle.definitions.specs.Stop.{Stops, go}
 use Rattle.definitions.specs.Strand.{Strand}
 use Rattle.definitions.specs.Tables.{Forest, increment-clock}
 use Rattle.definitions.specs.Stack.{StackEntry, Stack, active}
@@ -14,21 +14,34 @@ use Rattle.definitions.specs.Logic.{Flow, continue, return-ok, return-err, unwo
 use Rattle.definitions.specs.Turn.{cycle-minimums}
 use Rattle.definitions.specs.Turn.{turn}
 use Rattle.laws.proofs.All.{All, more}
-use Rattle.derivable.proofs.Fine.{Fine, goes, after, guard}
-use Rattle.derivable.proofs.Kept.{Closed, KeptForest, KeptEntry}
+use Rattle.derivable.proofs.Fine.{Fine, goes, after, guard, weaker}
+use Rattle.derivable.proofs.Kept.{Within, Closed, KeptForest, KeptEntry}
 use Rattle.derivable.proofs.Kept.{KeptState, enqueues}
 use Rattle.derivable.proofs.Choosing.{unwinds-stack}
 
 module _ {book : Book} {P : List ℕ → ℕ → Strand → Type 0} {Q : ℕ → Answer → Type 0} (closed : Closed book P Q) where
-  -- what a turn leaves
-  pub record Onward (m : ℕ) (s : SolveState) : Type 0 where
+  -- what a turn leaves, from tables of these goals
+  pub record Onward (gs : List ℕ) (m : ℕ) (s : SolveState) : Type 0 where
     pub goals : List ℕ
+    pub within : Within gs goals
     pub kept : KeptState book P Q goals m s
 
-  abbrev pub Flows : ℕ → Flow → Type 0
-  Flows m (continue s) = Onward m s
-  Flows m (return-ok s) = Onward m s
-  Flows m (return-err e s) = Onward m s
+  abbrev pub Flows : List ℕ → ℕ → Flow → Type 0
+  Flows gs m (continue s) = Onward gs m s
+  Flows gs m (return-ok s) = Onward gs m s
+  Flows gs m (return-err e s) = Onward gs m s
+
+  -- from fewer tables
+  pub onward-after : {gs gs' : List ℕ} {m : ℕ} {s : SolveState} → Within gs gs' → Onward gs' m s → Onward gs m s
+  onward-after w x = record { goals = x .goals; within = λ i g q. x .within i g (w i g q); kept = x .kept }
+
+  pub flows-after : {gs gs' : List ℕ} {m : ℕ} {r : Stops Flow} → Within gs gs' → Fine (Flows gs' m) r → Fine (Flows gs m) r
+  flows-after {gs} {gs'} {m} w x = weaker x (λ flow y. on flow y)
+    where
+      on : (flow : Flow) → Flows gs' m flow → Flows gs m flow
+      on (continue s) y = onward-after w y
+      on (return-ok s) y = onward-after w y
+      on (return-err e s) y = onward-after w y
 
   module _ (gs : List ℕ) (m : ℕ) where
     abbrev Kept : SolveState → Type 0
@@ -40,13 +53,13 @@ module _ {book : Book} {P : List ℕ → ℕ → Strand → Type 0} {Q : ℕ →
     abbrev Entry : StackEntry → Type 0
     Entry e = KeptEntry book P Q gs e
 
-    pub onward : {s : SolveState} → Kept s → Onward m s
-    onward k = record { goals = gs; kept = k }
+    pub onward : {s : SolveState} → Kept s → Onward gs m s
+    onward k = record { goals = gs; within = λ i g q. q; kept = k }
 
-    pub goes-on : (s : SolveState) → Kept s → Fine (Flows m) (go (continue s))
+    pub goes-on : (s : SolveState) → Kept s → Fine (Flows gs m) (go (continue s))
     goes-on s k = goes {a = continue s} (onward k)
 
-    pub gives-up : (e : RootSearchFail) (s : SolveState) → Kept s → Fine (Flows m) (unwound e s)
+    pub gives-up : (e : RootSearchFail) (s : SolveState) → Kept s → Fine (Flows gs m) (unwound e s)
     gives-up e s k = after (unwinds-stack closed s k) (λ u q. goes {a = return-err e u} (onward q))
 
     pub enqueues-top : (f : Forest) (e : StackEntry) (es : Stack) → KeptF f → (x : Entry e) → All Entry es → (strand : Strand)

@@ -163,7 +163,7 @@ module _ (book : Book) (C : ℕ → Type 0) (clean : Clean book C) where
       each-call n (said.calls (sitting f) cs) (forests-sound n cs (sitting f) s) (calls-kept (closed book C clean) cs (sitting f) 0 b)
 
 -- a forest just made has nothing but its book and its limit
-made-is : (r : Refusable Book) (limit : ℕ) (f : Forest) → make-of r limit ≡ accepted f
+pub made-is : (r : Refusable Book) (limit : ℕ) (f : Forest) → make-of r limit ≡ accepted f
     → (r ≡ accepted (f .book)) × (bare (f .book) limit 0 ≡ f)
 made-is (refused n) limit f e = absurd (not-accepted e)
 made-is (accepted book) limit f e =

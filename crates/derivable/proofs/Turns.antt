@@ -29,7 +29,7 @@ use Rattle.derivable.proofs.Fine.{Fine, stops, goes, after, guard, by-b
 use Rattle.derivable.proofs.Kept.{without, Closed, KeptTable, KeptForest, KeptEntry}
 use Rattle.derivable.proofs.Kept.{KeptState, same-goal, changes}
 use Rattle.derivable.proofs.Choosing.{Chosen, entry-more, active-kept, selects-kept}
-use Rattle.derivable.proofs.States.{Flows, onward, goes-on, gives-up, enqueues-top, activates, minimums-kept, same-entry}
+use Rattle.derivable.proofs.States.{Flows, flows-after, onward, goes-on, gives-up, enqueues-top, activates, minimums-kept, same-entry}
 use Rattle.derivable.proofs.Merging.{selected-kept}
 use Rattle.derivable.proofs.Answers.{Pops, pops-borrowing, no-remaining}
 
@@ -61,12 +61,12 @@ module _ {book : Book} {P : List ℕ → ℕ → Strand → Type 0} {Q : ℕ →
     clears (suc depth) ss f k = clears-each (λ rs g. clear-strands-after-cycle depth rs g) (λ rs g x. clears depth rs g x) ss f k
 
     -- the caller's strand, with its literal
-    no-strands : (s : SolveState) → Kept s → Fine (Flows closed m) (on-no-strands s)
+    no-strands : (s : SolveState) → Kept s → Fine (Flows closed gs m) (on-no-strands s)
     no-strands s k = after (pops-borrowing closed gs m (s .stack) (k .kept-stack)) by-popped
       where
         by-literal : (strand : Strand) (e : StackEntry) (rest : Stack) (x : Entry e) → All Entry rest → P gs (x .goal) strand
             → (selected : SelectedSubgoal) → strand .selected-subgoal ≡ some selected → (l : Literal)
-            → getElem? (strand .ex-clause .subgoals) (selected .subgoal-index) ≡ some l → Fine (Flows closed m) (elim l [
+            → getElem? (strand .ex-clause .subgoals) (selected .subgoal-index) ≡ some l → Fine (Flows closed gs m) (elim l [
               | Positive goal want outsized ↦ unwound QuantumExceeded (record { forest = s .forest; stack = with-active e none ∷ rest })
               | Negative goal outsized ↦ activate (record { forest = s .forest; stack = e ∷ rest }) (without strand selected)
                   >>= λ s′. go (continue s′)
@@ -80,7 +80,7 @@ module _ {book : Book} {P : List ℕ → ℕ → Strand → Type 0} {Q : ℕ →
             after (activates closed gs m (s .forest) e rest (k .kept-forest) x xs (without strand selected)
             (closed .not-there strand selected goal outsized is here p)) (λ s′ y. goes-on closed gs m s′ y)
 
-        by-popped : (r : Popped) → Pops closed gs m r → Fine (Flows closed m) (elim r [
+        by-popped : (r : Popped) → Pops closed gs m r → Fine (Flows closed gs m) (elim r [
           | no-caller ↦ go (return-err NoMoreSolutions (record { forest = s .forest; stack = [] }))
           | caller strand es ↦ unwrap (strand .selected-subgoal) >>= λ selected.
               unwrap (getElem? (strand .ex-clause .subgoals) (selected .subgoal-index)) >>= λ literal. elim literal [
@@ -92,7 +92,7 @@ module _ {book : Book} {P : List ℕ → ℕ → Strand → Type 0} {Q : ℕ →
         ])
         by-popped no-caller x = goes {a = return-err NoMoreSolutions (record { forest = s .forest; stack = [] })}
             (onward closed gs m (record { kept-forest = k .kept-forest; kept-stack = end }))
-        by-popped (caller strand es) x = subst (λ (z : Stack). Fine (Flows closed m) (unwrap (strand .selected-subgoal) >>= λ selected.
+        by-popped (caller strand es) x = subst (λ (z : Stack). Fine (Flows closed gs m) (unwrap (strand .selected-subgoal) >>= λ selected.
             unwrap (getElem? (strand .ex-clause .subgoals) (selected .subgoal-index)) >>= λ literal. elim literal [
               | Positive goal want outsized ↦ change-top z (λ e. with-active e none) >>= λ es′. unwound QuantumExceeded
                   (record { forest = s .forest; stack = es′ })
@@ -104,17 +104,17 @@ module _ {book : Book} {P : List ℕ → ℕ → Strand → Type 0} {Q : ℕ →
             by-literal strand (x .0) (x .1) (x .3) (x .4) (x .5) selected is l here)))
 
     own-cycle : (f : Forest) (e : StackEntry) (es : Stack) → KeptF f → All Entry (e ∷ es) → (t : Table)
-        → Fine (Flows closed m) (on-own-cycle (record { forest = f; stack = e ∷ es }) e t)
+        → Fine (Flows closed gs m) (on-own-cycle (record { forest = f; stack = e ∷ es }) e t)
     own-cycle f e es k xs t = by-bool (ltb (e .cyclic-minimums .negative) MAX)
         (λ b. gives-up closed gs m NegativeCycle (record { forest = f; stack = e ∷ es }) (record { kept-forest = k; kept-stack = xs }))
         (λ b. after (taken f k (e .table)) (λ f′ x. after (clears (suc (queued f′)) (t .strands) f′ x)
         (λ f″ y. gives-up closed gs m QuantumExceeded (record { forest = f″; stack = e ∷ es })
         (record { kept-forest = y; kept-stack = xs }))))
 
-    part-of-cycle : (s : SolveState) → Kept s → (e : StackEntry) → Fine (Flows closed m) (on-part-of-cycle s e)
+    part-of-cycle : (s : SolveState) → Kept s → (e : StackEntry) → Fine (Flows closed gs m) (on-part-of-cycle s e)
     part-of-cycle s k e = after (pops-borrowing closed gs m (s .stack) (k .kept-stack)) by-popped
       where
-        by-popped : (r : Popped) → Pops closed gs m r → Fine (Flows closed m) (elim r [
+        by-popped : (r : Popped) → Pops closed gs m r → Fine (Flows closed gs m) (elim r [
           | no-caller ↦ stop 0
           | caller strand es ↦ unwrap (strand .selected-subgoal) >>= λ selected.
               unwrap (getElem? (strand .ex-clause .subgoals) (selected .subgoal-index)) >>= λ literal.
@@ -122,7 +122,7 @@ module _ {book : Book} {P : List ℕ → ℕ → Strand → Type 0} {Q : ℕ →
               enqueue-at-top (record { forest = s .forest; stack = es′ }) strand >>= λ s′. go (continue s′)
         ])
         by-popped no-caller x = stops
-        by-popped (caller strand es) x = subst (λ (z : Stack). Fine (Flows closed m) (unwrap (strand .selected-subgoal) >>= λ selected.
+        by-popped (caller strand es) x = subst (λ (z : Stack). Fine (Flows closed gs m) (unwrap (strand .selected-subgoal) >>= λ selected.
             unwrap (getElem? (strand .ex-clause .subgoals) (selected .subgoal-index)) >>= λ literal.
             change-top z (λ c. with-active (cycle-minimums literal (e .cyclic-minimums) c) none) >>= λ es′.
             enqueue-at-top (record { forest = s .forest; stack = es′ }) strand >>= λ s′. go (continue s′))) (sym (x .2))
@@ -136,7 +136,7 @@ module _ {book : Book} {P : List ℕ → ℕ → Strand → Type 0} {Q : ℕ →
             (λ s′ y. goes-on closed gs m s′ y))))
 
     none-left : (f : Forest) (e : StackEntry) (es : Stack) → KeptF f → All Entry (e ∷ es)
-        → Fine (Flows closed m) (on-no-strands-left (record { forest = f; stack = e ∷ es }))
+        → Fine (Flows closed gs m) (on-no-strands-left (record { forest = f; stack = e ∷ es }))
     none-left f e es k xs = unwrapping (getElem? (f .tables) (e .table)) (λ t q. by-bool (is-empty (t .strands))
         (λ b. no-strands (record { forest = f; stack = e ∷ es }) (record { kept-forest = k; kept-stack = xs }))
         (λ b. by-bool (is-complete (t .answer-mode))
@@ -219,20 +219,20 @@ module _ {book : Book} {P : List ℕ → ℕ → Strand → Type 0} {Q : ℕ →
 
   module _ (gs : List ℕ) (m : ℕ) (f : Forest) (e : StackEntry) (es : Stack) (k : KeptForest book P Q gs m f) (x : KeptEntry book P Q gs e)
       (xs : All (KeptEntry book P Q gs) es) where
-    by-choice : (c : Selection) → Chosen closed gs m (x .goal) c → (s : SubGoalSelection) → Fine (Flows closed m) (elim s [
+    by-choice : (c : Selection) → Chosen closed gs m (x .goal) c → (s : SubGoalSelection) → Fine (Flows closed gs m) (elim s [
       | Selected ↦ on-subgoal-selected (record { forest = c .forest; stack = with-active e none ∷ es }) (c .strand)
       | NotSelected ↦ on-no-remaining-subgoals (record { forest = c .forest; stack = with-active e none ∷ es }) (c .strand)
     ])
-    by-choice c y Selected =
-        selected-kept closed (y .goals) m (c .forest) (with-active e none) es (y .kept)
+    by-choice c y Selected = flows-after closed (y .within)
+        (selected-kept closed (y .goals) m (c .forest) (with-active e none) es (y .kept)
         (record { goal = x .goal; is-made = y .within (e .table) (x .goal) (x .is-made); kept-active = tt })
-        (all-map (entry-more closed (y .within)) xs) (c .strand) (y .kept-strand)
-    by-choice c y NotSelected =
-        no-remaining closed (y .goals) m (c .forest) (with-active e none) es (y .kept)
+        (all-map (entry-more closed (y .within)) xs) (c .strand) (y .kept-strand))
+    by-choice c y NotSelected = flows-after closed (y .within)
+        (no-remaining closed (y .goals) m (c .forest) (with-active e none) es (y .kept)
         (record { goal = x .goal; is-made = y .within (e .table) (x .goal) (x .is-made); kept-active = tt })
-        (all-map (entry-more closed (y .within)) xs) (c .strand) (y .kept-strand)
+        (all-map (entry-more closed (y .within)) xs) (c .strand) (y .kept-strand))
 
-    by-next : (o : Option (Strand × SolveState)) → Next gs m e x es o → Fine (Flows closed m) (elim o [
+    by-next : (o : Option (Strand × SolveState)) → Next gs m e x es o → Fine (Flows closed gs m) (elim o [
       | none ↦ on-no-strands-left (record { forest = f; stack = e ∷ es })
       | some taken ↦ select-subgoal (taken .1) (with-pursued (taken .0) (e .clock)) >>= λ chosen. elim (chosen .selection) [
         | Selected ↦ on-subgoal-selected (with-forest (taken .1) (chosen .forest)) (chosen .strand)
@@ -240,7 +240,7 @@ module _ {book : Book} {P : List ℕ → ℕ → Strand → Type 0} {Q : ℕ →
       ]
     ])
     by-next none y = none-left gs m f e es k (more x xs)
-    by-next (some taken) y = subst (λ (z : SolveState). Fine (Flows closed m) (select-subgoal z (with-pursued (taken .0)
+    by-next (some taken) y = subst (λ (z : SolveState). Fine (Flows closed gs m) (select-subgoal z (with-pursued (taken .0)
         (e .clock)) >>= λ chosen.
         elim (chosen .selection) [
           | Selected ↦ on-subgoal-selected (with-forest z (chosen .forest)) (chosen .strand)
@@ -250,10 +250,10 @@ module _ {book : Book} {P : List ℕ → ℕ → Strand → Type 0} {Q : ℕ →
         (closed .pursued (taken .0) (e .clock) (y .0)))
         (λ c z. by-choice c z (c .selection)))
 
-  pub turn-kept : (gs : List ℕ) (m : ℕ) (s : SolveState) → KeptState book P Q gs m s → Fine (Flows closed m) (turn s)
+  pub turn-kept : (gs : List ℕ) (m : ℕ) (s : SolveState) → KeptState book P Q gs m s → Fine (Flows closed gs m) (turn s)
   turn-kept gs m s k = by-stack (s .stack) (k .kept-stack)
     where
-      by-stack : (es : Stack) → All (KeptEntry book P Q gs) es → Fine (Flows closed m) (turn (record { forest = s .forest; stack = es }))
+      by-stack : (es : Stack) → All (KeptEntry book P Q gs) es → Fine (Flows closed gs m) (turn (record { forest = s .forest; stack = es }))
       by-stack [] x = stops
       by-stack (e ∷ es) (more x xs) = unwrapping (getElem? (s .forest .tables) (e .table)) (λ t q.
           after (takes-next gs m (s .forest) e es (k .kept-forest) x t q)

@@ -18,6 +18,7 @@ use Rattle.definitions.specs.Listing.{listing-rounds, listing-turns, listing-cl
 use Rattle.definitions.specs.Listing.{Listed, list-from, list-goal, list-goals, lines}
 use Rattle.definitions.specs.Model.{Each}
 use Rattle.definitions.proofs.Desk.{made-as-read}
+use Rattle.definitions.proofs.Members.{each-append}
 use Rattle.laws.proofs.Bools.{case-bool}
 use Rattle.asserts.proofs.Safe.{case-safe}
 use Rattle.asserts.proofs.Sound.{Reached, SoundForest}
@@ -29,12 +30,6 @@ use Rattle.asserts.proofs.Bounds.{answers-at-most}
 use Rattle.asserts.proofs.Reading.{made-sound}
 use Rattle.promises.proofs.ListingStored.{is-found, PeekStored, peek-stored}
 use Rattle.promises.specs.ListingWhole.{MayStand, StartsAt, Behind, InOrder, Whole, ListedAs, ListingWhole}
-
--- Lists.
-
-each-append : {A : Type 0} (P : A → Type 0) (l m : List A) → Each P l → Each P m → Each P (l ++ m)
-each-append P [] m x y = y
-each-append P (a ∷ l) m x y = (x .0, each-append P l m (x .1) y)
 
 module _ {B : Type 0} (P : B → Type 0) where
   case-next : (x : Next) {a b c : B} → (x ≡ next-index → P a) → (x ≡ next-goal → P b) → (x ≡ the-end → P c) →
