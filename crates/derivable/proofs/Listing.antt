@@ -4,7 +4,7 @@ use Prim.Native.Nat.{ℕ, zero, suc, _-_}
 use mathlib.Core.Path.{_≡_, refl, sym, ap, subst, _∙_}
 use mathlib.Core.Bool.{Bool, true, false, true≢false}
 use mathlib.Core.Option.{Option, none, some}
-use mathlib.Core.List.{List, [], _∷_, _++_}
+use mathlib.Core.List.{List, [], _∷_}
 use lib.ListN.{length, getElem?}
 use Rattle.definitions.specs.{CompleteAnswer, TableIndex}
 use Rattle.definitions.specs.Book.{Book}
@@ -14,7 +14,7 @@ use Rattle.definitions.specs.Tables.{Forest}
 use Rattle.definitions.specs.Turn.{Ending, found, fail, cut, stopped}
 use Rattle.definitions.specs.Forest.{make-of, Opened, opened, Peeked, peek-rounds}
 use Rattle.definitions.specs.Desk.{desk}
-use Rattle.definitions.specs.Listing.{listing-rounds, listing-turns, listing-clock, Line, line, next-index, next-goal, the-end, next}
+use Rattle.definitions.specs.Listing.{listing-rounds, listing-turns, listing-clock, line, next-index, next-goal, the-end, next}
 use Rattle.definitions.specs.Listing.{Listed, list-from, list-goal, list-goals}
 use Rattle.definitions.specs.Model.{Each}
 use Rattle.definitions.specs.Derive.{Derivable, Clean}
