@@ -1,6 +1,6 @@
 -- A yes that can be printed (change request 2). `Kept` states the local steps and what is kept of a state; `Choosing` to `Calls` show that
 -- every call keeps it, whatever P and Q are; `Derive` is the instance, and `Theorem` has `certified`. `Spoilt` shows that the goals which
--- nothing spoils are the largest clean set.
+-- nothing spoils are the largest clean set, and `Rounds` that rounds compute what can be derived.
 pub mod Fine
 pub mod Kept
 pub mod Choosing
@@ -11,5 +11,6 @@ pub mod Turns
 pub mod Calls
 pub mod Derive
 pub mod Spoilt
+pub mod Rounds
 pub mod Theorem
 pub mod Listing
