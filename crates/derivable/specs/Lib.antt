@@ -3,3 +3,4 @@
 pub mod Spoilt
 pub mod Listing
 pub mod Rounds
+pub mod Cases
