@@ -73,7 +73,7 @@ module _ (f : Forest) (s : Sound f) (t : ℕ) where
     refl,
   )
 
-  named-told : (Is : ℕ → Type 0) → claim.Named (view f) t Is → Named f t Is
+  pub named-told : (Is : ℕ → Type 0) → claim.Named (view f) t Is → Named f t Is
   named-told Is n = (
     (n .0 .0, names-told (n .0 .0) (n .0 .1)),
     λ goal r o e. n .1 goal (names-said goal r o e),
@@ -301,7 +301,7 @@ making-from limit o = elim o [
       (record { book = book; clock-limit = limit; mark = 0; tables = []; clock = 0 })
 ]
 
-made-book : (bytes : List ℕ) (limit : ℕ) (F : tables.Forest) (book : books.Book) → forests.make bytes limit ≡ accepted F
+pub made-book : (bytes : List ℕ) (limit : ℕ) (F : tables.Forest) (book : books.Book) → forests.make bytes limit ≡ accepted F
     → books.read bytes ≡ accepted book → F .book ≡ book
 made-book bytes limit F book e k =
     sym (ap (λ (z : tables.Forest). z .book) (all-pass ((eqb limit 0 || leb MAX limit) refuses 13 ∷ [])
@@ -359,7 +359,8 @@ as-made bytes limit m says e =
       marked = says .marked;
     }
 
-either-made : (bytes : List ℕ) (limit : ℕ) (m : Made) → EntrySays bytes limit m → m .making ≡ makings.Made → MakeSays bytes limit m
+pub either-made : (bytes : List ℕ) (limit : ℕ) (m : Made) → EntrySays bytes limit m → m .making ≡ makings.Made
+    → MakeSays bytes limit m
 either-made bytes limit m (inl says) e = says
 either-made bytes limit m (inr says) e = as-made bytes limit m says e
 

@@ -3,4 +3,5 @@ pub mod Steps
 pub mod Claim
 pub mod Before
 pub mod Beforehand
+pub mod Certified
 pub mod Total
