@@ -20,8 +20,7 @@ use Rattle.definitions.specs.Levels.{each-passes}
 use Rattle.definitions.specs.Model.{Each}
 use Rattle.definitions.specs.Derive.{Usable, Derives, derives-end, derives, Derivable}
 use Rattle.definitions.proofs.Desk.{and-both, both-and}
-use Rattle.definitions.proofs.Members.{each-at}
-use Rattle.derivable.proofs.Derive.{all-each}
+use Rattle.definitions.proofs.Members.{each-at, all-each}
 use Rattle.derivable.specs.Rounds.{literal-derived, clause-derived, clauses-derived, goal-derived, goals-derived, round, after}
 use Rattle.derivable.specs.Rounds.{Pairs, Has, pair-fits, JustDerivable, RoundsCompute}
 
