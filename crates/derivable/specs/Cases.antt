@@ -2,20 +2,25 @@
 -- can be derived from it. All by computation; the listings and replies are those of the Rust.
 use Prim.Native.Nat.{ℕ}
 use mathlib.Core.Path.{_≡_, refl}
-use mathlib.Core.Bool.{Bool, true, false, not, _&&_}
+use mathlib.Core.Bool.{Bool, true, false, _&&_}
+use mathlib.Core.Option.{Option, none, some}
 use mathlib.Core.List.{List, [], _∷_, _++_, map}
 use lib.Dec.{eqb}
+use Rattle.definitions.specs.{Answer}
 use Rattle.definitions.specs.Ascii.{ascii}
 use Rattle.definitions.specs.Refusal.{Refusable, refused, accepted}
 use Rattle.definitions.specs.Stop.{go}
-use Rattle.definitions.specs.Book.{Goal, Clause, Book, clause-count, read, write}
+use Rattle.definitions.specs.Book.{Clause, Book, clause-count, read, write}
 use Rattle.definitions.specs.Lists.{any-passes}
 use Rattle.definitions.specs.Levels.{each-passes}
-use Rattle.definitions.specs.Model.{Each}
+use Rattle.definitions.specs.Spoilt.{check-spoilers}
+use Rattle.definitions.specs.Tables.{Tables}
+use Rattle.definitions.specs.Forest.{make}
 use Rattle.definitions.specs.Turn.{Ending, found, fail, cut, stopped}
-use Rattle.definitions.specs.Calls.{opens, searches, peeks, table, searched, peeked}
+use Rattle.definitions.specs.Calls.{opens, searches, peeks, table, searched, peeked, sitting, Called, calls}
 use Rattle.definitions.specs.Listing.{Line, lines}
-use Rattle.definitions.specs.Cases.{Case, run-on, listed, pos, neg, rule, fact, unproved, one-rule, inductive, coinductive, floundered, p6}
+use Rattle.definitions.specs.Cases.{Run, lists, runs, Case, run-on, listed, pos, neg, rule, fact, unproved, one-rule}
+use Rattle.definitions.specs.Cases.{inductive, coinductive, floundered, p6}
 use Rattle.definitions.specs.MoreCases.{want, outsized, outsized-rule, wants, one-may-be-taken, yes, no-more, _gets_, said}
 use Rattle.definitions.specs.RangeCases.{three-to-seven, ends}
 use Rattle.derivable.specs.Rounds.{Pairs, round, after, JustDerivable}
@@ -130,7 +135,19 @@ derivable-cases-agree = refl
 abbrev pub CaseDerivable : DerivableCase → Type 0
 CaseDerivable c = (book : Book) → read (c .case .book) ≡ accepted book → JustDerivable book (c .derivable)
 
--- The promise on the table: whatever the listing of a case's book says yes to can be derived.
+-- The promise on the table: nothing spoils a goal of these books, so that whatever a listing says yes to can be derived, and whatever
+-- calls have stored as an unambiguous answer.
+
+abbrev pub none-spoilt : List (Option ℕ) → Bool
+none-spoilt [] = true
+none-spoilt (none ∷ ss) = none-spoilt ss
+none-spoilt (some by ∷ ss) = false
+
+abbrev pub is-promised : DerivableCase → Bool
+is-promised c = elim (check-spoilers (c .case .book)) [ refused n ↦ false | accepted ss ↦ none-spoilt ss ]
+
+pub cases-promised : each-passes is-promised derivable-cases ≡ true
+cases-promised = refl
 
 abbrev pub yes-of : (goal : ℕ) → Ending → Pairs
 yes-of goal (found a) = elim (a .ambiguous) [ true ↦ [] | false ↦ (goal, a .variant) ∷ [] ]
@@ -145,11 +162,27 @@ yes-lines (l ∷ ls) = yes-of (l .goal) (l .ending) ++ yes-lines ls
 abbrev pub yes-listed : (bytes : List ℕ) → Pairs
 yes-listed bytes = elim (lines bytes) [ refused n ↦ [] | accepted ls ↦ yes-lines ls ]
 
+abbrev pub yes-answers : (goal : ℕ) → List Answer → Pairs
+yes-answers goal [] = []
+yes-answers goal (a ∷ rest) = elim (a .ambiguous) [ true ↦ [] | false ↦ (goal, a .variant) ∷ [] ] ++ yes-answers goal rest
+
+abbrev pub yes-stored : Tables → Pairs
+yes-stored [] = []
+yes-stored (t ∷ ts) = yes-answers (t .table-goal) (t .answers) ++ yes-stored ts
+
+abbrev pub yes-called : List Called → Pairs
+yes-called [] = []
+yes-called (c ∷ cs) = yes-stored (c .after .forest .tables) ++ yes-called cs
+
+abbrev pub yes-said : (bytes : List ℕ) → Run → Pairs
+yes-said bytes lists = yes-listed bytes
+yes-said bytes (runs limit cs) = elim (make bytes limit) [ refused n ↦ [] | accepted f ↦ yes-called (calls (sitting f) cs) ]
+
 abbrev pub is-among : Pairs → ℕ × ℕ → Bool
 is-among d p = any-passes (λ q. eqb (q .0) (p .0) && eqb (q .1) (p .1)) d
 
 abbrev pub yes-derivable : DerivableCase → Bool
-yes-derivable c = each-passes (is-among (c .derivable)) (yes-listed (c .case .book))
+yes-derivable c = each-passes (is-among (c .derivable)) (yes-said (c .case .book) (c .case .run))
 
 pub cases-yes-derivable : each-passes yes-derivable derivable-cases ≡ true
 cases-yes-derivable = refl
@@ -170,6 +203,9 @@ pub outside-cases-agree :
     map (λ (c : DerivableCase). computed (c .case .book)) outside-cases
     ≡ map (λ (c : DerivableCase). accepted (c .derivable, c .derivable)) outside-cases
 outside-cases-agree = refl
+
+pub outside-unpromised : map is-promised outside-cases ≡ false ∷ false ∷ []
+outside-unpromised = refl
 
 pub outside-yes-underived : map yes-derivable outside-cases ≡ false ∷ false ∷ []
 outside-yes-underived = refl

@@ -28,7 +28,7 @@ use Rattle.forest.specs.Make.{MakeSays}
 use Rattle.forest.specs.Sittings.{Told, opens, searches, peeks, asks-future, left, Sits, asked}
 use Rattle.forest.specs.View.{view, Sound}
 use Rattle.forest.proofs.Serving.{left-sound}
-use Rattle.sittings.specs.Certified.{OutcomeDerivable, ToldDerivable, AllDerivable, Certified, UnspoiltTells}
+use Rattle.sittings.specs.Certified.{OutcomeDerivable, ToldDerivable, AllDerivable, Certified, BookCertified, UnspoiltTells}
 use Rattle.sittings.specs.Sittings.{outcome-reply}
 use Rattle.sittings.proofs.Calls.{told-call, told-calls, sits-calls}
 use Rattle.sittings.proofs.Demand.{named-told, made-book, is-made, either-made, entry-sound}
@@ -91,6 +91,10 @@ certified bytes limit m says e book k C clean ss runs =
     let made = either-made bytes limit m says e in
     tell-so (AllDerivable book C (m .forest)) ss (m .forest) (entry-sound bytes limit m says) runs
     (sitting-derivable bytes limit m made e book k C clean)
+
+-- a book with no "not" and no coinductive goal is clean as a whole
+pub book-certified : BookCertified
+book-certified bytes limit m says e book k clean = certified bytes limit m says e book k (λ goal. Unit {0}) (derived.whole-book book clean)
 
 -- the goals that nothing spoils are a clean set
 pub unspoilt-tells : UnspoiltTells

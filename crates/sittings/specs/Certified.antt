@@ -1,6 +1,6 @@
--- A yes that can be printed (change request 2), of the code: whatever a search or a peek finds for a goal of a clean set can be derived from
--- the book's clauses, variants and wants included, where it is unambiguous; and so can whatever is stored. Nothing is said about answers
--- that are not found.
+-- A yes that can be printed (change request 2), of the code: whatever a search or a peek finds for a goal of a clean set can be derived
+-- from the book's clauses, variants and wants included, where it is unambiguous; and so can whatever is stored. Nothing is said about
+-- answers that are not found.
 use Prim.Native.Nat.{ℕ}
 use mathlib.Core.Bool.{false}
 use mathlib.Core.List.{List, [], _∷_}
@@ -8,7 +8,7 @@ use mathlib.Core.Option.{Option, none}
 use mathlib.Core.Path.{_≡_}
 use Rattle.definitions.specs.Book as books
 use Rattle.definitions.specs.Certified.{StoredDerivable}
-use Rattle.definitions.specs.Derive.{Derivable, Clean}
+use Rattle.definitions.specs.Derive.{Derivable, Clean, CleanBook}
 use Rattle.definitions.specs.Desk.{desk}
 use Rattle.definitions.specs.Refusal.{accepted}
 use Rattle.definitions.specs.Spoilt.{spoiler-in, check-spoilers}
@@ -55,6 +55,14 @@ Certified =
     (bytes : List ℕ) (clock-limit : ℕ) (m : Made) → EntrySays bytes clock-limit m → m .making ≡ makings.Made →
     (book : books.Book) → books.read bytes ≡ accepted book → (C : ℕ → Type 0) → Clean book C →
     (ss : List Step) → Runs (m .forest) ss → TellSo (m .forest) ss (AllDerivable book C (m .forest))
+
+-- What the change request says of a whole book, with no "not" and no coinductive goal: of whatever goal an unambiguous answer is found, it
+-- can be derived.
+abbrev pub BookCertified : Type 0
+BookCertified =
+    (bytes : List ℕ) (clock-limit : ℕ) (m : Made) → EntrySays bytes clock-limit m → m .making ≡ makings.Made →
+    (book : books.Book) → books.read bytes ≡ accepted book → CleanBook book →
+    (ss : List Step) → Runs (m .forest) ss → TellSo (m .forest) ss (AllDerivable book (λ goal. Unit {0}) (m .forest))
 
 -- BEFOREHAND: of a paper whose goals were looked at (definitions, Spoilt), in a forest that is made at the desk, whatever is found
 -- unambiguous for a goal that nothing spoils can be derived
