@@ -1,4 +1,4 @@
-"""The faults that `planted-faults` plants: each with a book, calls on it, what they get wrong, and the theorem that is false then."""
+"""The faults of demand 3 that `planted-faults` plants: each with a book, calls on it, what they get wrong, and the theorem that is false then."""
 
 CLOCK_LIMIT = 1000
 
@@ -149,7 +149,11 @@ class Fault:
         return len(self.book) + sum(map(len, self.book))
 
 
-AGAIN, NONE, YES = "(fail QuantumExceeded)", "(fail NoMoreSolutions)", "(found (record { variant = 0; ambiguous = false }))"
+def found(variant, ambiguous):
+    return "(found (record { variant = %d; ambiguous = %s }))" % (variant, "true" if ambiguous else "false")
+
+
+AGAIN, NONE, YES = "(fail QuantumExceeded)", "(fail NoMoreSolutions)", found(0, False)
 
 
 def searched(ending, turns):

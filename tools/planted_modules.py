@@ -1,5 +1,5 @@
 """The modules that `planted-faults` puts into its copies: a computed run, what it breaks, and the two sides of a theorem."""
-from planted_faults import CLOCK_LIMIT, book_term, cons, levelled_term, plain_term
+from planted_faults import CLOCK_LIMIT, cons, levelled_term, plain_term
 
 SPECS = "Rattle.definitions.specs"
 FROM_PROMISES = "Rattle.definitions.specs"
@@ -8,12 +8,12 @@ PROMISES = "Rattle.promises.proofs"
 RUN = """-- a book, calls, and what they reply
 use Prim.Native.Nat.{ℕ}
 use mathlib.Core.Path.{_≡_, refl}
-use mathlib.Core.Bool.{false}
+use mathlib.Core.Bool.{true, false}
 use mathlib.Core.List.{List, [], _∷_, map}
 use %(s)s.Stop.{go}
-use %(s)s.Book.{any, Literal, Positive, Negative, Clause, Goal, Book}
+use %(s)s.Book.{any, exactly, Literal, Positive, Negative, Clause, Goal, Book}
 use %(s)s.Tables.{Forest}
-use %(s)s.Logic.{NoMoreSolutions, QuantumExceeded}
+use %(s)s.Logic.{NoMoreSolutions, Floundered, QuantumExceeded}
 use %(s)s.Turn.{found, fail, cut, stopped}
 use %(s)s.Calls.{Call, opens, searches, Reply, table, searched, sitting, Called, calls}
 
@@ -203,8 +203,9 @@ theorem-says = refl
 """
 
 
-def run_text(fault, replies):
-    return RUN % {"s": SPECS, "book": book_term(fault.book), "limit": CLOCK_LIMIT, "calls": cons(fault.calls), "replies": cons(replies)}
+def run_text(book, calls, replies):
+    """The run's book is a term."""
+    return RUN % {"s": SPECS, "book": book, "limit": CLOCK_LIMIT, "calls": cons(calls), "replies": cons(replies)}
 
 
 def broken_text(fault):
