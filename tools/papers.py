@@ -173,6 +173,34 @@ def to_be_mended():
     return first + undefined + clause(3) + goal + literal("not 1") + literal("3/1") + goal + 2 * undefined + 2 * clause(3) + b"\x45"
 
 
+def eight_ranges(variants):
+    """A clause whose literals want an eighth each of so many facts."""
+    ends = [variants * n // 8 for n in range(9)]
+    wanted = [ranged(1, low + 1, high) for low, high in zip(ends, ends[1:])]
+    return "\n".join(["goal 0", "0/9 :- " + ", ".join(wanted), "goal 1"] + ["1/%d" % v for v in range(1, variants + 1)])
+
+
+# Goals 0 to 3 are clean, 4 and 6 spoil, 5 and 7 lead to them.
+CORNER = """goal 0
+0/1 :- 1/3-7, 2
+goal 1
+1/5
+1/9 :- 3
+goal 2
+2 :- 2
+2/4
+goal 3 [floundered]
+goal 4
+4 :- 0
+4 :- not 1, 0
+goal 5
+5 :- 0, 4
+goal 6 [coinductive]
+6 :- 6
+goal 7
+7 :- 1, 6"""
+
+
 def three_to_seven():
     variants = (2, 3, 7, 8, 0)
     rest = ["goal %d\n%d :- %s" % (g, g, ranged(g + 5, 3, 7)) for g in range(5)]
@@ -251,6 +279,11 @@ PAPERS = [
     ("levels-chain", "the longest chain of \"not\"s, in the largest plain book that has one: the levels are 63 to 0", not_the_next("63")),
     ("levels-cycle", "the same, and the last goal rests on \"not\" the first: all 64 goals are on a cycle through \"not\"",
      not_the_next("not 0")),
+    ("certify-corner", "goals 0 to 3 are clean; 4 has a \"not\", which spoils 5 too, 6 is coinductive, which spoils 7 too", CORNER),
+    ("certify-chain", "64 goals, each of which rests on the next; the last is coinductive, which spoils them all",
+     chain(64).replace("goal 63", "goal 63 [coinductive]")),
+    ("certify-ranges", "eight ranges over 255 facts: goal 0 can be derived as variant 9, and the listing gives it up before",
+     eight_ranges(255)),
     ("clauses-256-alike", "256 clauses of one goal, different in the last of 8 ranges alone: the desk takes it", alike(range(256))),
     ("clauses-256-twice", "the same, the last clause equal to the first: the desk refuses it with 36", alike([*range(255), 0])),
     ("mend-behind", "a literal behind a later goal is the clause's before it: accepted, and so unchanged by mending",
@@ -284,12 +317,12 @@ TEXTS = [
 HEADER = """# Sample papers
 
 Each file `NAME.book` holds the bytes of a book. p1 to p9 are the cases of document 01, `release` is a paper as the
-workshop has it; the others are the sizes at the limits and one past them, ranges, the same clause twice, levels, papers to be mended, and
-the largest book. A paper that is refused here is refused by both entries, but where the desk is named. `inspect` prints what a book says,
-`listing` what follows from it, `levels` its levels, where it is plain and has some; `mend` leaves out the clauses for which the desk
-refuses it with 6 or 36. A file `NAME.xsb` is a text for a Prolog with tabling: `to_xsb` writes such a text of a plain book, `from_xsb` the
-book of such a text. `tools/papers.py` makes the files and this page from a notation that can be read; `tools/papers.py --check` says
-whether they are those.
+workshop has it; the others are the sizes at the limits and one past them, ranges, the same clause twice, levels, which yes can be
+printed, papers to be mended, and the largest book. A paper that is refused here is refused by both entries, but where the desk is named.
+`inspect` prints what a book says, `listing` what follows from it, `levels` its levels, where it is plain and has some, `certify` which
+goals' yes can be printed; `mend` leaves out the clauses for which the desk refuses it with 6 or 36. A file `NAME.xsb` is a text for a
+Prolog with tabling: `to_xsb` writes such a text of a plain book, `from_xsb` the book of such a text. `tools/papers.py` makes the files and
+this page from a notation that can be read; `tools/papers.py --check` says whether they are those.
 
 | file | bytes | what it is | in hex |
 |---|---|---|---|

@@ -3,6 +3,7 @@
 mod bench;
 mod book;
 mod bounded;
+mod certify;
 mod check;
 mod demand3;
 mod gen;
@@ -24,6 +25,8 @@ const USAGE: &str = "usage: oracle list [hex] < BOOK
        oracle levels lines < LINES OF HEX
        oracle levels time RUNS < BOOK
        oracle levels model < LINES OF HEX
+       oracle certify [hex] < BOOK
+       oracle certify lines < LINES OF HEX
        oracle to-xsb [hex] < BOOK
        oracle to-xsb lines < LINES OF HEX
        oracle from-xsb [hex] < TEXT
@@ -167,6 +170,10 @@ fn command(words: &[&str]) -> Result<(), String> {
         ["levels", "model"] => each_book(|bytes| Ok(levels::model_line(bytes))),
         ["levels", rest @ ..] => {
             io::stdout().write_all(levels::text(&input(rest)?).as_bytes()).map_err(|e| e.to_string())
+        }
+        ["certify", "lines"] => each_book(|bytes| Ok(certify::text(bytes))),
+        ["certify", rest @ ..] => {
+            io::stdout().write_all(certify::text(&input(rest)?).as_bytes()).map_err(|e| e.to_string())
         }
         ["to-xsb", "lines"] => each_book(|bytes| Ok(xsb::text_line(bytes))),
         ["to-xsb", rest @ ..] => given(xsb::export_or_lines(&input(rest)?)),
