@@ -1,9 +1,32 @@
-"""Books of chance for tools/derived.py and tools/certify.py, rich in what order 2 speaks of: variants, wants, ranges, outsized and cannot
-prove marks, floundered goals and positive cycles. Three of four have no "not" and no coinductive goal, so that every goal is clean; the
-fourth has one of them in a corner. No goal has the same clause twice, so that the desk takes them all.
+"""Books for tools/derived.py and tools/certify.py: some by hand, with what can be derived from them, and books of chance. These are rich
+in what order 2 speaks of: variants, wants, ranges, outsized and cannot prove marks, floundered goals and positive cycles. Three of four
+have no "not" and no coinductive goal, so that every goal is clean; the fourth has one of them in a corner. No goal has the same clause
+twice, so that the desk takes them all.
 """
 import papers
 
+# By hand: a book, what can be derived from it, its clean goals, and its listing.
+HAND = [
+    ("goal 0; 0 :- 1; 0/2; goal 1; 1/1 [cannot prove]; 1/1 :- 0", "0/0 0/2 1/1", "0 1",
+     "0 0 yes 2; 0 1 maybe 0; 0 2 none; 1 0 maybe 1; 1 1 stop 26"),
+    ("goal 0; 0 :- 1; goal 1 [floundered]", "", "0 1", "0 0 maybe 0; 0 1 none; 1 0 floundered"),
+    ("goal 0; 0 :- 0, 1; goal 1; 1/1; 1/2; 1/3", "1/1 1/2 1/3", "0 1", "0 0 stop 29"),
+    ("goal 0; 0 :- 1/2; goal 1; 1/1; 1/2", "0/0 1/1 1/2", "0 1", "0 0 yes 0; 0 1 none; 1 0 yes 1; 1 1 yes 2; 1 2 none"),
+    ("goal 0; 0 :- 1/3; goal 1; 1/1", "1/1", "0 1", "0 0 none; 1 0 yes 1; 1 1 none"),
+    ("goal 0; 0/5 :- 1/3; goal 1; 1", "0/5 1/0", "0 1", "0 0 yes 5; 0 1 none; 1 0 yes 0; 1 1 none"),
+    ("goal 0; 0/5 :- 1/3-7; goal 1; 1/7", "0/5 1/7", "0 1", "0 0 yes 5; 0 1 none; 1 0 yes 7; 1 1 none"),
+    ("goal 0; 0/5 :- 1/3-7; goal 1; 1/8", "1/8", "0 1", "0 0 none; 1 0 yes 8; 1 1 none"),
+    ("goal 0; 0/5 :- 1/0-0; goal 1; 1/1", "1/1", "0 1", "0 0 none; 1 0 yes 1; 1 1 none"),
+    ("goal 0; 0 :- 1 [outsized]; goal 1; 1", "1/0", "0 1", "0 0 maybe 0; 0 1 none; 1 0 yes 0; 1 1 none"),
+    ("goal 0; 0; 0 [outsized]", "0/0", "0", "0 0 yes 0; 0 1 none"), ("goal 0; 0 [outsized]; 0", "0/0", "0", "0 0 floundered"),
+    ("goal 0 [floundered]; 0; goal 1; 1 :- 0; 1/1", "1/1", "0 1", "0 0 floundered; 1 0 yes 1; 1 1 maybe 0; 1 2 none"),
+    ("goal 0; 0 :- 0", "", "0", "0 0 none"), ("goal 0 [coinductive]; 0 :- 0", "", "", "0 0 yes 0; 0 1 none"),
+    ("goal 0; 0 :- not 1; goal 1", "", "1", "0 0 yes 0; 0 1 none; 1 0 none"),
+    ("goal 0; 0/1 :- 1; goal 1; 1/1 [cannot prove]; 1/2", "0/1 1/2", "0 1", "0 0 yes 1; 0 1 none; 1 0 yes 2; 1 1 maybe 1; 1 2 none"),
+    # 1/1 is lost, so that goal 3 is not found, and the yes of goal 2, which is not clean, is wrong
+    ("goal 0; 0 :- 0, 1; goal 1; 1/1 :- 1; 1/2; 1/3; goal 2; 2 :- not 3; goal 3; 3 :- 1/1", "1/1 1/2 1/3 3/0", "0 1 3",
+     "0 0 none; 1 0 yes 2; 1 1 yes 3; 1 2 none; 2 0 yes 0; 2 1 none; 3 0 none"),
+]
 VARIANTS = (0, 0, 1, 1, 2, 3, 3, 7, 8, 256, 65535)
 
 

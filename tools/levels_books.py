@@ -209,7 +209,7 @@ PAPERS = {
     "largest": at("goal 0, clause 0, literal 0: a range"), "largest-and-a-byte": 7,
     "largest-wants": at("goal 0, clause 0, literal 1: a want"), "mend-behind": [0, 0], "mend-both": 6, "mend-261": 6, "mend-256": 36,
     "largest-undefined": 6, "certify-corner": at("goal 0, clause 0: a variant"), "certify-chain": at("goal 63: a flag"),
-    "certify-ranges": at("goal 0, clause 0: a variant"),
+    "certify-wrong-yes": at("goal 1, clause 0: a variant"), "certify-ranges": at("goal 0, clause 0: a variant"),
 }
 
 

@@ -282,6 +282,8 @@ PAPERS = [
     ("certify-corner", "goals 0 to 3 are clean; 4 has a \"not\", which spoils 5 too, 6 is coinductive, which spoils 7 too", CORNER),
     ("certify-chain", "64 goals, each of which rests on the next; the last is coinductive, which spoils them all",
      chain(64).replace("goal 63", "goal 63 [coinductive]")),
+    ("certify-wrong-yes", "goal 3 follows, by way of 1/1, and is not found: the yes of goal 2, which has a \"not\", is wrong",
+     "goal 0\n0 :- 0, 1\ngoal 1\n1/1 :- 1\n1/2\n1/3\ngoal 2\n2 :- not 3\ngoal 3\n3 :- 1/1"),
     ("certify-ranges", "eight ranges over 255 facts: goal 0 can be derived as variant 9, and the listing gives it up before",
      eight_ranges(255)),
     ("clauses-256-alike", "256 clauses of one goal, different in the last of 8 ranges alone: the desk takes it", alike(range(256))),

@@ -97,6 +97,7 @@ CASES = {
         case("1c 1c", ".b", "0 :- 1"), case("1c 1c", ".c", "0 :- 1/3"), case("1c 1c", ".c", "0 :- 1/3-7"),
         case("1c 1c", ".c", "0 :- 1 [outsized]"),
         case("1c 1c", ".c", "0 [cannot prove] :- 1"), case("1c 1c", ".c", "0 [outsized] :- 1"), case("1c 1c", ".c", "0", "0 :- 0, 0, 1"),
+        case("1c 1c", ".c", "0 :- 0, 0, 0, 0, 0, 0, 0, 1"), case("1c 1c", ".c", *FACTS, "0 :- 0, 1"),
         case("1n1.2 1n1.2", "..", "0 :- 1", "1", "1 :- 0, 0, not 0"), case("2c 2c 2c", "..c", "0 :- 1", "1 :- 2"),
         case("0c 0c 0c", "c..", "2 :- 1", "1 :- 0"), case("2c 2c 2c -", "..c.", "0 :- 1", "1 :- 2", "2 :- 3"),
         case("- 2c 2c", "..c", "1 :- 2", "2 :- 0"), case("2n0.0 2n0.0 2n0.0 -", "....", "0 :- 1", "1 :- 2", "2 :- not 3", "3"),
@@ -172,7 +173,8 @@ PAPERS = {
     "levels-chain": " ".join("%dn0.0" % g for g in range(63)) + " -", "levels-cycle": " ".join("%dn0.0" % g for g in range(64)),
     "clauses-256-alike": "-", "clauses-256-twice": 36, "largest": EVERY_FOURTH, "largest-and-a-byte": 7, "largest-wants": EVERY_FOURTH,
     "largest-undefined": 6, "mend-behind": "- -", "mend-both": 6, "mend-261": 6, "mend-256": 36,
-    "certify-corner": "- - - - 4n1.0 4n1.0 6c 6c", "certify-chain": "63c " * 64, "certify-ranges": "- -",
+    "certify-corner": "- - - - 4n1.0 4n1.0 6c 6c", "certify-chain": "63c " * 64, "certify-wrong-yes": "- - 2n0.0 -",
+    "certify-ranges": "- -",
 }
 
 
