@@ -3,3 +3,4 @@ pub mod Paper
 pub mod Places
 pub mod Asks
 pub mod Reach
+pub mod Spoilers
