@@ -31,7 +31,7 @@ use Rattle.profile.specs.Spoilers.{refused-with, spoilers-told, goal-tol
 use Rattle.profile.specs.Spoilers.{pass-number, Fills}
 use Rattle.profile.proofs.Papers.{gave}
 use Rattle.profile.proofs.Firsts.{getD-filled, length-filled, fills-start, fills-next, fills-is}
-use Rattle.profile.proofs.Spreading.{spoiler-getD, few-after, known-at}
+use Rattle.profile.proofs.Spreading.{spoiler-getD, few-after, length-after, known-at}
 
 -- A pass by the arrays, up to goal g.
 
@@ -229,14 +229,6 @@ module _ (b : Book) (s : Sound b) where
   few-goals : length (view b) ≤ 64
   few-goals = omega (arith, many b, s .few-goals)
 
-  length-after : (k : ℕ) → length (spoilers-after k (view b)) ≡ b .goals
-  length-after zero =
-      ap length (themselves-span (goal-viewed b) 0 (b .goals)) ∙ length-span (λ g. by-itself g (spoil (goal-viewed b g))) 0 (b .goals)
-  length-after (suc k) =
-      let ss = spoilers-after k (view b) in
-      ap length (pass-span (goal-viewed b) ss 0 (b .goals))
-      ∙ length-span (λ g. or-else (spoiler-in ss g) (clauses-spoilt ss (goal-viewed b g .clauses))) 0 (b .goals)
-
   module _ (k : ℕ) (by : List ℕ) (so : Stands b k by) where
     abbrev ss : List (Option ℕ)
     ss = spoilers-after k (view b)
@@ -244,7 +236,7 @@ module _ (b : Book) (s : Sound b) where
     pub stands-whole : length by ≡ 64
     stands-whole =
         ap length (so .are)
-        ∙ length-filled 64 (map by-number ss) (omega (arith, length-map ss by-number, length-after k, s .few-goals))
+        ∙ length-filled 64 (map by-number ss) (omega (arith, length-map ss by-number, length-after k (view b), few-goals))
 
     known-alike : (g : ℕ) → spoiler-in (known by) g ≡ spoiler-in ss g
     known-alike g =

@@ -80,6 +80,20 @@ pub few-after : (n : ℕ) (book : said.Book) → length book ≤ 64 → (g : ℕ
 few-after zero book e g = few-themselves 0 book (omega arith) g
 few-after (suc n) book e g = few-passed (spoilers-after n book) (λ i. few-after n book e i) 0 book g
 
+-- As many as there are goals.
+
+length-themselves : (g : ℕ) (hs : List said.Goal) → length (by-themselves g hs) ≡ length hs
+length-themselves g [] = refl
+length-themselves g (h ∷ hs) = ap suc (length-themselves (suc g) hs)
+
+length-passed : (ss : List (Option ℕ)) (g : ℕ) (hs : List said.Goal) → length (pass-from ss g hs) ≡ length hs
+length-passed ss g [] = refl
+length-passed ss g (h ∷ hs) = ap suc (length-passed ss (suc g) hs)
+
+pub length-after : (n : ℕ) (book : said.Book) → length (spoilers-after n book) ≡ length book
+length-after zero book = length-themselves 0 book
+length-after (suc n) book = length-passed (spoilers-after n book) 0 book
+
 -- What is known by an array.
 
 pub known-at : (by : List ℕ) (g : ℕ) → spoiler-in (known by) g ≡ goal-told (getD by g 64)
