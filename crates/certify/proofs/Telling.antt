@@ -19,6 +19,7 @@ use Rattle.definitions.specs.Book.{Goal, Book}
 use Rattle.definitions.specs.Desk.{desk}
 use Rattle.definitions.specs.Spoilt.{Spoil, a-coinductive-goal, a-not, spoil, spoiler-in, spoilers}
 use Rattle.definitions.proofs.Desk.{desk-reads}
+use Rattle.definitions.proofs.DeskNumbers.{desk-numbered}
 use Rattle.asserts.proofs.Books.{read-good}
 use Rattle.pen.specs.Pen.{Pen, put-all}
 use Rattle.pen.specs.Refusals.{refusal-lines}
@@ -27,7 +28,6 @@ use Rattle.profile.specs.declared.Spoilers.{Spoilers}
 use Rattle.profile.specs.Spoilers.{what-number, clause-number, literal-number, by-number, filled, goal-by, told-after, spoilers-told}
 use Rattle.profile.proofs.Firsts.{getD-filled, length-filled}
 use Rattle.profile.proofs.Spreading.{Few, few-after, length-after}
-use Rattle.profile.proofs.Numbered.{desk-numbered}
 use Rattle.certify.specs.Words.{words-from, spoil-of, reason-words, spoilt-words, goal-line, certify-words}
 use Rattle.certify.specs.Numbers.{reason-by, reason-told, verdict-by, line-told}
 

@@ -1,6 +1,8 @@
--- The desk's numbers are all below 37: so 37 and 38 are the own ones of the check of a paper.
+-- The desk's numbers are all below 37: so 37 and 38 are the own ones of the check of a paper. And none is 0: so whoever is told 0 knows that
+-- the paper was taken.
 use Prim.Native.Nat.{ℕ, zero, suc, _<_}
 use native.Mathlib.Omega.{arith}
+use mathlib.Core.Path.{_≡_, subst}
 use mathlib.Core.Bool.{Bool, true, false, not}
 use mathlib.Core.List.{List, [], _∷_}
 use lib.ListN.{length}
@@ -15,17 +17,20 @@ use Rattle.definitions.specs.Book.{Book, read-from, read}
 use Rattle.definitions.specs.Desk.{repeats, at-desk, desk}
 use Rattle.definitions.specs.Model.{Each}
 
--- if it is refused, then by a number below 37
+-- if it is refused, then by a number from 1 to 36
 pub data Below : Refusable Book → Type 0 where
-  by-number : {n : ℕ} → n < 37 → Below (refused n)
+  by-number : {n : ℕ} → 0 < n → n < 37 → Below (refused n)
   taken : {book : Book} → Below (accepted book)
 
-by-test : (t : Test) (rest : Refusable Book) (fails : Bool) → t .number < 37 → Below rest
+abbrev Numbered : Test → Type 0
+Numbered t = (0 < t .number) × (t .number < 37)
+
+by-test : (t : Test) (rest : Refusable Book) (fails : Bool) → Numbered t → Below rest
     → Below (elim fails [ true ↦ refused (t .number) | false ↦ rest ])
-by-test t rest true h r = by-number h
+by-test t rest true h r = by-number (h .0) (h .1)
 by-test t rest false h r = r
 
-unless-below : (ts : List Test) (book : Book) → Each (λ t. t .number < 37) ts → Below (unless ts book)
+unless-below : (ts : List Test) (book : Book) → Each Numbered ts → Below (unless ts book)
 unless-below [] book e = taken
 unless-below (t ∷ ts) book e = by-test t (unless ts book) (t .fails) (e .0) (unless-below ts book (e .1))
 
@@ -37,15 +42,15 @@ literal-below l flags book =
     ∷ crossed l refuses 32
     ∷ leb most-literals (literals-so-far book) refuses 5
     ∷ [])
-    (add-literal l book) (omega arith, (omega arith, (omega arith, (omega arith, tt))))
+    (add-literal l book) ((omega arith, omega arith), ((omega arith, omega arith), ((omega arith, omega arith), ((omega arith, omega arith), tt))))
 
 apply-below : (c : Command) (after : List ℕ) (book : Book) → Below (apply-command c after book)
 apply-below goal after book =
-    unless-below (ltb 3 (byte after 0) refuses 4 ∷ leb most-goals (length book) refuses 5 ∷ []) _ (omega arith, (omega arith, tt))
+    unless-below (ltb 3 (byte after 0) refuses 4 ∷ leb most-goals (length book) refuses 5 ∷ []) _ ((omega arith, omega arith), ((omega arith, omega arith), tt))
 apply-below clause after book =
     unless-below
     (eqb (length book) 0 refuses 3 ∷ ltb 3 (byte after 2) refuses 4 ∷ leb most-clauses (clause-count book) refuses 5 ∷ [])
-    _ (omega arith, (omega arith, (omega arith, tt)))
+    _ ((omega arith, omega arith), ((omega arith, omega arith), ((omega arith, omega arith), tt)))
 apply-below positive after book =
     literal-below (Positive (u16 after 0) (want-of (u16 after 2)) (bit0 (byte after 4))) (byte after 4) book
 apply-below ranged after book =
@@ -54,14 +59,14 @@ apply-below negative after book = literal-below (Negative (u16 after 0) (bit0 (b
 apply-below end after book =
     unless-below
     (ltb 0 (length after) refuses 7 ∷ eqb (length book) 0 refuses 8 ∷ not (goals-name (length book) book) refuses 6 ∷ [])
-    book (omega arith, (omega arith, (omega arith, tt)))
-apply-below unknown after book = by-number {n = 2} (omega arith)
+    book ((omega arith, omega arith), ((omega arith, omega arith), ((omega arith, omega arith), tt)))
+apply-below unknown after book = by-number {n = 2} (omega arith) (omega arith)
 
 whole-below : (c : Command) (after : List ℕ) (book : Book) → Below (whole-command c after book)
 whole-below c after book = on (ltb (length after) (width c))
   where
     on : (short : Bool) → Below (elim short [ true ↦ refused 1 | false ↦ apply-command c after book ])
-    on true = by-number {n = 1} (omega arith)
+    on true = by-number {n = 1} (omega arith) (omega arith)
     on false = apply-below c after book
 
 next-below : (r : Refusable Book) (last : Bool) (then : Book → Refusable Book) → Below r → ((next : Book) → Below (then next))
@@ -71,7 +76,7 @@ next-below (accepted next) true then h f = taken
 next-below (accepted next) false then h f = f next
 
 read-below : (bytes : List ℕ) (skip : ℕ) (book : Book) → Below (read-from bytes skip book)
-read-below [] skip book = by-number {n = 1} (omega arith)
+read-below [] skip book = by-number {n = 1} (omega arith) (omega arith)
 read-below (b ∷ bs) (suc skip) book = read-below bs skip book
 read-below (b ∷ bs) zero book =
     next-below (whole-command (command b) bs book) (is-end (command b)) (read-from bs (width (command b)))
@@ -82,4 +87,10 @@ desk-below bytes = on (read bytes) (read-below bytes 0 [])
   where
     on : (r : Refusable Book) → Below r → Below (at-desk r)
     on (refused n) h = h
-    on (accepted book) h = unless-below (repeats book refuses 36 ∷ []) book (omega arith, tt)
+    on (accepted book) h = unless-below (repeats book refuses 36 ∷ []) book ((omega arith, omega arith), tt)
+
+pub desk-numbered : (bytes : List ℕ) (n : ℕ) → desk bytes ≡ refused n → 0 < n
+desk-numbered bytes n e = on (subst Below e (desk-below bytes))
+  where
+    on : Below (refused n) → 0 < n
+    on (by-number p h) = p

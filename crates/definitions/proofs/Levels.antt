@@ -214,7 +214,7 @@ own-number bytes n e h = on (desk bytes) refl (desk-below bytes) e
   where
     on : (r : Refusable Book) → desk bytes ≡ r → Below r → levels-at-desk r ≡ refused n
         → (book : Book) × (desk bytes ≡ accepted book) × (plain-levels book ≡ refused n)
-    on (refused m) k (by-number l) x = absurd (omega (arith, same-refused x))
+    on (refused m) k (by-number p l) x = absurd (omega (arith, same-refused x))
     on (accepted book) k taken x = (book, k, x)
 
 -- 37 only of a book that isn't plain

@@ -22,6 +22,11 @@ module _ {A : Type 0} (P : A → Type 0) where
   each-append [] m x y = y
   each-append (a ∷ l) m x y = (x .0, each-append l m (x .1) y)
 
+module _ {A : Type 0} {P Q : A → Type 0} where
+  pub each-map : ((a : A) → P a → Q a) → (l : List A) → Each P l → Each Q l
+  each-map f [] x = tt
+  each-map f (a ∷ l) x = (f a (x .0), each-map f l (x .1))
+
 -- the same, as a type of its own
 module _ {A : Type 0} {P : A → Type 0} where
   pub each-all : (l : List A) → Each P l → All P l

@@ -168,5 +168,5 @@ pub mend-number : (bytes : List ℕ) (n : ℕ) → mend bytes ≡ refused n → 
 mend-number bytes n e = on (desk bytes) (desk-below bytes) (mend-refused bytes n e .0)
   where
     on : (r : Refusable Book) → Below r → r ≡ refused n → n < 37
-    on (refused m) (by-number h) k = omega (arith, same-refused k)
+    on (refused m) (by-number p h) k = omega (arith, same-refused k)
     on (accepted book) b k = absurd (not-accepted (sym k))

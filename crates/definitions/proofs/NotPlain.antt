@@ -201,7 +201,7 @@ place-of-37 bytes e = on (desk bytes) (desk-below bytes) e
     plain book true p e = absurd (not-37 (levels book) e)
 
     on : (d : Refusable Book) → Below d → levels-at-desk d ≡ refused 37 → (p : Place) × (place-at-desk d ≡ some p)
-    on (refused n) (by-number h) e = absurd (omega (arith, same-refused e))
+    on (refused n) (by-number p h) e = absurd (omega (arith, same-refused e))
     on (accepted book) taken e = plain book (is-plain book) refl e
 
 pub no-place-but-37 : (bytes : List ℕ) → (check-levels bytes ≡ refused 37 → ⊥) → not-plain-place bytes ≡ none

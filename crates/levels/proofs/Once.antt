@@ -39,7 +39,7 @@ told-marks-once : (bytes : List ℕ) (p q r : Pen) (x : Tells bytes p q) (y : Te
 told-marks-once bytes p q r x y e = on (desk bytes) refl (desk-below bytes)
   where
     on : (d : Refusable Book) → desk bytes ≡ d → Below d → x .marks ≡ y .marks
-    on (refused n) k (by-number h) = absurd (omega (arith, same-refused (sym (ap levels-at-desk k) ∙ e)))
+    on (refused n) k (by-number p h) = absurd (omega (arith, same-refused (sym (ap levels-at-desk k) ∙ e)))
     on (accepted book) k taken = marks-once book (x .marks) (y .marks) (x .marked book k e) (y .marked book k e)
 
 pub told-once : (bytes : List ℕ) (p q r : Pen) → Tells bytes p q → Tells bytes p r → q ≡ r

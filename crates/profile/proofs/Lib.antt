@@ -3,8 +3,7 @@
 -- written; `Closing`, its closure; `Walks`, walks of the definitions; `Members`, the clauses and literals of a book by their places;
 -- `Leading`, the edges; `Rounds`, the marks. `Checked` puts the parts together; `Once`: what is said of a profile settles it. Of the goals
 -- whose yes can be printed: `Firsts`, the first of a list, and arrays that are filled; `Spoiling`, what a goal spoils by itself;
--- `Spreading`, by which goal a goal is spoilt in a pass; `SpoiltBooks`, all passes over a book, and a paper's; `Numbered`,
--- what number 0 says.
+-- `Spreading`, by which goal a goal is spoilt in a pass; `SpoiltBooks`, all passes over a book, and a paper's.
 pub mod Asking
 pub mod Papers
 pub mod Tested
@@ -22,4 +21,3 @@ pub mod Firsts
 pub mod Spoiling
 pub mod Spreading
 pub mod SpoiltBooks
-pub mod Numbered

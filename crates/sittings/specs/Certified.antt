@@ -6,12 +6,15 @@ use mathlib.Core.Bool.{false}
 use mathlib.Core.List.{List, [], _∷_}
 use mathlib.Core.Option.{Option, none}
 use mathlib.Core.Path.{_≡_}
+use lib.ListN.{getD}
 use Rattle.definitions.specs.Book as books
 use Rattle.definitions.specs.Certified.{StoredDerivable}
 use Rattle.definitions.specs.Derive.{Derivable, Clean, CleanBook}
 use Rattle.definitions.specs.Desk.{desk}
 use Rattle.definitions.specs.Refusal.{accepted}
 use Rattle.definitions.specs.Spoilt.{spoiler-in, check-spoilers}
+use Rattle.profile.specs.declared.Spoilers.{Spoilers}
+use Rattle.profile.specs.Spoilers.{spoilers-told}
 use Rattle.forest.specs.declared.Forest.{Forest}
 use Rattle.forest.specs.declared.make.Made.{Made}
 use Rattle.forest.specs.declared.make.Making.the-variants as makings
@@ -73,3 +76,12 @@ UnspoiltTells =
     (book : books.Book) → desk bytes ≡ accepted book →
     (ss : List Step) → Runs (m .forest) ss →
     TellSo (m .forest) ss (AllDerivable book (λ goal. spoiler-in spoilers goal ≡ none) (m .forest))
+
+-- the same, as the code tells it (crate `profile`, `spoilers`): 64 stands for a goal that nothing spoils
+abbrev pub CleanTells : Type 0
+CleanTells =
+    (bytes : List ℕ) (p : Spoilers) → p ≡ spoilers-told (desk bytes) →
+    (clock-limit : ℕ) (m : Made) → MakeAtDeskSays bytes clock-limit m → m .making ≡ makings.Made →
+    (book : books.Book) → desk bytes ≡ accepted book →
+    (ss : List Step) → Runs (m .forest) ss →
+    TellSo (m .forest) ss (AllDerivable book (λ goal. getD (p .by) goal 64 ≡ 64) (m .forest))
