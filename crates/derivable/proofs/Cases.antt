@@ -1,13 +1,16 @@
--- Of every case of the table the pairs are those that can be derived, and no other.
+-- The table of cases: what is run gives what stands there, by computation; the pairs are those that can be derived, and no other; and
+-- whatever a run says yes to is among them, where nothing spoils a goal.
 use Prim.Native.Nat.{ℕ}
 use mathlib.Core.Path.{_≡_, refl, sym, ap, subst, _∙_}
+use mathlib.Core.Bool.{true, false}
 use mathlib.Core.List.{List, [], _∷_, map}
 use Rattle.definitions.specs.Refusal.{Refusable, refused, accepted}
 use Rattle.definitions.specs.Book.{Book, clause-count, read}
+use Rattle.definitions.specs.Levels.{each-passes}
 use Rattle.definitions.specs.Model.{Each}
 use Rattle.definitions.proofs.Refusal.{same-accepted}
 use Rattle.derivable.specs.Rounds.{Pairs, JustDerivable}
-use Rattle.derivable.specs.Cases.{DerivableCase, rounds-of, computed, CaseDerivable}
+use Rattle.derivable.specs.Cases.{DerivableCase, runs-to, expected, rounds-of, computed, CaseDerivable, is-promised, yes-derivable}
 use Rattle.derivable.specs.Cases.{derivable-cases, derivable-cases-agree, outside-cases, outside-cases-agree}
 use Rattle.derivable.proofs.Rounds.{rounds-compute}
 
@@ -36,3 +39,23 @@ cases-derivable = each-derivable derivable-cases derivable-cases-agree
 
 pub outside-derivable : Each CaseDerivable outside-cases
 outside-derivable = each-derivable outside-cases outside-cases-agree
+
+-- By computation.
+
+pub cases-run : map runs-to derivable-cases ≡ map expected derivable-cases
+cases-run = refl
+
+pub cases-promised : each-passes is-promised derivable-cases ≡ true
+cases-promised = refl
+
+pub cases-yes-derivable : each-passes yes-derivable derivable-cases ≡ true
+cases-yes-derivable = refl
+
+pub outside-run : map runs-to outside-cases ≡ map expected outside-cases
+outside-run = refl
+
+pub outside-unpromised : map is-promised outside-cases ≡ false ∷ false ∷ []
+outside-unpromised = refl
+
+pub outside-yes-underived : map yes-derivable outside-cases ≡ false ∷ false ∷ []
+outside-yes-underived = refl

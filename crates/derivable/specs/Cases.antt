@@ -1,5 +1,5 @@
 -- A table of cases for change request 2: a book, what is run on it and what that gives (as in `Cases` of definitions), and the pairs that
--- can be derived from it. All by computation; the listings and replies are those of the Rust.
+-- can be derived from it. All of it agrees by computation (proofs/Cases); the listings and replies are those of the Rust.
 use Prim.Native.Nat.{ℕ}
 use mathlib.Core.Path.{_≡_, refl}
 use mathlib.Core.Bool.{Bool, true, false, _&&_}
@@ -19,7 +19,7 @@ use Rattle.definitions.specs.Forest.{make}
 use Rattle.definitions.specs.Turn.{Ending, found, fail, cut, stopped}
 use Rattle.definitions.specs.Calls.{opens, searches, peeks, table, searched, peeked, sitting, Called, calls}
 use Rattle.definitions.specs.Listing.{Line, lines}
-use Rattle.definitions.specs.Cases.{Run, lists, runs, Case, run-on, listed, pos, neg, rule, fact, unproved, one-rule}
+use Rattle.definitions.specs.Cases.{Run, lists, runs, Gives, Case, run-on, listed, pos, neg, rule, fact, unproved, one-rule}
 use Rattle.definitions.specs.Cases.{inductive, coinductive, floundered, p6}
 use Rattle.definitions.specs.MoreCases.{want, outsized, outsized-rule, wants, one-may-be-taken, yes, no-more, _gets_, said}
 use Rattle.definitions.specs.RangeCases.{three-to-seven, ends}
@@ -114,10 +114,12 @@ derivable-cases =
     derives ((1, 3) ∷ (1, 1) ∷ (1, 2) ∷ (2, 0) ∷ (3, 0) ∷ [])
     ∷ []
 
-pub derivable-cases-run :
-    map (λ (c : DerivableCase). run-on (c .case .book) (c .case .run)) derivable-cases
-    ≡ map (λ (c : DerivableCase). c .case .gives) derivable-cases
-derivable-cases-run = refl
+-- what the run gives
+abbrev pub runs-to : DerivableCase → Gives
+runs-to c = run-on (c .case .book) (c .case .run)
+
+abbrev pub expected : DerivableCase → Gives
+expected c = c .case .gives
 
 -- as many rounds as the book has clauses, and one more: the same pairs
 abbrev pub rounds-of : Book → Pairs × Pairs
@@ -135,8 +137,8 @@ derivable-cases-agree = refl
 abbrev pub CaseDerivable : DerivableCase → Type 0
 CaseDerivable c = (book : Book) → read (c .case .book) ≡ accepted book → JustDerivable book (c .derivable)
 
--- The promise on the table: nothing spoils a goal of these books, so that whatever a listing says yes to can be derived, and whatever
--- calls have stored as an unambiguous answer.
+-- The promise on the table: where nothing spoils a goal of the book, whatever a listing says yes to can be derived, and whatever calls have
+-- stored as an unambiguous answer.
 
 abbrev pub none-spoilt : List (Option ℕ) → Bool
 none-spoilt [] = true
@@ -145,9 +147,6 @@ none-spoilt (some by ∷ ss) = false
 
 abbrev pub is-promised : DerivableCase → Bool
 is-promised c = elim (check-spoilers (c .case .book)) [ refused n ↦ false | accepted ss ↦ none-spoilt ss ]
-
-pub cases-promised : each-passes is-promised derivable-cases ≡ true
-cases-promised = refl
 
 abbrev pub yes-of : (goal : ℕ) → Ending → Pairs
 yes-of goal (found a) = elim (a .ambiguous) [ true ↦ [] | false ↦ (goal, a .variant) ∷ [] ]
@@ -184,9 +183,6 @@ is-among d p = any-passes (λ q. eqb (q .0) (p .0) && eqb (q .1) (p .1)) d
 abbrev pub yes-derivable : DerivableCase → Bool
 yes-derivable c = each-passes (is-among (c .derivable)) (yes-said (c .case .book) (c .case .run))
 
-pub cases-yes-derivable : each-passes yes-derivable derivable-cases ≡ true
-cases-yes-derivable = refl
-
 -- Outside the promise there is a yes that can't be derived: over a "not", and round a coinductive cycle.
 abbrev pub outside-cases : List DerivableCase
 outside-cases =
@@ -194,18 +190,7 @@ outside-cases =
     ∷ listed (write (coinductive (one-rule (pos 0) ∷ []) ∷ [])) (ascii "0 0 yes 0\n0 1 none\n") derives []
     ∷ []
 
-pub outside-cases-run :
-    map (λ (c : DerivableCase). run-on (c .case .book) (c .case .run)) outside-cases
-    ≡ map (λ (c : DerivableCase). c .case .gives) outside-cases
-outside-cases-run = refl
-
 pub outside-cases-agree :
     map (λ (c : DerivableCase). computed (c .case .book)) outside-cases
     ≡ map (λ (c : DerivableCase). accepted (c .derivable, c .derivable)) outside-cases
 outside-cases-agree = refl
-
-pub outside-unpromised : map is-promised outside-cases ≡ false ∷ false ∷ []
-outside-unpromised = refl
-
-pub outside-yes-underived : map yes-derivable outside-cases ≡ false ∷ false ∷ []
-outside-yes-underived = refl
