@@ -94,9 +94,10 @@ derivable-cases =
     ∷ listed (alone (fact 0 ∷ outsized-rule 0 [] ∷ [])) (ascii "0 0 yes 0\n0 1 none\n") derives ((0, 0) ∷ [])
     ∷ listed (alone (outsized-rule 0 [] ∷ fact 0 ∷ [])) (ascii "0 0 floundered\n") derives ((0, 0) ∷ [])
     ∷ listed (alone (outsized-rule 0 [] ∷ [])) (ascii "0 0 floundered\n") derives []
-    -- a clause that cannot prove, alone and beside a fact; a floundered goal that has a fact; a positive cycle
+    -- a clause that cannot prove: alone, beside a fact, and under another clause; a floundered goal that has a fact; a positive cycle
     ∷ listed (alone (unproved 0 ∷ [])) (ascii "0 0 maybe 0\n0 1 none\n") derives []
     ∷ listed one-may-be-taken (ascii "0 0 yes 2\n0 1 maybe 3\n0 2 maybe 1\n0 3 none\n") derives ((0, 2) ∷ [])
+    ∷ listed (alone (unproved 1 ∷ rule 2 (want 0 1 ∷ []) ∷ [])) (ascii "0 0 maybe 1\n0 1 maybe 2\n0 2 none\n") derives []
     ∷ listed (write (record { coinductive = false; floundered = true; clauses = fact 0 ∷ [] } ∷ [])) (ascii "0 0 floundered\n") derives []
     ∷ listed (alone (one-rule (pos 0) ∷ [])) (ascii "0 0 none\n") derives []
     -- an answer lost after a cut (docs/DIFFERENCES.md): goals 3 and 1/3 can be derived and are not found
