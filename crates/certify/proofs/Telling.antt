@@ -88,21 +88,17 @@ module _ (what clause literal : List ℕ) (goal by : ℕ) (p q : Pen) (e : q ≡
       put-two (decimal goal) (verdict-by what clause literal b by) p q r e f
       ∙ ap (λ (x : Bool). put-all (decimal goal ++ verdict-by what clause literal x by) p) (sym k)
 
-  pub clean-said : (b : ℕ) (r : Pen) → b ≡ by → 64 ≤ b → r ≡ put-all (ascii " clean\n") q
-      → r ≡ put-all (line-told what clause literal goal by) p
-  clean-said b r h n f = verdict-said false r (le-ltb by 64 (omega arith)) f
+  pub clean-said : (r : Pen) → 64 ≤ by → r ≡ put-all (ascii " clean\n") q → r ≡ put-all (line-told what clause literal goal by) p
+  clean-said r n f = verdict-said false r (le-ltb by 64 n) f
 
-  pub spoilt-said : (b w c l : ℕ) (r s t : Pen) → b ≡ by → b < 64 → w ≡ getD what b 0 → c ≡ getD clause b 0 → l ≡ getD literal b 0
-      → r ≡ put-all (ascii " spoilt by goal " ++ decimal by) q → s ≡ put-all (reason-told w c l) r → t ≡ put-all (ascii "\n") s
-      → t ≡ put-all (line-told what clause literal goal by) p
-  spoilt-said b w c l r s t h n ew ec el f g k =
-      verdict-said true t (lt-ltb by 64 (omega arith))
-      (put-two (ascii " spoilt by goal " ++ decimal by) (told ++ ascii "\n") q r t f (put-two told (ascii "\n") r s t
-      (g ∙ ap (λ (x : List ℕ). put-all x r) (ap (λ (x : ℕ). reason-told x c l) (ew ∙ ap (λ (i : ℕ). getD what i 0) h)
-      ∙ ap₂ (reason-told (getD what by 0)) (ec ∙ ap (λ (i : ℕ). getD clause i 0) h) (el ∙ ap (λ (i : ℕ). getD literal i 0) h))) k))
-    where
-      told : List ℕ
-      told = reason-told (getD what by 0) (getD clause by 0) (getD literal by 0)
+  abbrev reason-of : List ℕ
+  reason-of = reason-told (getD what by 0) (getD clause by 0) (getD literal by 0)
+
+  pub spoilt-said : (r s t : Pen) → by < 64 → r ≡ put-all (ascii " spoilt by goal " ++ decimal by) q → s ≡ put-all reason-of r
+      → t ≡ put-all (ascii "\n") s → t ≡ put-all (line-told what clause literal goal by) p
+  spoilt-said r s t n f g h =
+      verdict-said true t (lt-ltb by 64 n)
+      (put-two (ascii " spoilt by goal " ++ decimal by) (reason-of ++ ascii "\n") q r t f (put-two reason-of (ascii "\n") r s t g h))
 
 -- The words by the numbers are those of the book.
 
@@ -122,19 +118,20 @@ number-of f z book n = getD-filled 0 (map (λ (g : Goal). f (spoil g)) book) n �
     on (g ∷ b) zero = refl
     on (g ∷ b) (suc i) = on b i
 
+-- a number that tells a goal is below 64
+pub is-goal : (n : ℕ) → Few (some n) → ltb n 64 ≡ true
+is-goal n few = on (ltb n 64) few
+  where
+    on : (b : Bool) → goal-by b n ≡ some n → b ≡ true
+    on true e = refl
+    on false e = absurd (no-such e)
+
 module _ (book : Book) where
   abbrev told : Spoilers
   told = told-after (length book) book
 
   abbrev line-of : (goal by : ℕ) → List ℕ
   line-of = line-told (told .what) (told .clause) (told .literal)
-
-  is-goal : (n : ℕ) → Few (some n) → ltb n 64 ≡ true
-  is-goal n few = on (ltb n 64) few
-    where
-      on : (b : Bool) → goal-by b n ≡ some n → b ≡ true
-      on true e = refl
-      on false e = absurd (no-such e)
 
   line-is : (goal : ℕ) (o : Option ℕ) → Few o → line-of goal (by-number o) ≡ goal-line book goal o
   unfolding line-told goal-line

@@ -10,7 +10,7 @@ mod lines;
 use intake::input;
 
 // What an input says is settled by its first 20,480 bytes (`desk-take`, in the proofs of `definitions`): what follows is not read. The
-// longest words are 3,520 bytes: 64 lines of at most 55. So they are all in the buffer when it is written, and whether they
+// longest words are 3,520 bytes (proofs/Fits): 64 lines of at most 55. So they are all in the buffer when it is written, and whether they
 // could be written is known.
 fn answer(bytes: &[u8]) {
     let mut out = [0u8; 4096];

@@ -46,9 +46,9 @@ fn literals_spoilt(
     let mut j: usize = 0;
     while j < count {
         let l = literal_at(kind, goal, want, c, j);
-        let s = by_of(by, l.goal as usize);
-        if s < 64 {
-            return s;
+        let spoiler = by_of(by, l.goal as usize);
+        if spoiler < 64 {
+            return spoiler;
         }
         j += 1;
     }
@@ -182,8 +182,8 @@ fn passes(b: Book, own: [u8; 64]) -> [u8; 64]
     let goal = b.literal_goal;
     let want = b.literal_want;
     let mut by = own;
-    let mut k: usize = 0;
-    while k < b.goals {
+    let mut made: usize = 0;
+    while made < b.goals {
         by = pass(
             &by,
             &goal_first,
@@ -194,7 +194,7 @@ fn passes(b: Book, own: [u8; 64]) -> [u8; 64]
             &want,
             b.goals,
         );
-        k += 1;
+        made += 1;
     }
     by
 }

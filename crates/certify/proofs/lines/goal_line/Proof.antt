@@ -47,7 +47,15 @@ same-length-2 : tie.Need-same-length-2
 same-length-2 c = search needs
 
 returns-2 : tie.Need-returns-2
-returns-2 c = search spoilt-said
+returns-2 c =
+    let ended = c .before .before in
+    let told = ended .before .before .before .before .before in
+    let spoilt = told .before .before .before .before .before .before .before in
+    let t = spoilt .before .before .before in
+    let named = t .before .before .before in
+    let a = named .before .before .before .args in
+    spoilt-said (a .what .now) (a .clause .now) (a .literal .now) (a .goal) (a .by) _ _ (named .number .ensures) _ _ _ (t .if1 .left)
+    (spoilt .counted .ensures) (told .reason .ensures) (ended .text2 .ensures)
 
 pub goal-line-spec : {M : Type 1} → statement M
 goal-line-spec =

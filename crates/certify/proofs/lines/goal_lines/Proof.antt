@@ -33,7 +33,15 @@ loop-less : tie.Need-loop-less Inv-loop μ-loop
 loop-less c = search needs
 
 loop-again : tie.Need-loop-again Inv-loop μ-loop
-loop-again c = (search needs, search words-step)
+loop-again c =
+    let told = c .before .before in
+    let turn = told .before .before .before in
+    let l = turn .before .loop in
+    let a = turn .before .before .before .before .args in (
+      search needs,
+      words-step (line-told (a .what .now) (a .clause .now) (a .literal .now)) (a .by .now) (l .g) _ _ _ (turn .loop-test .taken)
+          (l .inv .1) (told .goal-line .ensures),
+    )
 
 same-length : tie.Need-same-length Inv-loop μ-loop
 same-length c = search needs

@@ -34,7 +34,15 @@ loop-less : tie.Need-loop-less Inv-loop μ-loop
 loop-less c = search needs
 
 loop-again : tie.Need-loop-again Inv-loop μ-loop
-loop-again c = search pass-next
+loop-again c =
+    let n = c .before in
+    let f = n .before in
+    let turn = f .before in
+    let l = turn .before in
+    let a = l .before .args in
+    pass-next (a .by .now) (a .firsts .now) (a .counts .now) (a .len .now) (a .kind .now) (a .goal .now) (a .want .now) (a .goals) _ _
+    (l .loop .inv) (l .before .pre .1 .0) (turn .loop-test .taken) _ _ _ (f .first-clause .ensures) (n .clause-count .ensures)
+    (c .passed .ensures)
 
 returns : tie.Need-returns Inv-loop μ-loop
 returns c =

@@ -1,4 +1,4 @@
--- `passes`: k of them are made.
+-- `passes`: so many are made.
 use borrow.Author.Needs.{needs}
 use Prim.Native.Nat.{_-_}
 use Rattle.profile.proofs.Ending.{inside}
@@ -7,10 +7,10 @@ use Rattle.profile.proofs.spoilt.passes.Statement.{statement}
 use Rattle.profile.proofs.spoilt.passes.Tie as tie
 
 abbrev Inv-loop : tie.InvT-loop
-Inv-loop b goal-first goal-len len kind goal want by₀ k₀ by k = Stands b k by
+Inv-loop b goal-first goal-len len kind goal want by₀ made₀ by made = Stands b made by
 
 abbrev μ-loop : tie.MeasureT-loop
-μ-loop b goal-first goal-len len kind goal want by₀ k₀ by k = b .goals - k
+μ-loop b goal-first goal-len len kind goal want by₀ made₀ by made = b .goals - made
 
 loop-holds : tie.Need-loop-holds Inv-loop μ-loop
 loop-holds c = search stands-start
@@ -18,8 +18,8 @@ loop-holds c = search stands-start
 pass-requires : tie.Need-pass-requires Inv-loop μ-loop
 pass-requires c κs = search (stands-whole, inside)
 
-add-k : tie.Need-add-k Inv-loop μ-loop
-add-k c = search needs
+add-made : tie.Need-add-made Inv-loop μ-loop
+add-made c = search needs
 
 loop-less : tie.Need-loop-less Inv-loop μ-loop
 loop-less c = search needs
@@ -33,4 +33,4 @@ returns c = search stands-over
 pub passes-spec : {M : Type 1} → statement M
 passes-spec =
     tie.close
-    (tie.spec Inv-loop μ-loop loop-holds pass-requires add-k loop-less loop-again returns)
+    (tie.spec Inv-loop μ-loop loop-holds pass-requires add-made loop-less loop-again returns)
