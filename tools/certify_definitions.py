@@ -1,6 +1,6 @@
 #!/usr/bin/env python3
-"""Holds the definitions of which yes can be printed (order 2), `check-spoilers` and `spoil`, against what must be said and against the Rust,
-by computation.
+"""Holds the definitions of which yes can be printed (order 2), `check-spoilers` and `spoil`, against what must be said and against the
+Rust, by computation.
 
 certify_definitions.py [--count N] [--seed S] [--longest BYTES] [--oracle PATH] [--part K] [--keep DIR]
 
@@ -87,9 +87,9 @@ def main():
         tree.write(os.path.join(folder, "definitions", "specs", "Shown.antt"), SHOWN)
         bad, beyond, text = computed.check(folder, HEADER, ["\n".join(lines[at:at + a.part]) for at in range(0, len(lines), a.part)])
     agreed = [one for name, one in names.items() if name not in bad + beyond]
+    chance, refused = (sum(map(test, agreed)) for test in (lambda one: one[0] == "by chance", lambda one: one[2].startswith("refused")))
     print("%d books, %d of them by chance, %d refused, agreed; %d did not%s" % (
-        len(agreed), sum(title == "by chance" for title, _, _ in agreed), sum(said.startswith("refused") for _, _, said in agreed), len(bad),
-        "; %d are more than the checker computes" % len(beyond) if beyond else ""))
+        len(agreed), chance, refused, len(bad), "; %d are more than the checker computes" % len(beyond) if beyond else ""))
     if bad:
         title, data, said = names[bad[0]]
         print("the first that did not agree: %s, %s\nmust be:\n%s%s" % (title, data.hex(), said, text[:4000]))
