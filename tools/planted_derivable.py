@@ -1,25 +1,28 @@
-"""The faults of order 2 that `planted-faults` plants: each is an edit of crates/derivable/refused, with a book and calls on it that then get
-an unambiguous answer which cannot be derived; the proof that it can't is written from the book."""
+"""The faults of order 2 that `planted-faults` plants: each is an edit of crates/derivable/refused, with a book and calls on it.
+
+Those of the engine (FAULTS) make the calls get an unambiguous answer that cannot be derived; the proof that it can't is written from the
+book. Those of the check which goals are spoilt (SPOILT) make it say of goal 0 that nothing spoils it, though its answer can't be derived.
+"""
 import os
 
 import edits
 import tree
-from planted_faults import AGAIN, CLOCK_LIMIT, YES, cons, found, opened, pairs, searched
+from planted_faults import AGAIN, YES, Not, cons, found, opened, searched
 
 FLOUNDERED = "(fail Floundered)"
 
 
-# Books: for each goal its clauses. All literals are positive, and no goal is coinductive.
+# Books: for each goal its clauses.
 
 class Goal:
-    def __init__(self, *clauses, floundered=False):
-        self.clauses, self.floundered = clauses, floundered
+    def __init__(self, *clauses, floundered=False, coinductive=False):
+        self.clauses, self.floundered, self.coinductive = clauses, floundered, coinductive
 
 
 class Clause:
-    """A literal is a goal's number, or that and the variant that it wants."""
+    """A literal is a goal's number, that and the variant that it wants, or Not of a goal's number."""
     def __init__(self, *literals, variant=0, cannot_prove=False, outsized=False):
-        self.literals = [l if isinstance(l, tuple) else (l, None) for l in literals]
+        self.literals = [(l, None) if isinstance(l, int) else l for l in literals]
         self.variant, self.cannot_prove, self.outsized = variant, cannot_prove, outsized
 
 
@@ -28,6 +31,8 @@ def bool_term(b):
 
 
 def literal_term(l):
+    if isinstance(l, Not):
+        return "Negative %d false" % l.goal
     return "Positive %d %s false" % (l[0], "any" if l[1] is None else "(exactly %d)" % l[1])
 
 
@@ -37,17 +42,12 @@ def clause_term(c):
 
 
 def goal_term(g):
-    return "record { coinductive = false; floundered = %s; clauses = %s }" % (bool_term(g.floundered), cons(map(clause_term, g.clauses)))
+    return "record { coinductive = %s; floundered = %s; clauses = %s }" % (
+        bool_term(g.coinductive), bool_term(g.floundered), cons(map(clause_term, g.clauses)))
 
 
 def book_term(book):
     return cons(map(goal_term, book))
-
-
-def clean_term(book):
-    def goal(g):
-        return "record { inductive = refl; literals-clean = %s }" % pairs(pairs("tt" for l in c.literals) for c in g.clauses)
-    return pairs(map(goal, book))
 
 
 def written(book):
@@ -55,55 +55,15 @@ def written(book):
     def of_variant(goal, variant):
         return "%d/%d" % (goal, variant) if variant else "%d" % goal
 
+    def literal(l):
+        return "not %d" % l.goal if isinstance(l, Not) else of_variant(*l)
+
     def clause(g, c):
         head = of_variant(g, c.variant) + "?" * c.cannot_prove + "!" * c.outsized
-        return "%s :- %s." % (head, ", ".join(of_variant(*l) for l in c.literals)) if c.literals else head + "."
-    lines = [[clause(g, c) for c in own.clauses] + ["(%d floundered)" % g] * own.floundered for g, own in enumerate(book)]
-    return "  ".join(sum(lines, []))
-
-
-# Why a goal cannot be derived as some variant: every clause of it cannot prove, is outsized, is of another variant, or has a first literal
-# that can't be derived, for the same reasons. `used` of the module Broken goes through a goal's clauses.
-
-def fits(variant, want):
-    return want is None or variant in (0, want)
-
-
-def literal_name(l):
-    return "never-%d%s" % (l[0], "" if l[1] is None else "-as-%d" % l[1])
-
-
-def never(book, goal, test, misfit):
-    """A term of ⊥, given a usable clause `c` of the goal by `u`, `f : test c`, and `d`: its literals are derived. `misfit` gives a term of
-    ⊥ for a clause whose `f` is false."""
-    if book[goal].floundered:
-        return "true≢false (ap (λ (h : Goal). h .floundered) (own-is %d (%s) refl c u) ∙ u .unfloundered)" % (goal, goal_term(book[goal]))
-
-    def reason(c):
-        if c.cannot_prove or c.outsized:
-            return "λ p s f d. true≢false %s" % ("p" if c.cannot_prove else "s")
-        return "λ p s f d. %s" % (misfit(c) or "%s d" % literal_name(c.literals[0]))
-    so = "λ (z : Clause). z .cannot-prove ≡ false → z .outsized ≡ false → %s → Derives book (z .literals) → ⊥" % test
-    return "used (%s) %d (%s) refl %s c u (u .provable) (u .small) f d" % (so, goal, goal_term(book[goal]), pairs(map(reason, book[goal].clauses)))
-
-
-def never_literal(book, l):
-    """That no list that begins with the literal is derived."""
-    test = "answer-fits (%s) (z .variant) ≡ true" % literal_term(l)
-    term = never(book, l[0], test, lambda c: None if fits(c.variant, l[1]) else "false≢true f")
-    below = [never_literal(book, c.literals[0]) for c in book[l[0]].clauses if c.literals and fits(c.variant, l[1])]
-    name = literal_name(l)
-    return "".join(below) + (
-        "%s : {ls : List Literal} → Derives book (%s ∷ ls) → ⊥\n%s (derives c u f d rest) = %s\n\n" % (name, literal_term(l), name, term))
-
-
-def never_text(book, variant):
-    """That goal 0 cannot be derived as the variant."""
-    def misfit(c):
-        return None if c.variant == variant else "let e : _≡_ {A = ℕ} %d %d = f in omega arith" % (c.variant, variant)
-    below = [never_literal(book, c.literals[0]) for c in book[0].clauses if c.literals and c.variant == variant]
-    term = never(book, 0, "z .variant ≡ %d" % variant, misfit)
-    return "".join(below) + "never : Derivable book 0 %d → ⊥\nnever (c, u, f, d) = %s\n" % (variant, term)
+        return "%s :- %s." % (head, ", ".join(map(literal, c.literals))) if c.literals else head + "."
+    lines = [clause(g, c) for g, own in enumerate(book) for c in own.clauses]
+    flags = ["(%d %s)" % (g, flag) for g, own in enumerate(book) for flag in ("floundered", "coinductive") if getattr(own, flag)]
+    return "  ".join(lines + flags)
 
 
 class Fault:
@@ -203,71 +163,67 @@ FAULTS = [
         false="the literal that floundered is no longer among them"),
 ]
 
-SPECS = "Rattle.definitions.specs"
 
-BROKEN = """-- with these definitions an unambiguous answer is found that cannot be derived
-use Prim.Native.Nat.{ℕ}
-use native.Mathlib.Omega.{arith}
-use mathlib.Core.Path.{_≡_, refl, sym, ap, subst, _∙_}
-use mathlib.Core.Bool.{true, false, true≢false, false≢true}
-use mathlib.Core.Logic.{_⊎_, inl, inr}
-use mathlib.Core.Option.{some}
-use mathlib.Core.List.{List, [], _∷_, map, List·Memᴰ, List·Memᴰ·not-nil, List·Memᴰ·cases-cons}
-use lib.ListN.{getElem?, getD}
-use %(s)s.Refusal.{accepted}
-use %(s)s.Book.{any, exactly, Literal, Positive, Clause, Goal, write}
-use %(s)s.Fitting.{answer-fits}
-use %(s)s.Tables.{Forest}
-use %(s)s.Forest.{make, opened}
-use %(s)s.Calls.{sitting, Called, calls}
-use %(s)s.Model.{Each}
-use %(s)s.Derive.{Usable, Derives, derives, Derivable, CleanBook}
-use %(s)s.Certified.{BookCertified}
-use %(s)s.Run.{book, forest, asked}
+class SpoiltFault:
+    """`told` is what the check then says of each goal, `right_told` what it says without the fault; the calls get the same replies. No
+    clause of the book is a fact, so that nothing can be derived."""
+    def __init__(self, name, **fields):
+        self.name, self.note, self.also = name, "", {}
+        self.edit = os.path.join(tree.ROOT, "crates", "derivable", "refused", name.replace("-", "_") + ".edit")
+        self.__dict__.update(fields)
+        self.right = self.replies
+        assert self.replies[-1].startswith("searched %s" % YES) and self.told[0] is None and self.right_told[0] is not None, name
 
-made : make (write book) %(limit)d ≡ accepted forest
-made = refl
-
-clean : CleanBook book
-clean = %(clean)s
-
--- the forest that the call at a place of the list leaves
-abbrev left-by : ℕ → Forest
-left-by n = getD (map (λ (c : Called). c .after .forest) (calls (sitting forest) asked)) n forest
-
--- which goal a usable clause is of, and what holds of each clause of that goal holds of it
-
-same-goal : {g h : Goal} → some g ≡ some h → g ≡ h
-same-goal {g} {h} e = cc
-
-own-is : (goal : ℕ) (g : Goal) → getElem? book goal ≡ some g → (c : Clause) (u : Usable book goal c) → g ≡ u .own
-own-is goal g e c u = same-goal (sym e ∙ u .is-own)
-
-each : (P : Clause → Type 0) (cs : List Clause) → Each P cs → (c : Clause) → List·Memᴰ c cs → P c
-each P [] e c m = absurd (List·Memᴰ·not-nil m)
-each P (x ∷ cs) e c m = on (λ k. each P cs (e .1) c k) (List·Memᴰ·cases-cons m)
-  where
-    on : (List·Memᴰ c cs → P c) → (c ≡ x) ⊎ List·Memᴰ c cs → P c
-    on rest (inl k) = subst P (sym k) (e .0)
-    on rest (inr k) = rest k
-
-used : (P : Clause → Type 0) (goal : ℕ) (g : Goal) → getElem? book goal ≡ some g → Each P (g .clauses) → (c : Clause) → Usable book goal c → P c
-used P goal g e x c u = each P (u .own .clauses) (subst (λ (h : Goal). Each P (h .clauses)) (own-is goal g e c u) x) c (u .of-own)
-
-%(never)s
--- %(words)s
-pub broken : BookCertified → ⊥
-broken certified =
-    let d = certified (write book) %(limit)d forest made clean asked in
-    never (d%(at)s .0 .reply-derivable .1 0 (opened 0 (left-by %(last)d) 0, refl, refl) tt refl)
-"""
+    def words(self):
+        return "nothing is said to spoil goal 0; the last reply is an unambiguous 0, which can't be derived, since no clause is a fact"
 
 
-def broken_text(fault):
-    last = len(fault.calls) - 1
-    return BROKEN % {
-        "s": SPECS, "limit": CLOCK_LIMIT, "clean": clean_term(fault.book), "never": never_text(fault.book, fault.variant), "words": fault.words(),
-        "at": " .1" * last, "last": last}
+SPOILT = [
+    SpoiltFault(
+        "coinductive-goal-unspoilt",
+        what="a coinductive goal spoils nothing",
+        book=[Goal(Clause(0), coinductive=True)],
+        told=[None],
+        right_told=[0],
+        calls=["opens 0", "searches 0 0 100"],
+        replies=[opened(0), searched(YES, 2)],
+        theorem="Spoilt.unflagged",
+        fact="a goal that does not spoil is not coinductive",
+        false="no flag is told"),
+    SpoiltFault(
+        "not-unspoilt",
+        what="a \"not\" spoils nothing",
+        book=[Goal(Clause(Not(1))), Goal()],
+        told=[None, None],
+        right_told=[0, None],
+        calls=["opens 0", "searches 0 0 100"],
+        replies=[opened(0), searched(YES, 3)],
+        theorem="Spoilt.literals-unspoilt",
+        fact="a clause of a goal that does not spoil has no \"not\"",
+        false="no \"not\" is told"),
+    SpoiltFault(
+        "first-clause-alone",
+        what="a pass looks at the first clause of a goal alone",
+        book=[Goal(Clause(1), Clause(2)), Goal(), Goal(Clause(2), coinductive=True)],
+        told=[None, None, 2],
+        right_told=[2, None, 2],
+        calls=["opens 0", "searches 0 0 100", "searches 0 0 100"],
+        replies=[opened(0), searched(AGAIN, 2), searched(YES, 5)],
+        theorem="Spoilt.clauses-unspoilt",
+        fact="where nothing in a goal's clauses is spoilt, nothing in those behind the first is",
+        false="those behind the first are not looked at"),
+    SpoiltFault(
+        "two-passes-left-out",
+        what="two passes fewer are made than there are goals",
+        book=[Goal(Clause(1)), Goal(Clause(1), coinductive=True)],
+        told=[None, 1],
+        right_told=[1, 1],
+        calls=["opens 0", "searches 0 0 100"],
+        replies=[opened(0), searched(YES, 5)],
+        theorem="Spoilt.settled",
+        fact="one pass more changes nothing",
+        false="it would spoil goal 0 here"),
+]
 
 
 def plant(folder, fault):
