@@ -6,7 +6,7 @@ use mathlib.Core.Path.{_≡_, refl, sym, ap, ap₂, subst, _∙_}
 use mathlib.Core.Bool.{true, false}
 use mathlib.Core.Option.{Option, none, some}
 use mathlib.Core.List.{List, [], _∷_, map}
-use lib.ListN.{length, getD, set, replicate, length-map, List·getD-map}
+use lib.ListN.{length, getD, set, replicate, length-map}
 use borrow.Author.Tests.{eq-eqb, ne-eqb}
 use Rattle.laws.specs.Spans.{span}
 use Rattle.laws.proofs.Spans.{length-span, span-ext, map-span}
@@ -30,8 +30,8 @@ use Rattle.profile.specs.Spoilers.{what-number, clause-number, literal-n
 use Rattle.profile.specs.Spoilers.{refused-with, spoilers-told, goal-told, known, itself-number, not-in, spoil-read, passed-read}
 use Rattle.profile.specs.Spoilers.{pass-number, Fills}
 use Rattle.profile.proofs.Papers.{gave}
-use Rattle.profile.proofs.Firsts.{getD-filled, length-filled, fills-start, fills-next, fills-is}
-use Rattle.profile.proofs.Spreading.{spoiler-getD, few-after, length-after, known-at}
+use Rattle.profile.proofs.Firsts.{length-filled, fills-start, fills-next, fills-is}
+use Rattle.profile.proofs.Spreading.{length-after, known-at, told-at}
 
 -- A pass by the arrays, up to goal g.
 
@@ -240,10 +240,7 @@ module _ (b : Book) (s : Sound b) where
 
     known-alike : (g : ℕ) → spoiler-in (known by) g ≡ spoiler-in ss g
     known-alike g =
-        known-at by g
-        ∙ ap goal-told (ap (λ (l : List ℕ). getD l g 64) (so .are) ∙ getD-filled 64 (map by-number ss) g
-        ∙ List·getD-map by-number ss g none ∙ ap by-number (sym (spoiler-getD ss g)))
-        ∙ few-after k (view b) few-goals g
+        known-at by g ∙ ap (λ (l : List ℕ). goal-told (getD l g 64)) (so .are) ∙ told-at k (view b) few-goals g
 
     pub stands-next : (next : List ℕ) → k < b .goals
         → Fills 64 (pass-number (b .«clause_len») (b .«literal_kind») (b .«literal_goal») (b .«literal_want») by (b .«goal_first»)

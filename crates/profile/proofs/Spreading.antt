@@ -5,7 +5,7 @@ use native.Mathlib.Omega.{arith}
 use mathlib.Core.Path.{_≡_, refl, sym, ap, subst, _∙_}
 use mathlib.Core.Bool.{Bool, true, false}
 use mathlib.Core.Option.{Option, none, some}
-use mathlib.Core.List.{List, [], _∷_}
+use mathlib.Core.List.{List, [], _∷_, map}
 use lib.ListN.{length, getD, List·getD-map, List·getD-eq-default}
 use lib.Dec.{ltb}
 use borrow.Author.Tests.{lt-ltb, le-ltb}
@@ -20,9 +20,9 @@ use Rattle.book.specs.declared.Literal.{Literal}
 use Rattle.book.specs.View.{meant}
 use Rattle.book.specs.Access.{entry, literal-read}
 use Rattle.book.specs.Repeats.{literals-read}
-use Rattle.profile.specs.Spoilers.{by-number, goal-by, goal-told, known, spoilt-read, passed-read}
+use Rattle.profile.specs.Spoilers.{by-number, filled, goal-by, goal-told, known, spoilt-read, passed-read}
 use Rattle.profile.proofs.Members.{goal-of-meant}
-use Rattle.profile.proofs.Firsts.{FirstLeft, first-begins, first-again, first-found, first-over}
+use Rattle.profile.proofs.Firsts.{FirstLeft, first-begins, first-again, first-found, first-over, getD-filled}
 
 -- A number and what it tells.
 
@@ -47,7 +47,7 @@ few-or : (o p : Option ℕ) → Few o → Few p → Few (or-else o p)
 few-or none p a b = b
 few-or (some g) p a b = a
 
-pub spoiler-getD : (ss : List (Option ℕ)) (g : ℕ) → spoiler-in ss g ≡ getD ss g none
+spoiler-getD : (ss : List (Option ℕ)) (g : ℕ) → spoiler-in ss g ≡ getD ss g none
 spoiler-getD [] g = refl
 spoiler-getD (o ∷ ss) zero = refl
 spoiler-getD (o ∷ ss) (suc g) = spoiler-getD ss g
@@ -98,6 +98,14 @@ length-after (suc n) book = length-passed (spoilers-after n book) 0 book
 
 pub known-at : (by : List ℕ) (g : ℕ) → spoiler-in (known by) g ≡ goal-told (getD by g 64)
 known-at by g = spoiler-getD (known by) g ∙ List·getD-map goal-told by g 64
+
+-- THE NUMBERS SETTLE THE SPOILERS: 64 stands for none, and any other number for that goal.
+pub told-at : (n : ℕ) (book : said.Book) → length book ≤ 64 → (g : ℕ)
+    → goal-told (getD (filled 64 (map by-number (spoilers-after n book))) g 64) ≡ spoiler-in (spoilers-after n book) g
+told-at n book e g =
+    let ss = spoilers-after n book in
+    ap goal-told (getD-filled 64 (map by-number ss) g ∙ List·getD-map by-number ss g none ∙ ap by-number (sym (spoiler-getD ss g)))
+    ∙ few-after n book e g
 
 few-known : (by : List ℕ) (g : ℕ) → Few (spoiler-in (known by) g)
 few-known by g = subst Few (sym (known-at by g)) (few-told (getD by g 64))
