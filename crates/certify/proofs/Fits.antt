@@ -178,7 +178,7 @@ certify-short : (bytes : List ℕ) → length (certify-words (desk bytes)) ≤ 3
 certify-short bytes = on (desk bytes) refl (desk-below bytes)
   where
     on : (d : Refusable Book) → desk bytes ≡ d → Below d → length (certify-words d) ≤ 3520
-    on (refused n) e (by-number h) = let x = refusal-short n h in omega arith
+    on (refused n) e (by-number p h) = let x = refusal-short n h in omega arith
     on (accepted book) e taken =
         let read = desk-reads bytes book e .0 in
         let good = read-good bytes 0 [] book small read .small in
