@@ -25,12 +25,13 @@ use Rattle.definitions.proofs.DeskNumbers.{Below, by-number, taken, desk-below}
 use Rattle.definitions.proofs.Digits.{decimal-one, decimal-short-2, decimal-short-3}
 use Rattle.asserts.proofs.Books.{Small, read-good}
 use Rattle.asserts.proofs.Few.{Few, FewLiterals, read-few}
+use Rattle.pen.specs.Goals.{words-from}
 use Rattle.pen.specs.Pen.{Pen, pen, put-all}
 use Rattle.pen.specs.Refusals.{sentences, sentence-in, sentence, refusal-line, refusal-lines}
 use Rattle.pen.proofs.Putting.{Stands, put-fits, put-finds-room}
 use Rattle.profile.proofs.Spreading as spreading
 use Rattle.profile.proofs.Spreading.{few-after, length-after}
-use Rattle.certify.specs.Words.{words-from, spoil-of, reason-words, goal-line, certify-words}
+use Rattle.certify.specs.Words.{spoil-of, reason-words, goal-line, certify-words}
 use Rattle.certify.proofs.Telling.{is-goal}
 
 -- A "not" is in one of 256 clauses, and among eight literals.

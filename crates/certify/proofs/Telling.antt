@@ -1,14 +1,12 @@
--- What the proofs of the lines cite: what is left to say of the goals, put down from where the pen is, is the same at each turn; texts put
--- down one after the other; and the words by the numbers of `profile` are those of the book. Assumes nothing.
+-- What the proofs of the lines cite: texts put down one after the other; and the words by the numbers of `profile` are those of the book. Assumes nothing.
 use Prim.Native.Nat.{ℕ, zero, suc, _+_, _-_, _<_, _≤_}
 use native.Mathlib.Omega.{arith}
-use native.Mathlib.Numerals.{add-one}
 use mathlib.Core.Bool.{Bool, true, false}
 use mathlib.Core.Path.{_≡_, refl, sym, ap, ap₂, _∙_}
 use mathlib.Core.Option.{Option, none, some}
 use mathlib.Core.List.{List, [], _∷_, _++_, map}
-use lib.ListN.{length, getD, take, drop, replicate, length-map, drop-of-length-le}
-use lib.Seq.{drop-cons, length-take-le, take-at}
+use lib.ListN.{length, getD, take, replicate, length-map}
+use lib.Seq.{length-take-le, take-at}
 use lib.Dec.{eqb, ltb}
 use borrow.Author.Tests.{eq-eqb, ne-eqb, lt-ltb, le-ltb}
 use Rattle.laws.proofs.Options.{no-such}
@@ -21,41 +19,16 @@ use Rattle.definitions.specs.Spoilt.{Spoil, a-coinductive-goal, a-not, spoil, s
 use Rattle.definitions.proofs.Desk.{desk-reads}
 use Rattle.definitions.proofs.DeskNumbers.{desk-numbered}
 use Rattle.asserts.proofs.Books.{read-good}
+use Rattle.pen.specs.Goals.{words-from}
 use Rattle.pen.specs.Pen.{Pen, put-all}
 use Rattle.pen.specs.Refusals.{refusal-lines}
-use Rattle.pen.proofs.Putting.{put-two, put-nothing, put-left, put-ended}
+use Rattle.pen.proofs.Putting.{put-two, put-nothing}
 use Rattle.profile.specs.declared.Spoilers.{Spoilers}
 use Rattle.profile.specs.Spoilers.{what-number, clause-number, literal-number, by-number, filled, goal-by, told-after, spoilers-told}
 use Rattle.profile.proofs.Firsts.{getD-filled, length-filled}
 use Rattle.profile.proofs.Spreading.{Few, few-after, length-after}
-use Rattle.certify.specs.Words.{words-from, spoil-of, reason-words, spoilt-words, goal-line, certify-words}
+use Rattle.certify.specs.Words.{spoil-of, reason-words, spoilt-words, goal-line, certify-words}
 use Rattle.certify.specs.Numbers.{reason-by, reason-told, verdict-by, line-told}
-
--- The goals one after the other.
-
-module _ (words : (goal number : ℕ) → List ℕ) (l : List ℕ) where
-  -- what is left to say at the goal g
-  abbrev pub words-left : ℕ → List ℕ
-  words-left g = words-from words g (drop g l)
-
-  words-next : (g : ℕ) → g < length l → words-left g ≡ words g (getD l g 0) ++ words-left (g + 1)
-  unfolding words-from
-  words-next g h =
-      ap (words-from words g) (drop-cons l g 0 h)
-      ∙ ap (λ (t : ℕ). words g (getD l g 0) ++ words-from words t (drop t l)) (sym (add-one g))
-
-  words-end : (g : ℕ) → length l ≤ g → words-left g ≡ []
-  unfolding words-from
-  words-end g h = ap (words-from words g) (drop-of-length-le l {i = g} h)
-
-  pub words-step : (g : ℕ) (p q start : Pen) → g < length l → put-all (words-left g) p ≡ put-all (words-left 0) start
-      → q ≡ put-all (words g (getD l g 0)) p → put-all (words-left (g + 1)) q ≡ put-all (words-left 0) start
-  words-step g p q start h i e =
-      put-left (words g (getD l g 0)) (words-left (g + 1)) p q e ∙ ap (λ (w : List ℕ). put-all w p) (sym (words-next g h)) ∙ i
-
-  pub words-said : (g : ℕ) (p q : Pen) → length l ≤ g → put-all (words-left g) q ≡ put-all (words-left 0) p
-      → q ≡ put-all (words-from words 0 l) p
-  words-said g p q h i = put-ended (words-left g) (words-left 0) p q (words-end g h) i
 
 -- What a goal spoils by itself.
 

@@ -1,20 +1,15 @@
 -- What `certify` prints: a line for each goal, which is clean, or spoilt by a goal that spoils by itself; or a refusal with its sentence.
-use Prim.Native.Nat.{ℕ, suc}
+use Prim.Native.Nat.{ℕ}
 use mathlib.Core.Option.{Option, none, some}
-use mathlib.Core.List.{List, [], _∷_, _++_}
+use mathlib.Core.List.{List, [], _++_}
 use lib.ListN.{getElem?}
 use Rattle.definitions.specs.Ascii.{ascii}
 use Rattle.definitions.specs.Listing.{decimal}
 use Rattle.definitions.specs.Refusal.{Refusable, refused, accepted}
 use Rattle.definitions.specs.Book.{Book}
 use Rattle.definitions.specs.Spoilt.{Spoil, a-coinductive-goal, a-not, spoil, spoilers}
+use Rattle.pen.specs.Goals.{words-from}
 use Rattle.pen.specs.Refusals.{refusal-lines}
-
--- the words of each goal with what is known of it, from goal g on
-module _ {A : Type 0} where
-  unfoldable pub words-from : ((goal : ℕ) → A → List ℕ) → ℕ → List A → List ℕ
-  words-from words g [] = []
-  words-from words g (a ∷ l) = words g a ++ words-from words (suc g) l
 
 -- what a goal of the book spoils by itself
 abbrev pub spoil-of : Book → (goal : ℕ) → Option Spoil

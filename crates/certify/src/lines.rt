@@ -10,7 +10,8 @@ use profile::spoilt;
 ghost use mathlib.Core.Path.{_≡_};
 ghost use Rattle.definitions.specs.Desk.{desk};
 ghost use Rattle.pen.specs.Pen.{pen, put-all};
-ghost use Rattle.certify.specs.Words.{words-from, certify-words};
+ghost use Rattle.pen.specs.Goals.{words-from};
+ghost use Rattle.certify.specs.Words.{certify-words};
 ghost use Rattle.certify.specs.Numbers.{reason-told, line-told};
 
 // What a goal spoils by itself.

@@ -1,14 +1,12 @@
--- What the proofs of the lines cite: what is left to say of the goals, put down from where the pen is, is the same at each turn; texts put
--- down one after the other; and what a profile says of the check. Assumes nothing.
-use Prim.Native.Nat.{ℕ, _+_, _<_, _≤_}
+-- What the proofs of the lines cite: texts put down one after the other; and what a profile says of the check. Assumes nothing.
+use Prim.Native.Nat.{ℕ, _+_}
 use native.Mathlib.Omega.{arith}
-use native.Mathlib.Numerals.{add-one}
 use mathlib.Core.Bool.{Bool, true, false}
 use mathlib.Core.Path.{_≡_, sym, ap, _∙_}
 use mathlib.Core.Option.{Option}
-use mathlib.Core.List.{List, [], _++_}
-use lib.ListN.{length, getD, take, drop, drop-of-length-le}
-use lib.Seq.{drop-cons, length-take-le}
+use mathlib.Core.List.{List, _++_}
+use lib.ListN.{length, take}
+use lib.Seq.{length-take-le}
 use lib.Dec.{eqb}
 use borrow.Author.Tests.{eq-eqb, ne-eqb}
 use Rattle.definitions.specs.Ascii.{ascii}
@@ -16,43 +14,18 @@ use Rattle.definitions.specs.Listing.{decimal}
 use Rattle.definitions.specs.Refusal.{Refusable, refused}
 use Rattle.definitions.specs.NotPlain.{Place, not-plain-place, place-of}
 use Rattle.definitions.proofs.Refusal.{same-refused, not-accepted}
+use Rattle.pen.specs.Goals.{words-from}
 use Rattle.pen.specs.Pen.{Pen, put-all}
 use Rattle.pen.specs.Refusals.{refusal-lines}
 use Rattle.pen.specs.Places.{place-line}
-use Rattle.pen.proofs.Putting.{put-two, put-nothing, put-left, put-ended}
+use Rattle.pen.proofs.Putting.{put-two, put-nothing}
 use Rattle.profile.specs.declared.Profile.{Profile}
 use Rattle.profile.specs.declared.NotPlain.{NotPlain}
 use Rattle.profile.specs.Places.{numbers}
 use Rattle.profile.proofs.Tested.{place-by}
 use Rattle.profile.specs.Profile.{profile-by, profile-seen, Profiles}
-use Rattle.levels.specs.Words.{words-from, level-line, level-lines, marked-by, marked-words, cycle-words, reason-words, refused-words}
+use Rattle.levels.specs.Words.{level-line, level-lines, marked-by, marked-words, cycle-words, reason-words, refused-words}
 use Rattle.levels.specs.Words.{outside-by, outside-words, level-words, Tells}
-
--- The goals one after the other.
-
-module _ (words : (goal number : ℕ) → List ℕ) (l : List ℕ) where
-  -- what is left to say at the goal g
-  abbrev pub words-left : ℕ → List ℕ
-  words-left g = words-from words g (drop g l)
-
-  words-next : (g : ℕ) → g < length l → words-left g ≡ words g (getD l g 0) ++ words-left (g + 1)
-  unfolding words-from
-  words-next g h =
-      ap (words-from words g) (drop-cons l g 0 h)
-      ∙ ap (λ (t : ℕ). words g (getD l g 0) ++ words-from words t (drop t l)) (sym (add-one g))
-
-  words-end : (g : ℕ) → length l ≤ g → words-left g ≡ []
-  unfolding words-from
-  words-end g h = ap (words-from words g) (drop-of-length-le l {i = g} h)
-
-  pub words-step : (g : ℕ) (p q start : Pen) → g < length l → put-all (words-left g) p ≡ put-all (words-left 0) start
-      → q ≡ put-all (words g (getD l g 0)) p → put-all (words-left (g + 1)) q ≡ put-all (words-left 0) start
-  words-step g p q start h i e =
-      put-left (words g (getD l g 0)) (words-left (g + 1)) p q e ∙ ap (λ (w : List ℕ). put-all w p) (sym (words-next g h)) ∙ i
-
-  pub words-said : (g : ℕ) (p q : Pen) → length l ≤ g → put-all (words-left g) q ≡ put-all (words-left 0) p
-      → q ≡ put-all (words-from words 0 l) p
-  words-said g p q h i = put-ended (words-left g) (words-left 0) p q (words-end g h) i
 
 -- A line, a goal, and the goals on a cycle.
 

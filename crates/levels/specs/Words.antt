@@ -1,10 +1,10 @@
 -- What `levels` prints: whether the paper is within demand 3, and then a line for each goal with its level; or a refusal with its sentence,
 -- and where to look: with 37 the place that is not plain first, with 38 the goals that are on a cycle through "not".
-use Prim.Native.Nat.{ℕ, suc}
+use Prim.Native.Nat.{ℕ}
 use mathlib.Core.Path.{_≡_}
 use mathlib.Core.Bool.{Bool, true, false}
 use mathlib.Core.Option.{Option}
-use mathlib.Core.List.{List, [], _∷_, _++_}
+use mathlib.Core.List.{List, [], _++_}
 use lib.Dec.{eqb}
 use Rattle.definitions.specs.Ascii.{ascii}
 use Rattle.definitions.specs.Listing.{decimal}
@@ -14,14 +14,10 @@ use Rattle.definitions.specs.Desk.{desk}
 use Rattle.definitions.specs.Levels.{check-levels}
 use Rattle.definitions.specs.NotPlain.{Place, not-plain-place}
 use Rattle.profile.specs.Profile.{Marks}
+use Rattle.pen.specs.Goals.{words-from}
 use Rattle.pen.specs.Pen.{Pen, put-all}
 use Rattle.pen.specs.Refusals.{refusal-lines}
 use Rattle.pen.specs.Places.{place-line}
-
--- the words of each goal with its number in a list, from the goal g on
-unfoldable pub words-from : ((goal number : ℕ) → List ℕ) → ℕ → List ℕ → List ℕ
-words-from words g [] = []
-words-from words g (n ∷ ns) = words g n ++ words-from words (suc g) ns
 
 unfoldable pub level-line : (goal level : ℕ) → List ℕ
 level-line goal level = decimal goal ++ ((ascii " " ++ decimal level) ++ ascii "\n")

@@ -23,7 +23,8 @@ use profile::place::not_plain;
 ghost use mathlib.Core.Path.{_≡_};
 ghost use Rattle.definitions.specs.NotPlain.{not-plain-place};
 ghost use Rattle.pen.specs.Pen.{pen, put-all};
-ghost use Rattle.levels.specs.Words.{words-from, level-line as levelLine, level-lines as levelLines, marked-words};
+ghost use Rattle.pen.specs.Goals.{words-from};
+ghost use Rattle.levels.specs.Words.{level-line as levelLine, level-lines as levelLines, marked-words};
 ghost use Rattle.levels.specs.Words.{cycle-words, refused-words, outside-words, Tells};
 
 fn level_line(out: &mut [u8], at: usize, goal: usize, level: u8) -> usize

@@ -2,3 +2,4 @@ pub mod Putting
 pub mod Decimal
 pub mod Sentences
 pub mod Placing
+pub mod Goals

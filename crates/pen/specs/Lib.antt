@@ -1,3 +1,4 @@
 pub mod Pen
 pub mod Refusals
 pub mod Places
+pub mod Goals

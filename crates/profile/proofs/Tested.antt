@@ -10,7 +10,6 @@ use lib.ListN.{getD}
 use lib.Dec.{eqb}
 use borrow.Author.Tests.{eq-eqb, ne-eqb}
 use Rattle.laws.specs.Spans.{span}
-use Rattle.laws.proofs.Spans.{span-left, span-done}
 use Rattle.definitions.specs.Book as said
 use Rattle.definitions.specs.Book.{bit0, bit1}
 use Rattle.definitions.specs.Levels.{is-plain}
@@ -31,6 +30,7 @@ use Rattle.book.proofs.TwiceInBook.{goal-shown}
 use Rattle.profile.specs.declared.NotPlain.{NotPlain}
 use Rattle.profile.specs.Places.{fault-number, made, no-place, numbers, head-read, goal-read}
 use Rattle.profile.proofs.Papers.{gave}
+use Rattle.profile.proofs.Firsts.{FirstLeft, first-begins, first-again, first-found, first-over}
 
 -- A fault and a place by their numbers.
 
@@ -177,31 +177,13 @@ module _ (flags : List ℕ) (g : ℕ) (a : Bool) (ha : a ≡ bit0 (entry 64 flag
 
 -- The loops: what is left decides.
 
-module _ {A : Type 0} (place : ℕ → A → Option Place) (f : ℕ → A) where
-  abbrev pub Left : (i n k : ℕ) → Option Place → Type 0
-  Left i n k X = first-from place k (span f i (n - k)) ≡ X
+module _ {A : Type 0} (place : ℕ → A → Option Place) (f : ℕ → A) (i n k : ℕ) (X : Option Place) (left : FirstLeft place f i n k X) where
+  left-found : (s : NotPlain) → k < n → s ≡ numbers (place k (f i)) → (s .what ≡ 0 → ⊥) → s ≡ numbers X
+  left-found s h e some-what =
+      e ∙ ap numbers (sym (first-found place f i n k X left h (λ z. some-what (ap (λ (r : NotPlain). r .what) (e ∙ ap numbers z)))))
 
-  left-begins : (s n : ℕ) → Left s n 0 (first-from place 0 (span f s n))
-  left-begins s n = let z : n - 0 ≡ n = omega arith in ap (λ (k : ℕ). first-from place 0 (span f s k)) z
-
-  module _ (i n k : ℕ) (X : Option Place) (left : Left i n k X) where
-    here : k < n → or-else (place k (f i)) (first-from place (suc k) (span f (i + 1) (n - (k + 1)))) ≡ X
-    here h = sym (ap (first-from place k) (span-left f i n k h)) ∙ left
-
-    left-again : k < n → place k (f i) ≡ none → Left (i + 1) n (k + 1) X
-    left-again h e =
-        let one : k + 1 ≡ suc k = omega arith in
-        ap (λ (m : ℕ). first-from place m (span f (i + 1) (n - (k + 1)))) one
-        ∙ sym (ap (λ (o : Option Place). or-else o (first-from place (suc k) (span f (i + 1) (n - (k + 1))))) e) ∙ here h
-
-    left-found : (s : NotPlain) → k < n → s ≡ numbers (place k (f i)) → (s .what ≡ 0 → ⊥) → s ≡ numbers X
-    left-found s h e some-what =
-        e ∙ found-first (place k (f i)) (first-from place (suc k) (span f (i + 1) (n - (k + 1))))
-        (λ z. some-what (ap (λ (r : NotPlain). r .what) e ∙ z))
-        ∙ ap numbers (here h)
-
-    left-over : (r : NotPlain) → n ≤ k → r ≡ no-place → r ≡ numbers X
-    left-over r h e = e ∙ ap numbers (sym (ap (first-from place k) (span-done f i n k h)) ∙ left)
+  left-over : (r : NotPlain) → n ≤ k → r ≡ no-place → r ≡ numbers X
+  left-over r h e = e ∙ ap numbers (sym (first-over place f i n k X left h))
 
 -- The literals of clause c, which is clause k of goal g.
 module _ (len kind goal want : List ℕ) (g k c : ℕ) where
@@ -212,11 +194,11 @@ module _ (len kind goal want : List ℕ) (g k c : ℕ) where
   in-clause-c = first-from (literal-place g k) 0 (literals-read len kind goal want c)
 
   abbrev pub LiteralsLeft : (count j : ℕ) → Type 0
-  LiteralsLeft count j = Left (literal-place g k) read-at j count j in-clause-c
+  LiteralsLeft count j = FirstLeft (literal-place g k) read-at j count j in-clause-c
 
   pub literals-begin : (count : ℕ) → count ≡ entry 256 len c → LiteralsLeft count 0
   literals-begin count e =
-      left-begins (literal-place g k) read-at 0 count ∙ ap (λ (n : ℕ). first-from (literal-place g k) 0 (span read-at 0 n)) e
+      first-begins (literal-place g k) read-at 0 count ∙ ap (λ (n : ℕ). first-from (literal-place g k) 0 (span read-at 0 n)) e
 
   module _ (count j : ℕ) (left : LiteralsLeft count j) where
     module _ (l : Literal) (w : ℕ) (lt : j < count) (e : l ≡ literal-read kind goal want c j)
@@ -226,7 +208,7 @@ module _ (len kind goal want : List ℕ) (g k c : ℕ) where
 
       pub literals-again : w ≡ 0 → LiteralsLeft count (j + 1)
       literals-again z =
-          left-again (literal-place g k) read-at j count j in-clause-c left lt
+          first-again (literal-place g k) read-at j count j in-clause-c left lt
           (unplaced (in-literal g k j) (literal-fault (read-at j)) w told z)
 
       pub literal-found : (w ≡ 0 → ⊥) → made w true true g k j ≡ numbers in-clause-c
@@ -260,21 +242,21 @@ module _ (a : Lent) (g first count : ℕ) where
   in-goal-g = first-from (clause-place g) 0 (span (clause-read a) first count)
 
   abbrev pub ClausesLeft : (k : ℕ) → Type 0
-  ClausesLeft k = Left (clause-place g) (clause-read a) (first + k) count k in-goal-g
+  ClausesLeft k = FirstLeft (clause-place g) (clause-read a) (first + k) count k in-goal-g
 
   pub clauses-begin : ClausesLeft 0
   clauses-begin =
       let z : first + 0 ≡ first = omega arith in
-      subst (λ (i : ℕ). Left (clause-place g) (clause-read a) i count 0 in-goal-g) (sym z)
-      (left-begins (clause-place g) (clause-read a) first count)
+      subst (λ (i : ℕ). FirstLeft (clause-place g) (clause-read a) i count 0 in-goal-g) (sym z)
+      (first-begins (clause-place g) (clause-read a) first count)
 
   module _ (k : ℕ) (left : ClausesLeft k) where
     module _ (p : NotPlain) (lt : k < count) (q : p ≡ numbers (clause-place g k (clause-read a (first + k)))) where
       pub clauses-again : p .what ≡ 0 → ClausesLeft (k + 1)
       clauses-again x =
           let z : first + k + 1 ≡ first + (k + 1) = omega arith in
-          subst (λ (i : ℕ). Left (clause-place g) (clause-read a) i count (k + 1) in-goal-g) z
-          (left-again (clause-place g) (clause-read a) (first + k) count k in-goal-g left lt
+          subst (λ (i : ℕ). FirstLeft (clause-place g) (clause-read a) i count (k + 1) in-goal-g) z
+          (first-again (clause-place g) (clause-read a) (first + k) count k in-goal-g left lt
           (nowhere (clause-place g k (clause-read a (first + k))) (sym (ap (λ (r : NotPlain). r .what) q) ∙ x)))
 
       pub clause-found : (p .what ≡ 0 → ⊥) → p ≡ numbers in-goal-g
@@ -285,10 +267,10 @@ module _ (a : Lent) (g first count : ℕ) where
 
 -- The goals of a book.
 abbrev pub GoalsLeft : Book → (g : ℕ) → Type 0
-GoalsLeft b g = Left goal-place (goal-viewed b) g (b .goals) g (first-not-plain (view b))
+GoalsLeft b g = FirstLeft goal-place (goal-viewed b) g (b .goals) g (first-not-plain (view b))
 
 pub goals-begin : (b : Book) → GoalsLeft b 0
-goals-begin b = left-begins goal-place (goal-viewed b) 0 (b .goals)
+goals-begin b = first-begins goal-place (goal-viewed b) 0 (b .goals)
 
 module _ (b : Book) (s : Sound b) where
   module _ (g : ℕ) (left : GoalsLeft b g) where
@@ -328,7 +310,7 @@ module _ (b : Book) (s : Sound b) where
 
         pub goals-again : p .what ≡ 0 → GoalsLeft b (g + 1)
         goals-again x =
-            left-again goal-place (goal-viewed b) g (b .goals) g (first-not-plain (view b)) left h
+            first-again goal-place (goal-viewed b) g (b .goals) g (first-not-plain (view b)) left h
             (nowhere (goal-place g (goal-viewed b g)) (sym (ap (λ (r : NotPlain). r .what) decided) ∙ x))
 
 -- Plain, where there is no such place.

@@ -5,7 +5,7 @@ use mathlib.Core.Path.{_≡_, refl}
 use lib.ListN.{length}
 use Rattle.pen.specs.Pen.{pen, put-all}
 use Rattle.certify.specs.Numbers.{line-told}
-use Rattle.certify.proofs.Telling.{words-left, words-step, words-said}
+use Rattle.pen.proofs.Goals.{words-left, words-step, words-said}
 use Rattle.certify.proofs.lines.goal_lines.Statement.{statement}
 use Rattle.certify.proofs.lines.goal_lines.Tie as tie
 

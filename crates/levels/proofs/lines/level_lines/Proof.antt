@@ -5,7 +5,7 @@ use lib.ListN.{length}
 use borrow.Author.Needs.{needs}
 use Rattle.pen.specs.Pen.{pen, put-all}
 use Rattle.levels.specs.Words.{level-line}
-use Rattle.levels.proofs.Telling.{words-left, words-step, words-said}
+use Rattle.pen.proofs.Goals.{words-left, words-step, words-said}
 use Rattle.levels.proofs.lines.level_lines.Statement.{statement}
 use Rattle.levels.proofs.lines.level_lines.Tie as tie
 
