@@ -14,10 +14,8 @@ all is so.
 """
 import argparse
 import collections
-import concurrent.futures
 import itertools
 import random
-import subprocess
 import sys
 
 import clean
@@ -28,24 +26,6 @@ from levels_books import SENTENCES, refusal
 from spoilt_books import every_book, of
 
 PROFILES = "mix plain tiny answers small limits large".split()
-
-
-def by_the_rust(oracle, books):
-    """What the Rust says of each."""
-    asked = "".join(data.hex() + "\n" for data in books).encode()
-    return sides.said([oracle, "certify", "lines"], asked).decode().split(".\n")[:-1]
-
-
-def by_the_program(program, data):
-    """What it writes; what else it does is shown with it."""
-    run = subprocess.run([program], input=data, capture_output=True)
-    beside = run.stderr.decode(errors="replace") + (" (status %d)" % run.returncode if run.returncode else "")
-    return run.stdout.decode(errors="replace") + beside
-
-
-def by_the_programs(a, program, books):
-    with concurrent.futures.ThreadPoolExecutor(a.jobs) as pool:
-        return list(pool.map(lambda data: by_the_program(program, data), books))
 
 
 def worked_out(oracle, books):
@@ -151,19 +131,19 @@ def main():
     titled, wanted = [(title, data) for title, data, _ in hand], [right for _, _, right in hand]
     only = lambda books: [data for _, data in books]
     if a.oracle:
-        good = told("books by hand", "the Rust", titled, wanted, by_the_rust(oracle, only(titled)))
+        good = told("books by hand", "the Rust", titled, wanted, sides.in_lines(oracle, "certify", only(titled)))
         good = told("books by hand", "clean.py", titled, wanted, worked_out(oracle, only(titled))) and good
         books = of_chance(oracle, a.seed, a.count) + list(every_way(3))
         worked = worked_out(oracle, only(books))
         good = counted(worked, a.least) and clean_alike(only(books), worked) and good
-        good = told("books of chance", "the Rust", books, worked, by_the_rust(oracle, only(books))) and good
+        good = told("books of chance", "the Rust", books, worked, sides.in_lines(oracle, "certify", only(books))) and good
     if a.certify is not None:
         program = tree.program(a.certify, "rt check certify") if a.certify else tree.built("certify")
-        good = told("books by hand", "certify", titled, wanted, by_the_programs(a, program, only(titled))) and good
+        good = told("books by hand", "certify", titled, wanted, sides.printed_each(program, only(titled), a.jobs)) and good
         books = of_chance(oracle, a.seed, a.count) + list(every_way(2))
-        rust = by_the_rust(oracle, only(books))
+        rust = sides.in_lines(oracle, "certify", only(books))
         good = counted(rust, a.least) and good
-        good = told("books of chance", "certify", books, rust, by_the_programs(a, program, only(books))) and good
+        good = told("books of chance", "certify", books, rust, sides.printed_each(program, only(books), a.jobs)) and good
         good = sides.failures(program) and good
     return 0 if good else 1
 

@@ -15,6 +15,7 @@ import sys
 
 import certify
 import computed
+import sides
 import tree
 from computed import SPECS, cons
 from spoilt_books import every_book
@@ -67,7 +68,7 @@ def of_chance(oracle, a):
     """Beside the Rust, with every way in which two goals can name each other."""
     books = certify.of_chance(oracle, a.seed, a.count) + list(certify.every_way(2))
     short = [data for _, data in books if len(data) <= a.longest]
-    return [("by chance", data, said) for data, said in zip(short, certify.by_the_rust(oracle, short))]
+    return [("by chance", data, said) for data, said in zip(short, sides.in_lines(oracle, "certify", short))]
 
 
 def main():

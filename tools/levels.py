@@ -16,7 +16,6 @@ with a line that has the first place that is not, and 38 for one that is not lev
 """
 import argparse
 import collections
-import concurrent.futures
 import itertools
 import json
 import os
@@ -46,24 +45,6 @@ def text(said):
 def cases():
     """Every book with what must be written of it."""
     return [(title, data, text(said)) for title, data, said in every_book()]
-
-
-def by_the_rust(oracle, books):
-    """What the Rust says of each."""
-    asked = "".join(data.hex() + "\n" for data in books).encode()
-    return sides.said([oracle, "levels", "lines"], asked).decode().split(".\n")[:-1]
-
-
-def by_the_program(program, data):
-    """What it writes; what else it does is shown with it."""
-    run = subprocess.run([program], input=data, capture_output=True)
-    beside = run.stderr.decode(errors="replace") + (" (status %d)" % run.returncode if run.returncode else "")
-    return run.stdout.decode(errors="replace") + beside
-
-
-def by_the_programs(a, program, books):
-    with concurrent.futures.ThreadPoolExecutor(a.jobs) as pool:
-        return list(pool.map(lambda data: by_the_program(program, data), books))
 
 
 def otherwise(who, asked, found):
@@ -130,10 +111,10 @@ def beside(a, oracle, program):
     """The program beside the Rust."""
     books = of_chance(oracle, a.seed, a.count) + list(every_way())
     data = [one for _, one in books]
-    rust = by_the_rust(oracle, data)
+    rust = sides.in_lines(oracle, "levels", data)
     asked = [(title, one, said) for (title, one), said in zip(books, rust)]
     good = counted(rust, a.least) and len(rust) == len(books)
-    return told("books of chance", "levels", asked, by_the_programs(a, program, data)) and good
+    return told("books of chance", "levels", asked, sides.printed_each(program, data, a.jobs)) and good
 
 
 def upside_down(text_of_book):
@@ -213,10 +194,10 @@ def main():
     good, asked = True, cases()
     data = [one for _, one, _ in asked]
     if a.oracle:
-        good = told("books by hand", "the Rust", asked, by_the_rust(oracle, data))
+        good = told("books by hand", "the Rust", asked, sides.in_lines(oracle, "levels", data))
         good = numberings(oracle, a.seed, max(a.count, 1000)) and good
     if program:
-        good = told("books by hand", "levels", asked, by_the_programs(a, program, data)) and good
+        good = told("books by hand", "levels", asked, sides.printed_each(program, data, a.jobs)) and good
         good = beside(a, oracle, program) and good
         good = sides.failures(program) and good
     return 0 if good else 1

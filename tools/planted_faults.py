@@ -1,4 +1,4 @@
-"""The faults of demand 3 that `planted-faults` plants: each with a book, calls on it, what they get wrong, and the theorem that is false then."""
+"""The faults of demand 3 that `planted-faults` plants: each with a book, calls on it, what they get wrong, and the theorem that is false."""
 
 CLOCK_LIMIT = 1000
 

@@ -1,5 +1,6 @@
 """A script run on both sides, the Rust's (`oracle run`) and ours (`replay`): what is shared by the tools that compare them."""
 import collections
+import concurrent.futures
 import os
 import re
 import subprocess
@@ -31,6 +32,24 @@ def said(words, script, seconds=None):
         told = run.stderr.decode(errors="replace")[-2000:]
         raise Broken("%s ended with %d: %s" % (" ".join(words), run.returncode, told))
     return run.stdout
+
+
+def in_lines(oracle, command, books):
+    """What the Rust's command says of each book."""
+    asked = "".join(data.hex() + "\n" for data in books).encode()
+    return said([oracle, command, "lines"], asked).decode().split(".\n")[:-1]
+
+
+def printed(program, data):
+    """What a program writes of a book; what else it does is shown with it."""
+    run = subprocess.run([program], input=data, capture_output=True)
+    beside = run.stderr.decode(errors="replace") + (" (status %d)" % run.returncode if run.returncode else "")
+    return run.stdout.decode(errors="replace") + beside
+
+
+def printed_each(program, books, jobs):
+    with concurrent.futures.ThreadPoolExecutor(jobs) as pool:
+        return list(pool.map(lambda data: printed(program, data), books))
 
 
 def listed_otherwise(who, words, books):

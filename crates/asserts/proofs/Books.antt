@@ -11,7 +11,7 @@ use Rattle.definitions.specs.Refusal.{Refusable, refused, accepted, _refuses_}
 use Rattle.definitions.specs.Book.{Book, Goal, Clause, Literal, Positive, Negative, clause-count}
 use Rattle.definitions.specs.Book.{Command, goal, clause, positive, ranged, negative, end, unknown, command, width, is-end}
 use Rattle.definitions.specs.Book.{add-clause, add-literal, goals-name, literals-so-far, byte, u16, bit0, bit1, between, want-of, crossed}
-use Rattle.definitions.specs.Book.{apply-command, whole-command, read-from, literal-command, end-command}
+use Rattle.definitions.specs.Book.{apply-command, whole-command, read-from, read, literal-command, end-command}
 use Rattle.definitions.proofs.Prefix.{go-on}
 use Rattle.definitions.proofs.Refusal.{same-accepted, not-accepted, all-pass}
 use Rattle.definitions.proofs.Book.{added, clause-count-goal, length-add-clause, clause-count-add-clause}
@@ -107,3 +107,7 @@ read-good [] skip book r s e = absurd (not-accepted e)
 read-good (b ∷ bs) (suc skip) book r s e = read-good bs skip book r s e
 read-good (b ∷ bs) zero book r s e = command-read (command b) bs book r s (λ skip next x y. read-good bs skip next r x y)
     (whole-command (command b) bs book) refl e
+
+-- a book that is read
+pub book-good : (bytes : List ℕ) (book : Book) → read bytes ≡ accepted book → Good book
+book-good bytes book e = read-good bytes 0 [] book (record { few-goals = omega arith; few-clauses = omega arith }) e

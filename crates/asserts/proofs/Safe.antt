@@ -63,6 +63,9 @@ module _ {A B : Type 0} {P : A → Type 0} {Q : B → Type 0} where
 pub stop-go : {A B : Type 0} {n : ℕ} {a : A} → stop n ≡ go a → B
 stop-go {A} {B} {n} {a} e = let z : _≡_ {A = ℕ} 0 1 = cc in absurd (omega arith)
 
+pub same-go : {A : Type 0} {a b : A} → go a ≡ go b → a ≡ b
+same-go {A} {a} {b} e = cc
+
 -- what is unwrapped was there
 pub unwrapped : {A : Type 0} (o : Option A) (a : A) → unwrap o ≡ go a → o ≡ some a
 unwrapped none a e = stop-go e

@@ -21,16 +21,17 @@ use Rattle.definitions.specs.NotPlain.{or-else, first-from}
 use Rattle.definitions.specs.Spoilt.{Spoil, a-coinductive-goal, a-not, spoil-by-flag, not-in-literal, not-in-clause, spoil, spoiler-in}
 use Rattle.definitions.specs.Spoilt.{spoilers}
 use Rattle.definitions.proofs.Desk.{desk-reads}
+use Rattle.definitions.proofs.Spoilt.{length-after}
 use Rattle.definitions.proofs.DeskNumbers.{Below, by-number, taken, desk-below}
 use Rattle.definitions.proofs.Digits.{decimal-one, decimal-short-2, decimal-short-3}
-use Rattle.asserts.proofs.Books.{Small, read-good}
+use Rattle.asserts.proofs.Books.{book-good}
 use Rattle.asserts.proofs.Few.{Few, FewLiterals, read-few}
 use Rattle.pen.specs.Goals.{words-from}
 use Rattle.pen.specs.Pen.{Pen, pen, put-all}
 use Rattle.pen.specs.Refusals.{sentences, sentence-in, sentence, refusal-line, refusal-lines}
 use Rattle.pen.proofs.Putting.{Stands, put-fits, put-finds-room}
 use Rattle.profile.proofs.Spreading as spreading
-use Rattle.profile.proofs.Spreading.{few-after, length-after}
+use Rattle.profile.proofs.Spreading.{few-after}
 use Rattle.certify.specs.Words.{spoil-of, reason-words, goal-line, certify-words}
 use Rattle.certify.proofs.Telling.{is-goal}
 
@@ -172,9 +173,6 @@ refusal-short n h =
 
 -- All words.
 
-small : Small []
-small = record { few-goals = omega arith; few-clauses = omega arith }
-
 certify-short : (bytes : List ℕ) → length (certify-words (desk bytes)) ≤ 3520
 certify-short bytes = on (desk bytes) refl (desk-below bytes)
   where
@@ -182,7 +180,7 @@ certify-short bytes = on (desk bytes) refl (desk-below bytes)
     on (refused n) e (by-number p h) = let x = refusal-short n h in omega arith
     on (accepted book) e taken =
         let read = desk-reads bytes book e .0 in
-        let good = read-good bytes 0 [] book small read .small in
+        let good = book-good bytes book read .small in
         let few = good .few-goals in
         let all = length-after (length book) book in
         omega (

@@ -1,4 +1,5 @@
--- What the proofs of the lines cite: texts put down one after the other; and the words by the numbers of `profile` are those of the book. Assumes nothing.
+-- What the proofs of the lines cite: texts put down one after the other; and the words by the numbers of `profile` are those of the book.
+-- Assumes nothing.
 use Prim.Native.Nat.{ℕ, zero, suc, _+_, _-_, _<_, _≤_}
 use native.Mathlib.Omega.{arith}
 use mathlib.Core.Bool.{Bool, true, false}
@@ -18,7 +19,8 @@ use Rattle.definitions.specs.Desk.{desk}
 use Rattle.definitions.specs.Spoilt.{Spoil, a-coinductive-goal, a-not, spoil, spoiler-in, spoilers}
 use Rattle.definitions.proofs.Desk.{desk-reads}
 use Rattle.definitions.proofs.DeskNumbers.{desk-numbered}
-use Rattle.asserts.proofs.Books.{read-good}
+use Rattle.definitions.proofs.Spoilt.{length-after}
+use Rattle.asserts.proofs.Books.{book-good}
 use Rattle.pen.specs.Goals.{words-from}
 use Rattle.pen.specs.Pen.{Pen, put-all}
 use Rattle.pen.specs.Refusals.{refusal-lines}
@@ -26,7 +28,7 @@ use Rattle.pen.proofs.Putting.{put-two, put-nothing}
 use Rattle.profile.specs.declared.Spoilers.{Spoilers}
 use Rattle.profile.specs.Spoilers.{what-number, clause-number, literal-number, by-number, filled, goal-by, told-after, spoilers-told}
 use Rattle.profile.proofs.Firsts.{getD-filled, length-filled}
-use Rattle.profile.proofs.Spreading.{Few, few-after, length-after}
+use Rattle.profile.proofs.Spreading.{Few, few-after}
 use Rattle.certify.specs.Words.{spoil-of, reason-words, spoilt-words, goal-line, certify-words}
 use Rattle.certify.specs.Numbers.{reason-by, reason-told, verdict-by, line-told}
 
@@ -137,8 +139,7 @@ module _ (book : Book) where
 -- A paper.
 
 few-goals : (bytes : List ℕ) (book : Book) → desk bytes ≡ accepted book → length book ≤ 64
-few-goals bytes book e =
-    read-good bytes 0 [] book (record { few-goals = omega arith; few-clauses = omega arith }) (desk-reads bytes book e .0) .small .few-goals
+few-goals bytes book e = book-good bytes book (desk-reads bytes book e .0) .small .few-goals
 
 module _ (bytes : List ℕ) (s : Spoilers) (e : s ≡ spoilers-told (desk bytes)) where
   pub refused-said : (p q : Pen) → (s .number ≡ 0 → ⊥) → q ≡ put-all (refusal-lines (s .number)) p

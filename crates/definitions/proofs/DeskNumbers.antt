@@ -1,12 +1,13 @@
--- The desk's numbers are all below 37: so 37 and 38 are the own ones of the check of a paper. And none is 0: so whoever is told 0 knows that
--- the paper was taken.
+-- The desk's numbers are all below 37: so 37 and 38 are the own ones of the check of a paper. And none is 0: so whoever is told 0
+-- knows that the paper was taken.
 use Prim.Native.Nat.{ℕ, zero, suc, _<_}
 use native.Mathlib.Omega.{arith}
-use mathlib.Core.Path.{_≡_, subst}
-use mathlib.Core.Bool.{Bool, true, false, not}
+use mathlib.Core.Path.{_≡_, refl, subst}
+use mathlib.Core.Bool.{Bool, true, false, not, _&&_}
 use mathlib.Core.List.{List, [], _∷_}
 use lib.ListN.{length}
 use lib.Dec.{eqb, ltb, leb}
+use borrow.Author.Tests.{ltb-true}
 use Rattle.definitions.specs.Refusal.{Refusable, refused, accepted, Test, _refuses_, unless}
 use Rattle.definitions.specs.Book.{Command, goal, clause, positive, ranged, negative, end, unknown}
 use Rattle.definitions.specs.Book.{between, Literal, Positive, Negative}
@@ -15,24 +16,29 @@ use Rattle.definitions.specs.Book.{clause-count, literals-so-far, most-g
 use Rattle.definitions.specs.Book.{add-literal, literal-command, apply-command, whole-command}
 use Rattle.definitions.specs.Book.{Book, read-from, read}
 use Rattle.definitions.specs.Desk.{repeats, at-desk, desk}
-use Rattle.definitions.specs.Model.{Each}
+use Rattle.definitions.specs.Levels.{each-passes}
+use Rattle.definitions.proofs.Desk.{and-both}
 
 -- if it is refused, then by a number from 1 to 36
 pub data Below : Refusable Book → Type 0 where
   by-number : {n : ℕ} → 0 < n → n < 37 → Below (refused n)
   taken : {book : Book} → Below (accepted book)
 
-abbrev Numbered : Test → Type 0
-Numbered t = (0 < t .number) × (t .number < 37)
+abbrev numbered : Test → Bool
+numbered t = ltb 0 (t .number) && ltb (t .number) 37
 
-by-test : (t : Test) (rest : Refusable Book) (fails : Bool) → Numbered t → Below rest
+by-test : (t : Test) (rest : Refusable Book) (fails : Bool) → numbered t ≡ true → Below rest
     → Below (elim fails [ true ↦ refused (t .number) | false ↦ rest ])
-by-test t rest true h r = by-number (h .0) (h .1)
+by-test t rest true h r =
+    let x = and-both (ltb 0 (t .number)) (ltb (t .number) 37) h in
+    by-number (ltb-true 0 (t .number) (x .0)) (ltb-true (t .number) 37 (x .1))
 by-test t rest false h r = r
 
-unless-below : (ts : List Test) (book : Book) → Each Numbered ts → Below (unless ts book)
+unless-below : (ts : List Test) (book : Book) → each-passes numbered ts ≡ true → Below (unless ts book)
 unless-below [] book e = taken
-unless-below (t ∷ ts) book e = by-test t (unless ts book) (t .fails) (e .0) (unless-below ts book (e .1))
+unless-below (t ∷ ts) book e =
+    let x = and-both (numbered t) (each-passes numbered ts) e in
+    by-test t (unless ts book) (t .fails) (x .0) (unless-below ts book (x .1))
 
 literal-below : (l : Literal) (flags : ℕ) (book : Book) → Below (literal-command l flags book)
 literal-below l flags book =
@@ -42,15 +48,15 @@ literal-below l flags book =
     ∷ crossed l refuses 32
     ∷ leb most-literals (literals-so-far book) refuses 5
     ∷ [])
-    (add-literal l book) ((omega arith, omega arith), ((omega arith, omega arith), ((omega arith, omega arith), ((omega arith, omega arith), tt))))
+    (add-literal l book) refl
 
 apply-below : (c : Command) (after : List ℕ) (book : Book) → Below (apply-command c after book)
 apply-below goal after book =
-    unless-below (ltb 3 (byte after 0) refuses 4 ∷ leb most-goals (length book) refuses 5 ∷ []) _ ((omega arith, omega arith), ((omega arith, omega arith), tt))
+    unless-below (ltb 3 (byte after 0) refuses 4 ∷ leb most-goals (length book) refuses 5 ∷ []) _ refl
 apply-below clause after book =
     unless-below
     (eqb (length book) 0 refuses 3 ∷ ltb 3 (byte after 2) refuses 4 ∷ leb most-clauses (clause-count book) refuses 5 ∷ [])
-    _ ((omega arith, omega arith), ((omega arith, omega arith), ((omega arith, omega arith), tt)))
+    _ refl
 apply-below positive after book =
     literal-below (Positive (u16 after 0) (want-of (u16 after 2)) (bit0 (byte after 4))) (byte after 4) book
 apply-below ranged after book =
@@ -59,7 +65,7 @@ apply-below negative after book = literal-below (Negative (u16 after 0) (bit0 (b
 apply-below end after book =
     unless-below
     (ltb 0 (length after) refuses 7 ∷ eqb (length book) 0 refuses 8 ∷ not (goals-name (length book) book) refuses 6 ∷ [])
-    book ((omega arith, omega arith), ((omega arith, omega arith), ((omega arith, omega arith), tt)))
+    book refl
 apply-below unknown after book = by-number {n = 2} (omega arith) (omega arith)
 
 whole-below : (c : Command) (after : List ℕ) (book : Book) → Below (whole-command c after book)
@@ -87,7 +93,7 @@ desk-below bytes = on (read bytes) (read-below bytes 0 [])
   where
     on : (r : Refusable Book) → Below r → Below (at-desk r)
     on (refused n) h = h
-    on (accepted book) h = unless-below (repeats book refuses 36 ∷ []) book ((omega arith, omega arith), tt)
+    on (accepted book) h = unless-below (repeats book refuses 36 ∷ []) book refl
 
 pub desk-numbered : (bytes : List ℕ) (n : ℕ) → desk bytes ≡ refused n → 0 < n
 desk-numbered bytes n e = on (subst Below e (desk-below bytes))

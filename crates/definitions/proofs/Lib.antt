@@ -11,6 +11,7 @@ pub mod DeskNumbers
 pub mod Members
 pub mod PlainTest
 pub mod NotPlain
+pub mod Spoilt
 pub mod Passes
 pub mod Trails
 pub mod Levels

@@ -25,6 +25,10 @@ module _ {A : Type 0} where
   is-nil [] e = refl
   is-nil (a ∷ l) e = absurd (false≢true e)
 
+  pub nil-is : (l : List A) → is-empty l ≡ true → l ≡ []
+  nil-is [] e = refl
+  nil-is (a ∷ l) e = absurd (false≢true e)
+
   pub not-nil : (l : List A) → is-empty l ≡ false → 0 < length l
   not-nil [] e = absurd (true≢false e)
   not-nil (a ∷ l) e = omega arith

@@ -1,7 +1,7 @@
 -- An answer put to its table, and what that means to the caller.
 use Prim.Native.Nat.{ℕ}
 use mathlib.Core.Path.{_≡_, refl, sym, ap, subst, _∙_}
-use mathlib.Core.Bool.{Bool, true, false, not, _&&_, true≢false}
+use mathlib.Core.Bool.{Bool, true, false, not, _&&_}
 use mathlib.Core.Option.{Option, none, some}
 use mathlib.Core.List.{List, [], _∷_}
 use lib.ListN.{length, getElem?}
@@ -21,7 +21,8 @@ use Rattle.definitions.specs.Logic.{QuantumExceeded, SolveState}
 use Rattle.definitions.specs.Logic.{continue, return-ok, return-err, activate}
 use Rattle.definitions.specs.Turn.{pursue-answer, create-refinement-strand}
 use Rattle.definitions.specs.Turn.{on-answer, on-no-remaining-subgoals}
-use Rattle.definitions.proofs.Lists.{all-push}
+use Rattle.definitions.proofs.Lists.{nil-is, all-push}
+use Rattle.laws.proofs.Bools.{was-true}
 use Rattle.laws.proofs.Options.{same-some}
 use Rattle.laws.proofs.All.{All, end, more, all-at}
 use Rattle.derivable.proofs.Fine.{Fine, goes, after, guard, by-bool, by-option, unwrapping}
@@ -40,10 +41,6 @@ module _ {book : Book} {P : List ℕ → ℕ → Strand → Type 0} {Q : ℕ →
 
     abbrev Entry : StackEntry → Type 0
     Entry e = KeptEntry book P Q gs e
-
-    empty-is : {A : Type 0} (l : List A) → not (is-empty l) ≡ false → l ≡ []
-    empty-is [] b = refl
-    empty-is (a ∷ l) b = absurd (true≢false b)
 
     -- an answer more, or the same ones
     pushed : (h : ℕ) (a : Answer) (t : Table) → KeptTable book P Q gs t → Q (t .table-goal) a
@@ -75,7 +72,8 @@ module _ {book : Book} {P : List ℕ → ℕ → Strand → Type 0} {Q : ℕ →
         let same = same-goal k i t e g q in
         let new = answer-of (t .table-goal) (strand .ex-clause) in
         after (pushed (held f) new t (all-at i (k .kept-tables) e)
-        (closed .answers strand (empty-is (strand .ex-clause .subgoals) b) c d (subst (λ (z : ℕ). P gs z strand) same p)))
+        (closed .answers strand (nil-is (strand .ex-clause .subgoals) (was-true (is-empty (strand .ex-clause .subgoals)) b)) c d
+        (subst (λ (z : ℕ). P gs z strand) same p)))
         (λ r y. by-option (r .0)
         (λ z. goes {a = (none, f)} k)
         (λ index z.

@@ -25,6 +25,7 @@ use Rattle.definitions.specs.Calls as said
 use Rattle.definitions.specs.Calls.{Sitting, Call, Reply, call}
 use Rattle.definitions.specs.Claim.{about, AboutSays, is-stopped}
 use Rattle.definitions.specs.Model.{Each}
+use Rattle.definitions.proofs.Lists.{nil-is}
 use Rattle.definitions.proofs.Refusal.{all-pass}
 use Rattle.laws.proofs.Options.{case-option}
 use Rattle.laws.proofs.Bools.{case-bool, was-true}
@@ -74,10 +75,6 @@ module _ {book : Book} {P : List ℕ → ℕ → Strand → Type 0} {Q : ℕ →
   stored-says : (f : Forest) (t : TableIndex) (i : ℕ) → Between 0 f → Says f t (stored-answer f t i)
   stored-says f t i b = on-table (getElem? (f .tables) t) refl
     where
-      empty-is : (l : List ℕ) → is-empty l ≡ true → l ≡ []
-      empty-is [] e = refl
-      empty-is (a ∷ l) e = absurd (false≢true e)
-
       on-answer : (u : Table) → getElem? (f .tables) t ≡ some u → (o : Option Answer) → answer u i ≡ o → Says f t (elim (unwrap o) [
         | stop n ↦ stopped n
         | go a ↦ elim (is-empty (a .delayed-subgoals))
@@ -89,7 +86,7 @@ module _ {book : Book} {P : List ℕ → ℕ → Strand → Type 0} {Q : ℕ →
             own = u;
             is-made = q;
             as-stored = subst (λ (z : List ℕ). Q (u .table-goal)
-                (record { variant = a .variant; delayed-subgoals = z; ambiguous = a .ambiguous })) (empty-is (a .delayed-subgoals) c)
+                (record { variant = a .variant; delayed-subgoals = z; ambiguous = a .ambiguous })) (nil-is (a .delayed-subgoals) c)
                 (all-at i (all-at t (b .kept .kept-tables) q .kept-answers) e);
             unmarked = b .kept .mark-is;
           })

@@ -1,11 +1,10 @@
 -- The table of cases: what is run gives what stands there, by computation; the pairs are those that can be derived, and no other; and
 -- whatever a run says yes to is among them, where nothing spoils a goal.
-use Prim.Native.Nat.{ℕ}
 use mathlib.Core.Path.{_≡_, refl, sym, ap, subst, _∙_}
 use mathlib.Core.Bool.{true, false}
 use mathlib.Core.List.{List, [], _∷_, map}
 use Rattle.definitions.specs.Refusal.{Refusable, refused, accepted}
-use Rattle.definitions.specs.Book.{Book, clause-count, read}
+use Rattle.definitions.specs.Book.{Book, clause-count}
 use Rattle.definitions.specs.Levels.{each-passes}
 use Rattle.definitions.specs.Model.{Each}
 use Rattle.definitions.proofs.Refusal.{same-accepted}

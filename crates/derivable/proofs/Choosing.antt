@@ -4,8 +4,8 @@ use borrow.Author.Tests.{eqb-true}
 use mathlib.Core.Path.{_≡_, refl, sym, ap, subst, _∙_}
 use mathlib.Core.Bool.{Bool, true, false}
 use mathlib.Core.Option.{Option, none, some}
-use mathlib.Core.List.{List, [], _∷_, _++_, map, List·Memᴰ, List·Memᴰ·head, List·Memᴰ·tail}
-use lib.ListN.{length, getElem?}
+use mathlib.Core.List.{List, [], _∷_, _++_, map, List·Memᴰ, List·Memᴰ·head, List·Memᴰ·tail, map-append}
+use lib.ListN.{length, getElem?, length-map}
 use lib.Dec.{eqb, ltb}
 use Rattle.definitions.specs.{TableIndex, ExClause, Answer}
 use Rattle.definitions.specs.Book.{Literal, Positive, Negative, Clause, Goal, Book, goal-of}
@@ -14,7 +14,7 @@ use Rattle.definitions.specs.Stop.{Stops, go, _>>=_}
 use Rattle.definitions.specs.Lists.{is-empty}
 use Rattle.definitions.specs.Strand.{SelectedSubgoal, Strand, with-ex-clause, with-selected}
 use Rattle.definitions.specs.Table.{Table, enqueue-strand}
-use Rattle.definitions.specs.Tables.{Tables, Forest, with-tables, index-of, change-table, queued}
+use Rattle.definitions.specs.Tables.{Forest, with-tables, index-of, change-table, queued}
 use Rattle.definitions.specs.Stack.{StackEntry, Stack, active}
 use Rattle.definitions.specs.Slg.{next-subgoal-index}
 use Rattle.definitions.specs.Logic.{SolveState, initial-strand, build-table, get-or-create-table-for-ucanonical-goal}
@@ -28,7 +28,7 @@ use Rattle.laws.proofs.Options.{same-some, no-such, case-option}
 use Rattle.laws.proofs.Bools.{case-bool}
 use Rattle.laws.proofs.All.{All, end, more, all-map}
 use Rattle.derivable.proofs.Fine.{Fine, stops, goes, after, guard, by-bool, by-option, unwrapping, weaker}
-use Rattle.derivable.proofs.Kept.{Within, Closed, goals-of, KeptTable, KeptForest, KeptActive, KeptEntry, KeptState}
+use Rattle.derivable.proofs.Kept.{Within, Closed, KeptTable, KeptForest, KeptActive, KeptEntry, KeptState}
 use Rattle.derivable.proofs.Kept.{table-goal-at, enqueues}
 
 module _ {book : Book} {P : List ℕ → ℕ → Strand → Type 0} {Q : ℕ → Answer → Type 0} (closed : Closed book P Q) where
@@ -87,14 +87,6 @@ module _ {book : Book} {P : List ℕ → ℕ → Strand → Type 0} {Q : ℕ →
     pub kept : KeptForest book P Q goals m (r .1)
     pub is-made : getElem? goals (r .0) ≡ some goal
 
-  goals-push : (ts : Tables) (t : Table) → goals-of (ts ++ (t ∷ [])) ≡ goals-of ts ++ (t .table-goal ∷ [])
-  goals-push [] t = refl
-  goals-push (u ∷ ts) t = ap (λ (z : List ℕ). u .table-goal ∷ z) (goals-push ts t)
-
-  length-goals : (ts : Tables) → length (goals-of ts) ≡ length ts
-  length-goals [] = refl
-  length-goals (u ∷ ts) = ap suc (length-goals ts)
-
   with-table : {gs : List ℕ} {m : ℕ} {f : Forest} → KeptForest book P Q gs m f → (goal : ℕ) (t : Table) → Built goal t
       → MadeFor gs m goal (length (f .tables), with-tables f (f .tables ++ (t ∷ [])))
   with-table {gs} {m} {f} k goal t b =
@@ -105,11 +97,13 @@ module _ {book : Book} {P : List ℕ → ℕ → Strand → Type 0} {Q : ℕ →
         kept = record {
           book-is = k .book-is;
           mark-is = k .mark-is;
-          goals-are = goals-push (f .tables) t ∙ ap (λ (z : List ℕ). z ++ (t .table-goal ∷ [])) (k .goals-are)
+          goals-are = map-append (λ (u : Table). u .table-goal) (f .tables) (t ∷ [])
+              ∙ ap (λ (z : List ℕ). z ++ (t .table-goal ∷ [])) (k .goals-are)
               ∙ ap (λ (z : ℕ). gs ++ (z ∷ [])) (b .for-goal);
           kept-tables = all-push (all-map (table-more w) (k .kept-tables)) (b .kept (gs ++ (goal ∷ [])));
         };
-        is-made = ap (getElem? (gs ++ (goal ∷ []))) (sym (length-goals (f .tables)) ∙ ap length (k .goals-are)) ∙ last-one gs goal;
+        is-made = ap (getElem? (gs ++ (goal ∷ []))) (sym (length-map (f .tables) (λ u. u .table-goal)) ∙ ap length (k .goals-are))
+            ∙ last-one gs goal;
       }
 
   pub makes : {gs : List ℕ} {m : ℕ} {f : Forest} → KeptForest book P Q gs m f → (others goal : ℕ)

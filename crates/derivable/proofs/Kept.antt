@@ -1,8 +1,8 @@
 -- Invariance, strand by strand: where P holds of fresh strands and Q and P are kept by what a turn does to one strand or one answer, P
 -- holds of every strand and Q of every answer in every state. `P gs goal s`: of a strand of that goal's table, where gs are the goals of
 -- the tables by their numbers; `Q goal a`: of an answer of that goal's table.
-use Prim.Native.Nat.{ℕ, zero, suc}
-use mathlib.Core.Path.{_≡_, refl, sym, ap, subst, _∙_}
+use Prim.Native.Nat.{ℕ, suc}
+use mathlib.Core.Path.{_≡_, refl, sym, subst, _∙_}
 use mathlib.Core.Bool.{Bool, true, false, not, _&&_, _||_}
 use mathlib.Core.Option.{Option, none, some}
 use mathlib.Core.List.{List, [], _∷_, _++_, map, List·Memᴰ}
@@ -19,8 +19,9 @@ use Rattle.definitions.specs.Stack.{StackEntry}
 use Rattle.definitions.specs.Logic.{SolveState, initial-strand, next-answer-strand}
 use Rattle.definitions.specs.Turn.{other-than, create-refinement-strand}
 use Rattle.definitions.proofs.Lists.{all-push}
-use Rattle.laws.proofs.Options.{no-such, same-some}
+use Rattle.laws.proofs.Options.{same-some}
 use Rattle.laws.proofs.All.{All, all-at, all-set}
+use Rattle.laws.proofs.Maps.{map-at, map-set-alike}
 use Rattle.derivable.proofs.Fine.{Fine, goes, unwrapping}
 
 -- what stood at a place stands there
@@ -133,23 +134,12 @@ module _ (book : Book) (P : List ℕ → ℕ → Strand → Type 0) (Q : ℕ →
 
 -- Tables and their goals.
 
-goal-at : (ts : Tables) (i : ℕ) (t : Table) → getElem? ts i ≡ some t → getElem? (goals-of ts) i ≡ some (t .table-goal)
-goal-at [] i t e = absurd (no-such e)
-goal-at (u ∷ ts) zero t e = ap (λ (z : Table). some (z .table-goal)) (same-some e)
-goal-at (u ∷ ts) (suc i) t e = goal-at ts i t e
-
-goals-set : (ts : Tables) (i : ℕ) (t t' : Table) → getElem? ts i ≡ some t → t' .table-goal ≡ t .table-goal
-    → goals-of (set ts i t') ≡ goals-of ts
-goals-set [] i t t' e q = refl
-goals-set (u ∷ ts) zero t t' e q = ap (λ (z : ℕ). z ∷ goals-of ts) (q ∙ ap (λ (z : Table). z .table-goal) (sym (same-some e)))
-goals-set (u ∷ ts) (suc i) t t' e q = ap (λ (z : List ℕ). u .table-goal ∷ z) (goals-set ts i t t' e q)
-
 module _ {book : Book} {P : List ℕ → ℕ → Strand → Type 0} {Q : ℕ → Answer → Type 0} where
   pub table-goal-at : {gs : List ℕ} {m : ℕ} {f : Forest} → KeptForest book P Q gs m f → (i : ℕ) (t : Table) → getElem?
       (f .tables) i ≡ some t
       → getElem? gs i ≡ some (t .table-goal)
-  table-goal-at {gs} {m} {f} k i t e = subst (λ (z : List ℕ). getElem? z i ≡ some (t .table-goal)) (k .goals-are) (goal-at
-      (f .tables) i t e)
+  table-goal-at {gs} {m} {f} k i t e = subst (λ (z : List ℕ). getElem? z i ≡ some (t .table-goal)) (k .goals-are)
+      (map-at (λ (u : Table). u .table-goal) (f .tables) i t e)
 
   -- the goal of a table, told twice
   pub same-goal : {gs : List ℕ} {m : ℕ} {f : Forest} → KeptForest book P Q gs m f → (i : ℕ) (t : Table) → getElem? (f .tables) i ≡ some t
@@ -162,7 +152,7 @@ module _ {book : Book} {P : List ℕ → ℕ → Strand → Type 0} {Q : ℕ →
   changed {gs} {m} {f} k i t t' e q x = record {
     book-is = k .book-is;
     mark-is = k .mark-is;
-    goals-are = goals-set (f .tables) i t t' e q ∙ k .goals-are;
+    goals-are = map-set-alike (λ (u : Table). u .table-goal) (f .tables) i t t' e q ∙ k .goals-are;
     kept-tables = all-set i (k .kept-tables) x;
   }
 

@@ -1,9 +1,9 @@
--- Every yes of a clean goal that the listing prints can be derived: the goal is opened, its table keeps its goal over every peek, and what a
--- peek finds is stored in that table.
+-- Every yes of a clean goal that the listing prints can be derived: the goal is opened, its table keeps its goal over every peek, and what
+-- a peek finds is stored in that table.
 use Prim.Native.Nat.{ℕ, zero, suc, _-_}
 use mathlib.Core.Path.{_≡_, refl, sym, ap, subst, _∙_}
 use mathlib.Core.Bool.{Bool, true, false, true≢false}
-use mathlib.Core.Option.{Option, none, some}
+use mathlib.Core.Option.{none, some}
 use mathlib.Core.List.{List, [], _∷_}
 use lib.ListN.{length, getElem?}
 use Rattle.definitions.specs.{CompleteAnswer, TableIndex}
@@ -18,7 +18,7 @@ use Rattle.definitions.specs.Listing.{listing-rounds, listing-turns, listing-cl
 use Rattle.definitions.specs.Listing.{Listed, list-from, list-goal, list-goals}
 use Rattle.definitions.specs.Model.{Each}
 use Rattle.definitions.specs.Derive.{Derivable, Clean}
-use Rattle.definitions.specs.Spoilt.{spoiler-in, spoilers-at-desk}
+use Rattle.definitions.specs.Spoilt.{spoiler-in}
 use Rattle.definitions.proofs.Members.{each-append}
 use Rattle.definitions.proofs.Refusal.{not-accepted, same-accepted}
 use Rattle.laws.proofs.Bools.{case-bool}
@@ -29,7 +29,7 @@ use Rattle.derivable.proofs.Kept.{same-goal}
 use Rattle.derivable.proofs.Choosing.{makes}
 use Rattle.derivable.proofs.Calls.{Between, Says, Ends, EndsPeek, at-mark, peeks-kept, made-kept}
 use Rattle.derivable.proofs.Derive.{closed}
-use Rattle.derivable.proofs.Spoilt.{unspoilt-clean}
+use Rattle.derivable.proofs.Spoilt.{checked-clean}
 use Rattle.derivable.proofs.Theorem.{made-is}
 
 stop-found : {n : ℕ} {a : CompleteAnswer} → stopped n ≡ found a → ⊥
@@ -131,6 +131,4 @@ listing-certified bytes book took C clean ls e = on (make-of (desk bytes) listin
 
 pub unspoilt-listing : UnspoiltListing
 unspoilt-listing bytes book took ss e =
-    let are = same-accepted (sym (ap spoilers-at-desk took) ∙ e) in
-    listing-certified bytes book took (λ goal. spoiler-in ss goal ≡ none)
-    (subst (λ (z : List (Option ℕ)). Clean book (λ goal. spoiler-in z goal ≡ none)) are (unspoilt-clean book))
+    listing-certified bytes book took (λ goal. spoiler-in ss goal ≡ none) (checked-clean bytes book took ss e)

@@ -175,7 +175,8 @@ module _ {book : Book} {P : List ℕ → ℕ → Strand → Type 0} {Q : ℕ →
               (λ s′ y. goes-on closed gs m s′ y))
 
     -- the table that the strand waits on is pushed
-    pushes : (s : SolveState) → Kept s → (t g : ℕ) → getElem? gs t ≡ some g → Fine (Flows closed gs m) (increment-clock (s .forest) >>= λ f. go
+    pushes : (s : SolveState) → Kept s → (t g : ℕ) → getElem? gs t ≡ some g
+        → Fine (Flows closed gs m) (increment-clock (s .forest) >>= λ f. go
         (continue (record { forest = f; stack = push-entry t minimums-MAX (f .clock) (s .stack) })))
     pushes s k t g q = after (ticks closed gs m (s .forest) (k .kept-forest)) (λ f x. goes-on closed gs m
         (record { forest = f; stack = push-entry t minimums-MAX (f .clock) (s .stack) })

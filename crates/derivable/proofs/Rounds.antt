@@ -4,45 +4,24 @@ use Prim.Native.Nat.{ℕ, zero, suc, _+_}
 use native.Mathlib.Omega.{arith}
 use borrow.Author.Tests.{eqb-true, eq-eqb}
 use mathlib.Core.Path.{_≡_, refl, sym, ap, subst, _∙_}
-use mathlib.Core.Bool.{Bool, true, false, not, _&&_, _||_, false≢true}
-use mathlib.Core.Option.{Option, none, some}
-use mathlib.Core.List.{List, [], _∷_, _++_, List·Memᴰ, List·Memᴰ·head, List·Memᴰ·tail, Memᴰ·cast, Memᴰ·append-left}
+use mathlib.Core.Bool.{Bool, true, false, not, false≢true}
+use mathlib.Core.Option.{some}
+use mathlib.Core.List.{List, [], _∷_, List·Memᴰ, List·Memᴰ·head, List·Memᴰ·tail, Memᴰ·cast, Memᴰ·append-left}
 use mathlib.Core.List.{Memᴰ·append-right}
 use lib.ListN.{getElem?}
 use lib.Dec.{eqb}
 use Rattle.laws.proofs.All.{All, end, more, all-append}
 use Rattle.laws.proofs.Bools.{was-false}
 use Rattle.laws.proofs.Options.{no-such, same-some}
-use Rattle.definitions.specs.Book.{Want, Literal, Positive, Negative, Clause, Goal, Book}
+use Rattle.definitions.specs.Book.{Literal, Positive, Negative, Clause, Goal, Book}
 use Rattle.definitions.specs.Fitting.{answer-fits}
-use Rattle.definitions.specs.Lists.{any-passes}
 use Rattle.definitions.specs.Levels.{each-passes}
 use Rattle.definitions.specs.Model.{Each}
 use Rattle.definitions.specs.Derive.{Usable, Derives, derives-end, derives, Derivable}
 use Rattle.definitions.proofs.Desk.{and-both, both-and}
-use Rattle.definitions.proofs.Members.{each-at, all-each}
+use Rattle.definitions.proofs.Members.{each-at, all-each, passing, some-passes}
 use Rattle.derivable.specs.Rounds.{literal-derived, clause-derived, clauses-derived, goal-derived, goals-derived, round, after}
-use Rattle.derivable.specs.Rounds.{Pairs, Has, pair-fits, JustDerivable, RoundsCompute}
-
--- Some one of a list passes a test.
-
-module _ {A : Type 0} (test : A → Bool) where
-  passing : (l : List A) → any-passes test l ≡ true → (a : A) × List·Memᴰ a l × (test a ≡ true)
-  passing [] e = absurd (false≢true e)
-  passing (b ∷ l) e = on (test b) refl (λ z. let x = passing l z in (x .0, List·Memᴰ·tail (x .1), x .2)) e
-    where
-      on : (t : Bool) → test b ≡ t → (any-passes test l ≡ true → (a : A) × List·Memᴰ a (b ∷ l) × (test a ≡ true))
-          → (t || any-passes test l) ≡ true → (a : A) × List·Memᴰ a (b ∷ l) × (test a ≡ true)
-      on true h rest e = (b, List·Memᴰ·head refl, h)
-      on false h rest e = rest e
-
-  some-passes : (a : A) → test a ≡ true → (l : List A) → List·Memᴰ a l → any-passes test l ≡ true
-  some-passes a e (b ∷ l) (List·Memᴰ·head k) = ap (λ (t : Bool). t || any-passes test l) (ap test (sym k) ∙ e)
-  some-passes a e (b ∷ l) (List·Memᴰ·tail m) = or-after (test b) (some-passes a e l m)
-    where
-      or-after : (s : Bool) {t : Bool} → t ≡ true → (s || t) ≡ true
-      or-after true z = refl
-      or-after false z = z
+use Rattle.derivable.specs.Rounds.{Pairs, Has, pair-fits, RoundsCompute}
 
 -- SOUND. A round derives nothing that can't be derived.
 

@@ -15,7 +15,12 @@ use Rattle.definitions.specs.Model.{Each, clauses-of}
 use Rattle.definitions.specs.NotPlain.{or-else, first-from}
 use Rattle.definitions.specs.Spoilt.{Spoil, spoil-by-flag, not-in-literal, not-in-clause, spoil, spoiler-in, literals-spoilt}
 use Rattle.definitions.specs.Spoilt.{clauses-spoilt, by-itself, by-themselves, pass-from, spoilers-after, spoilers}
+use Rattle.definitions.specs.Spoilt.{spoilers-at-desk, check-spoilers}
+use Rattle.definitions.specs.Desk.{desk}
+use Rattle.definitions.specs.Refusal.{accepted}
 use Rattle.definitions.specs.Derive.{CleanLiteral, Clean}
+use Rattle.definitions.proofs.Refusal.{same-accepted}
+use Rattle.definitions.proofs.Spoilt.{length-after}
 use Rattle.derivable.specs.Spoilt.{Unspoilt, LargestClean, SpoiltBy, SpoilersSpoil}
 
 -- What is known of a goal before the first pass, and after one more.
@@ -163,26 +168,14 @@ module _ (ss : List (Option ℕ)) where
       let x = grows (suc g) hs in
       grows-by (spoiler-in ss g) (clauses-spoilt ss (h .clauses)) (known-from ss (suc g) hs) (pass-from ss (suc g) hs) (x .0) (x .1)
 
-  length-pass : (g : ℕ) (hs : List Goal) → length (pass-from ss g hs) ≡ length hs
-  length-pass g [] = refl
-  length-pass g (h ∷ hs) = ap suc (length-pass (suc g) hs)
-
-length-themselves : (g : ℕ) (hs : List Goal) → length (by-themselves g hs) ≡ length hs
-length-themselves g [] = refl
-length-themselves g (h ∷ hs) = ap suc (length-themselves (suc g) hs)
-
 module _ (book : Book) where
   abbrev after : ℕ → List (Option ℕ)
   after n = spoilers-after n book
 
-  length-after : (n : ℕ) → length (after n) ≡ length book
-  length-after zero = length-themselves 0 book
-  length-after (suc n) = length-pass (after n) 0 book
-
   one-pass : (n : ℕ) → (after (suc n) ≡ after n) ⊎ (count (after n) < count (after (suc n)))
   one-pass n =
       subst (λ (l : List (Option ℕ)). (after (suc n) ≡ l) ⊎ (count l < count (after (suc n))))
-      (known-all (after n) book (length-after n)) (grows (after n) 0 book .1)
+      (known-all (after n) book (length-after n book)) (grows (after n) 0 book .1)
 
   by-then : (n : ℕ) → (after (suc n) ≡ after n) ⊎ (n < count (after (suc n)))
   by-then zero = on (one-pass 0)
@@ -205,7 +198,7 @@ module _ (book : Book) where
       on : (after (suc (length book)) ≡ after (length book)) ⊎ (length book < count (after (suc (length book))))
           → after (suc (length book)) ≡ after (length book)
       on (inl e) = e
-      on (inr k) = absurd (omega (arith, k, count-few (after (suc (length book))), length-after (suc (length book))))
+      on (inr k) = absurd (omega (arith, k, count-few (after (suc (length book))), length-after (suc (length book)) book))
 
   -- A CLEAN SET.
 
@@ -346,3 +339,10 @@ spoilt-by book goal by e = spoilt-after book (length book) goal by e
 
 pub largest-clean : (book : Book) → LargestClean book
 largest-clean book = record { clean = unspoilt-clean book; largest = λ C clean goal c. clean-unspoilt book C clean goal c }
+
+-- of a paper, as the check of it tells
+pub checked-clean : (bytes : List ℕ) (book : Book) → desk bytes ≡ accepted book → (ss : List (Option ℕ))
+    → check-spoilers bytes ≡ accepted ss → Clean book (λ goal. spoiler-in ss goal ≡ none)
+checked-clean bytes book took ss e =
+    subst (λ (z : List (Option ℕ)). Clean book (λ goal. spoiler-in z goal ≡ none))
+    (same-accepted (sym (ap spoilers-at-desk took) ∙ e)) (unspoilt-clean book)

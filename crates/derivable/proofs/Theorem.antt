@@ -9,7 +9,7 @@ use mathlib.Core.List.{List, [], _∷_, _++_}
 use lib.ListN.{length, getElem?}
 use lib.Dec.{eqb, leb, ltb}
 use Rattle.definitions.specs.{MAX, TableIndex}
-use Rattle.definitions.specs.Book.{Book, read}
+use Rattle.definitions.specs.Book.{Literal, Positive, Negative, Clause, Book, read}
 use Rattle.definitions.specs.Refusal.{Refusable, refused, accepted, _refuses_}
 use Rattle.definitions.specs.Stop.{Stops, stop, go, _>>=_, _>>_, stop-if}
 use Rattle.definitions.specs.Table.{Table}
@@ -18,36 +18,30 @@ use Rattle.definitions.specs.Logic.{build-table, get-or-create-table-for-ucanon
 use Rattle.definitions.specs.Turn.{Ending, found, fail, cut, stopped}
 use Rattle.definitions.specs.Forest.{make-of, is-marked, Opened, opened}
 use Rattle.definitions.specs.Desk.{desk}
-use Rattle.definitions.specs.Spoilt.{spoiler-in, spoilers-at-desk}
+use Rattle.definitions.specs.Spoilt.{spoiler-in}
 use Rattle.definitions.specs.Calls as said
 use Rattle.definitions.specs.Calls.{sitting, Call, Reply}
 use Rattle.definitions.specs.Claim.{Names, Named, about}
 use Rattle.definitions.specs.Model.{Each}
-use Rattle.definitions.specs.Derive.{Derivable, Clean, CleanBook}
+use Rattle.definitions.specs.Derive.{Derivable, CleanLiteral, Clean, CleanBook}
 use Rattle.definitions.specs.Certified.{StoredDerivable, EndingDerivable, ReplyDerivable, CallDerivable}
 use Rattle.definitions.specs.Certified.{Certified, CertifiedAtDesk, BookCertified, UnspoiltCertified}
 use Rattle.definitions.proofs.Desk.{made-as-read}
 use Rattle.definitions.proofs.Lists.{position-at, position-none}
-use Rattle.definitions.proofs.Members.{each-all, all-each}
-use Rattle.definitions.proofs.Refusal.{not-accepted, all-pass, same-accepted}
+use Rattle.definitions.proofs.Members.{each-all, all-each, each-map}
+use Rattle.definitions.proofs.Refusal.{not-accepted, all-pass}
 use Rattle.laws.proofs.Lists.{place-under}
 use Rattle.laws.proofs.Options.{same-some}
 use Rattle.laws.proofs.All.{all-at, all-map}
-use Rattle.asserts.proofs.Safe.{stop-go}
+use Rattle.asserts.proofs.Safe.{stop-go, same-go}
 use Rattle.asserts.proofs.Sound.{SoundForest}
 use Rattle.asserts.proofs.Reading.{bare, made-sound}
 use Rattle.asserts.proofs.Theorem.{forests-sound}
 use Rattle.derivable.proofs.Calls.{Between, Says, ReplyStored, Called, calls-kept, made-kept}
 use Rattle.derivable.proofs.Derive.{closed}
-use Rattle.derivable.proofs.Spoilt.{unspoilt-clean}
+use Rattle.derivable.proofs.Spoilt.{checked-clean}
 
 -- A table names its goal.
-
-same-go : {a b : ℕ} → go a ≡ go b → a ≡ b
-same-go {a} {b} e = cc
-
-same-gone : {a b : TableIndex × Forest} → go a ≡ go b → a ≡ b
-same-gone {a} {b} e = cc
 
 module _ {n : ℕ} (f : Forest) (s : SoundForest n f) (t : TableIndex) (own : Table) (made : getElem? (f .tables) t ≡ some own)
     (unmarked : f .mark ≡ 0) where
@@ -95,11 +89,11 @@ module _ {n : ℕ} (f : Forest) (s : SoundForest n f) (t : TableIndex) (own : Ta
               → h ≡ own .table-goal
           by-room true k = stop-go k
           by-room false k =
-              let z : length (f .tables) ≡ r .0 = ap (λ (w : TableIndex × Forest). w .0) (same-gone k) in
+              let z : length (f .tables) ≡ r .0 = ap (λ (w : TableIndex × Forest). w .0) (same-go k) in
               let under = place-under (f .tables) t own made in
               absurd (omega arith)
   found-at h (some i) e r k q =
-      let z : i ≡ r .0 = ap (λ (w : TableIndex × Forest). w .0) (same-gone k) in
+      let z : i ≡ r .0 = ap (λ (w : TableIndex × Forest). w .0) (same-go k) in
       let p = position-at (λ u. eqb (u .table-goal) h) (f .tables) i e in
       sym (eqb-true (p .0 .table-goal) h (p .2)) ∙ ap (λ (w : Table). w .table-goal)
       (same-some (sym (p .1) ∙ ap (getElem? (f .tables)) (z ∙ q) ∙ made))
@@ -191,6 +185,19 @@ book-certified bytes limit f e x cs = certified bytes limit f e (λ goal. Unit {
 -- a paper whose goals were looked at beforehand
 pub unspoilt-certified : UnspoiltCertified
 unspoilt-certified bytes ss e limit f made =
-    let are = same-accepted (sym (ap spoilers-at-desk (made-is (desk bytes) limit f made .0)) ∙ e) in
     certified-at-desk bytes limit f made (λ goal. spoiler-in ss goal ≡ none)
-    (subst (λ (z : List (Option ℕ)). Clean (f .book) (λ goal. spoiler-in z goal ≡ none)) are (unspoilt-clean (f .book)))
+    (checked-clean bytes (f .book) (made-is (desk bytes) limit f made .0) ss e)
+
+-- a set with the same goals as a clean one is clean
+module _ (book : Book) {C D : ℕ → Type 0} (there : (goal : ℕ) → C goal → D goal) (back : (goal : ℕ) → D goal → C goal) where
+  literal-same : (l : Literal) → CleanLiteral C l → CleanLiteral D l
+  literal-same (Positive goal want outsized) x = there goal x
+  literal-same (Negative goal outsized) x = x
+
+  pub clean-same : Clean book C → Clean book D
+  clean-same clean goal g d e =
+      let x = clean goal g (back goal d) e in
+      record {
+        inductive = x .inductive;
+        literals-clean = each-map (λ (c : Clause) y. each-map literal-same (c .literals) y) (g .clauses) (x .literals-clean);
+      }

@@ -29,7 +29,8 @@ use Rattle.derivable.proofs.Fine.{Fine, stops, goes, after, guard, by-b
 use Rattle.derivable.proofs.Kept.{without, Closed, KeptTable, KeptForest, KeptEntry}
 use Rattle.derivable.proofs.Kept.{KeptState, same-goal, changes}
 use Rattle.derivable.proofs.Choosing.{Chosen, entry-more, active-kept, selects-kept}
-use Rattle.derivable.proofs.States.{Flows, flows-after, onward, goes-on, gives-up, enqueues-top, activates, minimums-kept, same-entry}
+use Rattle.derivable.proofs.States.{Flows, flows-after, onward, goes-on, gives-up, enqueues-top, activates}
+use Rattle.derivable.proofs.States.{minimums-kept, same-entry}
 use Rattle.derivable.proofs.Merging.{selected-kept}
 use Rattle.derivable.proofs.Answers.{Pops, pops-borrowing, no-remaining}
 

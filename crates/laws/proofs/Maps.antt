@@ -32,6 +32,17 @@ module _ {A B : Type 0} (f : A → B) where
   getElem?-map-past (a ∷ l) zero h = absurd (omega arith)
   getElem?-map-past (a ∷ l) (suc i) h = getElem?-map-past l i (omega arith)
 
+  pub map-at : (l : List A) (i : ℕ) (a : A) → getElem? l i ≡ some a → getElem? (map f l) i ≡ some (f a)
+  map-at [] i a e = absurd (no-such e)
+  map-at (b ∷ l) zero a e = ap (λ (c : A). some (f c)) (same-some e)
+  map-at (b ∷ l) (suc i) a e = map-at l i a e
+
+  -- a place written with one of the same image
+  pub map-set-alike : (l : List A) (i : ℕ) (a b : A) → getElem? l i ≡ some a → f b ≡ f a → map f (set l i b) ≡ map f l
+  map-set-alike [] i a b e q = refl
+  map-set-alike (c ∷ l) zero a b e q = ap (λ (z : B). z ∷ map f l) (q ∙ ap f (sym (same-some e)))
+  map-set-alike (c ∷ l) (suc i) a b e q = ap (λ (r : List B). f c ∷ r) (map-set-alike l i a b e q)
+
   -- what stands at a place comes from what stood there
   pub at-map : (l : List A) (i : ℕ) (b : B) → getElem? (map f l) i ≡ some b → (a : A) × (getElem? l i ≡ some a) × (f a ≡ b)
   at-map [] i b e = absurd (no-such e)

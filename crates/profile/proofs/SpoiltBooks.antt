@@ -26,12 +26,13 @@ use Rattle.book.proofs.Shown.{lent-by}
 use Rattle.book.proofs.TwiceInBook.{goal-shown}
 use Rattle.profile.specs.declared.OwnSpoil.{OwnSpoil}
 use Rattle.profile.specs.declared.Spoilers.{Spoilers}
+use Rattle.definitions.proofs.Spoilt.{length-after}
 use Rattle.profile.specs.Spoilers.{what-number, clause-number, literal-number, spoil-numbers, by-number, filled, told-after}
 use Rattle.profile.specs.Spoilers.{refused-with, spoilers-told, goal-told, known, itself-number, not-in, spoil-read, passed-read}
 use Rattle.profile.specs.Spoilers.{pass-number, Fills}
 use Rattle.profile.proofs.Papers.{gave}
 use Rattle.profile.proofs.Firsts.{length-filled, fills-start, fills-next, fills-is}
-use Rattle.profile.proofs.Spreading.{length-after, known-at, told-at}
+use Rattle.profile.proofs.Spreading.{known-at, told-at}
 
 -- A pass by the arrays, up to goal g.
 

@@ -80,32 +80,19 @@ pub few-after : (n : ℕ) (book : said.Book) → length book ≤ 64 → (g : ℕ
 few-after zero book e g = few-themselves 0 book (omega arith) g
 few-after (suc n) book e g = few-passed (spoilers-after n book) (λ i. few-after n book e i) 0 book g
 
--- As many as there are goals.
-
-length-themselves : (g : ℕ) (hs : List said.Goal) → length (by-themselves g hs) ≡ length hs
-length-themselves g [] = refl
-length-themselves g (h ∷ hs) = ap suc (length-themselves (suc g) hs)
-
-length-passed : (ss : List (Option ℕ)) (g : ℕ) (hs : List said.Goal) → length (pass-from ss g hs) ≡ length hs
-length-passed ss g [] = refl
-length-passed ss g (h ∷ hs) = ap suc (length-passed ss (suc g) hs)
-
-pub length-after : (n : ℕ) (book : said.Book) → length (spoilers-after n book) ≡ length book
-length-after zero book = length-themselves 0 book
-length-after (suc n) book = length-passed (spoilers-after n book) 0 book
-
 -- What is known by an array.
 
 pub known-at : (by : List ℕ) (g : ℕ) → spoiler-in (known by) g ≡ goal-told (getD by g 64)
 known-at by g = spoiler-getD (known by) g ∙ List·getD-map goal-told by g 64
 
+-- what stands for a goal is the number of the one that spoils it
+pub by-at : (ss : List (Option ℕ)) (g : ℕ) → getD (filled 64 (map by-number ss)) g 64 ≡ by-number (spoiler-in ss g)
+by-at ss g = getD-filled 64 (map by-number ss) g ∙ List·getD-map by-number ss g none ∙ ap by-number (sym (spoiler-getD ss g))
+
 -- THE NUMBERS SETTLE THE SPOILERS: 64 stands for none, and any other number for that goal.
 pub told-at : (n : ℕ) (book : said.Book) → length book ≤ 64 → (g : ℕ)
     → goal-told (getD (filled 64 (map by-number (spoilers-after n book))) g 64) ≡ spoiler-in (spoilers-after n book) g
-told-at n book e g =
-    let ss = spoilers-after n book in
-    ap goal-told (getD-filled 64 (map by-number ss) g ∙ List·getD-map by-number ss g none ∙ ap by-number (sym (spoiler-getD ss g)))
-    ∙ few-after n book e g
+told-at n book e g = ap goal-told (by-at (spoilers-after n book) g) ∙ few-after n book e g
 
 few-known : (by : List ℕ) (g : ℕ) → Few (spoiler-in (known by) g)
 few-known by g = subst Few (sym (known-at by g)) (few-told (getD by g 64))

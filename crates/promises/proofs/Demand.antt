@@ -24,7 +24,7 @@ use Rattle.definitions.proofs.Desk.{made-as-read}
 use Rattle.definitions.proofs.Refusal.{not-accepted, all-pass}
 use Rattle.laws.proofs.Options.{no-such}
 use Rattle.laws.proofs.Bools.{both-false}
-use Rattle.asserts.proofs.Books.{Good, read-good}
+use Rattle.asserts.proofs.Books.{Good, book-good}
 use Rattle.promises.proofs.Plain.Machine as M
 use Rattle.promises.proofs.Plain.Whole.{potential, initial-ok, initial-total}
 use Rattle.promises.proofs.Link.View.{t-end}
@@ -168,7 +168,7 @@ made-from bytes limit f e = go (read bytes) refl e
     go (refused n) k x = absurd (not-accepted x)
     go (accepted book) k x = record {
       book = book;
-      good = read-good bytes 0 [] book (record { few-goals = omega arith; few-clauses = omega arith }) k;
+      good = book-good bytes book k;
       is = all-pass ((eqb limit 0 || leb MAX limit) refuses 13 ∷ []) (forest-of book limit 0 [] 0) f x .1;
       room = let y = leb-false MAX limit (both-false (eqb limit 0) (leb MAX limit)
           (all-pass ((eqb limit 0 || leb MAX limit) refuses 13 ∷ []) (forest-of book limit 0 [] 0) f x .0 .0) .1) in omega arith;

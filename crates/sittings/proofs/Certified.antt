@@ -1,31 +1,27 @@
 -- What the code finds can be derived, since what the definitions find can be.
-use Prim.Native.Nat.{ℕ, zero, suc}
-use native.Mathlib.Omega.{arith}
+use Prim.Native.Nat.{ℕ}
 use mathlib.Core.Bool.{false}
 use mathlib.Core.List.{List, [], _∷_, map}
 use mathlib.Core.Logic.{inr}
-use mathlib.Core.Option.{Option, none, some}
-use mathlib.Core.Path.{_≡_, refl, sym, ap, subst, _∙_}
+use mathlib.Core.Option.{none, some}
+use mathlib.Core.Path.{_≡_, sym, ap, subst, _∙_}
 use lib.ListN.{length, getD}
 use Rattle.definitions.specs.Book as books
 use Rattle.definitions.specs.Calls as said
 use Rattle.definitions.specs.Certified as claim
-use Rattle.definitions.specs.Derive.{Derivable, CleanLiteral, Clean}
+use Rattle.definitions.specs.Derive.{Derivable, Clean}
 use Rattle.definitions.specs.Forest as forests
 use Rattle.definitions.specs.Model.{Each}
 use Rattle.definitions.specs.Refusal.{accepted}
-use Rattle.definitions.specs.Spoilt.{spoiler-in, spoilers, spoilers-at-desk}
+use Rattle.definitions.specs.Spoilt.{spoiler-in, spoilers}
 use Rattle.definitions.specs.Tables as tables
 use Rattle.definitions.specs.Turn as turns
 use Rattle.definitions.proofs.Desk.{desk-reads}
-use Rattle.definitions.proofs.Members.{each-map}
-use Rattle.definitions.proofs.Refusal.{same-accepted}
-use Rattle.asserts.proofs.Books.{read-good}
+use Rattle.asserts.proofs.Books.{book-good}
 use Rattle.profile.specs.declared.Spoilers.{Spoilers}
 use Rattle.profile.specs.Spoilers.{by-number, filled, goal-told, spoilers-told}
-use Rattle.profile.proofs.Firsts.{getD-filled}
-use Rattle.profile.proofs.Spreading.{few-after}
-use Rattle.derivable.proofs.Spoilt.{unspoilt-clean}
+use Rattle.profile.proofs.Spreading.{by-at, few-after}
+use Rattle.derivable.proofs.Spoilt.{unspoilt-clean, checked-clean}
 use Rattle.derivable.proofs.Theorem as derived
 use Rattle.forest.specs.declared.Forest.{Forest}
 use Rattle.forest.specs.declared.make.Made.{Made}
@@ -109,44 +105,18 @@ book-certified bytes limit m says e book k clean = certified bytes limit m says 
 pub unspoilt-tells : UnspoiltTells
 unspoilt-tells bytes spoilers checked limit m made is book took =
     certified bytes limit m (inr made) is book (desk-reads bytes book took .0) (λ goal. spoiler-in spoilers goal ≡ none)
-    (subst (λ (z : List (Option ℕ)). Clean book (λ goal. spoiler-in z goal ≡ none))
-    (same-accepted (sym (ap spoilers-at-desk took) ∙ checked)) (unspoilt-clean book))
+    (checked-clean bytes book took spoilers checked)
 
--- As the code tells it.
-
--- what stands for a goal is the number of the one that spoils it
-told-by : (ss : List (Option ℕ)) (goal : ℕ) → getD (filled 64 (map by-number ss)) goal 64 ≡ by-number (spoiler-in ss goal)
-told-by ss goal = getD-filled 64 (map by-number ss) goal ∙ on ss goal
-  where
-    on : (l : List (Option ℕ)) (i : ℕ) → getD (map by-number l) i 64 ≡ by-number (spoiler-in l i)
-    on [] i = refl
-    on (o ∷ l) zero = refl
-    on (o ∷ l) (suc i) = on l i
-
--- a set with the same goals is clean too
-module _ (book : books.Book) {C D : ℕ → Type 0} (there : (goal : ℕ) → C goal → D goal) (back : (goal : ℕ) → D goal → C goal) where
-  literal-same : (l : books.Literal) → CleanLiteral C l → CleanLiteral D l
-  literal-same (books.Positive goal want outsized) x = there goal x
-  literal-same (books.Negative goal outsized) x = x
-
-  clean-same : Clean book C → Clean book D
-  clean-same clean goal g d e =
-      let x = clean goal g (back goal d) e in
-      record {
-        inductive = x .inductive;
-        literals-clean = each-map (λ (c : books.Clause) y. each-map literal-same (c .literals) y) (g .clauses) (x .literals-clean);
-      }
-
+-- as the code tells them
 pub clean-tells : CleanTells
 clean-tells bytes p says limit m made is book took =
-    let few = read-good bytes 0 [] book (record { few-goals = omega arith; few-clauses = omega arith }) (desk-reads bytes book took .0)
-    .small .few-goals in
+    let read = desk-reads bytes book took .0 in
     let by-is : p .by ≡ filled 64 (map by-number (spoilers book)) =
     ap (λ (z : Spoilers). z .by) (says ∙ ap spoilers-told took) in
     let told : (goal : ℕ) → getD (p .by) goal 64 ≡ by-number (spoiler-in (spoilers book) goal) =
-    λ goal. ap (λ (l : List ℕ). getD l goal 64) by-is ∙ told-by (spoilers book) goal in
-    certified bytes limit m (inr made) is book (desk-reads bytes book took .0) (λ goal. getD (p .by) goal 64 ≡ 64)
-    (clean-same book {C = λ goal. spoiler-in (spoilers book) goal ≡ none} {D = λ goal. getD (p .by) goal 64 ≡ 64}
+    λ goal. ap (λ (l : List ℕ). getD l goal 64) by-is ∙ by-at (spoilers book) goal in
+    certified bytes limit m (inr made) is book read (λ goal. getD (p .by) goal 64 ≡ 64)
+    (derived.clean-same book {C = λ goal. spoiler-in (spoilers book) goal ≡ none} {D = λ goal. getD (p .by) goal 64 ≡ 64}
     (λ goal e. told goal ∙ ap by-number e)
-    (λ goal e. sym (few-after (length book) book few goal) ∙ ap goal-told (sym (told goal) ∙ e))
+    (λ goal e. sym (few-after (length book) book (book-good bytes book read .small .few-goals) goal) ∙ ap goal-told (sym (told goal) ∙ e))
     (unspoilt-clean book))

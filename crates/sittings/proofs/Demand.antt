@@ -22,7 +22,7 @@ use Rattle.definitions.specs.Tables as tables
 use Rattle.definitions.specs.Turn as turns
 use Rattle.definitions.proofs.Desk.{made-as-read}
 use Rattle.definitions.proofs.Refusal.{same-accepted, not-accepted, all-pass}
-use Rattle.asserts.proofs.Safe.{stop-go}
+use Rattle.asserts.proofs.Safe.{stop-go, same-go}
 use Rattle.promises.proofs.Demand as promised
 use Rattle.promises.proofs.Before.{none-granted}
 use Rattle.forest.specs.declared.Forest.{Forest}
@@ -51,9 +51,6 @@ use Rattle.sittings.proofs.Calls.{at, told-call, told-calls, sits-calls
 use Rattle.sittings.proofs.Steps.{tell-so}
 
 -- A GOAL THAT IS NAMED. An open of the definitions that gives a table is one of the code that gives it, and the other way round.
-
-same-go : {a b : ℕ} → go a ≡ go b → a ≡ b
-same-go {a} {b} e = cc
 
 opening-is : (G : tables.Forest) (t : ℕ) (o : Opening) (r : forests.Opened) → opened-by o G ≡ accepted r → r .table ≡ go t
     → o ≡ openings.Table t

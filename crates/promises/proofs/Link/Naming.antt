@@ -16,6 +16,7 @@ use Rattle.definitions.specs.Forest.{Opened, opened}
 use Rattle.definitions.specs.Claim.{Names, Named}
 use Rattle.definitions.specs.Model.{Each}
 use Rattle.definitions.proofs.Refusal.{all-pass}
+use Rattle.asserts.proofs.Safe.{same-go}
 use Rattle.laws.proofs.Options.{same-some}
 use Rattle.promises.proofs.Plain.Machine as M
 use Rattle.promises.proofs.Plain.Whole.{Ready, ready-strands}
@@ -103,6 +104,3 @@ module _ (G : Premises) where
           let same : m .place ≡ t = same-go q in
           let g-h : g ≡ h = same-some (sym (m .more t g at) ∙ sym (ap (getElem? (m .goals)) same) ∙ m .at) in
           subst Is g-h yes-g
-        where
-          same-go : {a b : ℕ} → go a ≡ go b → a ≡ b
-          same-go {a} {b} e = cc
