@@ -23,7 +23,7 @@ use Rattle.definitions.specs.Spoilt.{spoilers}
 use Rattle.definitions.proofs.Desk.{desk-reads}
 use Rattle.definitions.proofs.Spoilt.{length-after}
 use Rattle.definitions.proofs.DeskNumbers.{Below, by-number, taken, desk-below}
-use Rattle.definitions.proofs.Digits.{decimal-one, decimal-short-2, decimal-short-3}
+use Rattle.definitions.proofs.Digits.{decimal-one, decimal-short}
 use Rattle.asserts.proofs.Books.{book-good}
 use Rattle.asserts.proofs.Few.{Few, FewLiterals, read-few}
 use Rattle.pen.specs.Goals.{words-from}
@@ -81,7 +81,7 @@ reason-short (some a-coinductive-goal) x = omega arith
 reason-short (some (a-not k j)) x =
     omega (
       arith,
-      decimal-short-3 k (omega (arith, x .0)),
+      decimal-short 2 k (omega (arith, x .0)),
       ap length (decimal-one j (omega (arith, x .1))),
       length-append (ascii ": a \"not\" in clause ") (decimal k),
       length-append (ascii ", literal ") (decimal j),
@@ -92,14 +92,14 @@ module _ (book : Book) (few-clauses : clause-count book ≤ 256) (few-literals :
   line-short : (goal : ℕ) (o : Option ℕ) → goal < 64 → spreading.Few o → length (goal-line book goal o) ≤ 55
   unfolding goal-line
   line-short goal none h few =
-      omega (arith, decimal-short-2 goal (omega arith), length-append (decimal goal) (ascii " clean\n"))
+      omega (arith, decimal-short 1 goal (omega arith), length-append (decimal goal) (ascii " clean\n"))
   line-short goal (some by) h few =
       let reason = reason-words (spoil-of book by) in
       let below = ltb-true by 64 (is-goal by few) in
       omega (
         arith,
-        decimal-short-2 goal (omega arith),
-        decimal-short-2 by (omega arith),
+        decimal-short 1 goal (omega arith),
+        decimal-short 1 by (omega arith),
         reason-short (spoil-of book by) (spoil-bounded book by few-clauses few-literals),
         length-append (ascii " spoilt by goal ") (decimal by),
         length-append reason (ascii "\n"),
@@ -126,7 +126,7 @@ unfolding refusal-lines refusal-line sentence
 refusal-short n h =
     omega (
       arith,
-      decimal-short-2 n (omega arith),
+      decimal-short 1 n (omega arith),
       all-short sentences each-short,
       length-append (ascii "refused ") (decimal n),
       length-append (ascii "refused " ++ decimal n) (ascii "\n"),

@@ -66,11 +66,11 @@ decimal-tenth n m h p = on (decLt n 10)
           length-append (decimal (n / 10)) ((48 + n % 10) ∷ []),
         )
 
-decimal-short-1 : (n : ℕ) → n < 10 → length (decimal n) ≤ 1
-decimal-short-1 n h = omega (arith, ap length (decimal-one n h))
+abbrev pub tens : ℕ → ℕ
+tens zero = 1
+tens (suc k) = 10 * tens k
 
-pub decimal-short-2 : (n : ℕ) → n < 100 → length (decimal n) ≤ 2
-decimal-short-2 n h = decimal-tenth n 1 (decimal-short-1 (n / 10) (omega arith)) (omega arith)
-
-pub decimal-short-3 : (n : ℕ) → n < 1000 → length (decimal n) ≤ 3
-decimal-short-3 n h = decimal-tenth n 2 (decimal-short-2 (n / 10) (omega arith)) (omega arith)
+pub decimal-short : (k n : ℕ) → n < tens (suc k) → length (decimal n) ≤ suc k
+decimal-short zero n h = omega (arith, ap length (decimal-one n (omega arith)))
+decimal-short (suc k) n h =
+    decimal-tenth n (suc k) (decimal-short k (n / 10) (omega arith)) (omega arith)

@@ -16,6 +16,9 @@ pub mod Passes
 pub mod Trails
 pub mod Levels
 pub mod Digits
+pub mod Pages
+pub mod PageFields
+pub mod ReadKeeps
 pub mod XsbCapped
 pub mod XsbShows
 pub mod XsbTold

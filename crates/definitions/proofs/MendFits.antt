@@ -22,7 +22,7 @@ use Rattle.definitions.specs.Mend.{loose-end, loose-from, read-loosely, 
 use Rattle.definitions.specs.Mend.{at-command, if-stays, copy, reason-line, clause-lines, goal-lines, Mended, mended-from, mend}
 use Rattle.definitions.proofs.Refusal.{not-accepted, same-accepted, same-refused, all-pass}
 use Rattle.definitions.proofs.Book.{clause-count-goal, length-add-clause, clause-count-add-clause, added}
-use Rattle.definitions.proofs.Digits.{decimal-short-2, decimal-short-3}
+use Rattle.definitions.proofs.Digits.{decimal-short}
 use Rattle.definitions.proofs.DeskNumbers.{Below, by-number, desk-below}
 use Rattle.definitions.proofs.MendRefused.{mend-refused, applied, loose-short}
 
@@ -108,9 +108,9 @@ line-short : (g i r : ℕ) → g < 100 → i < 1000 → r < 100 → length (reas
 line-short g i r a b c =
     omega (
       arith,
-      decimal-short-2 g a,
-      decimal-short-3 i b,
-      decimal-short-2 r c,
+      decimal-short 1 g a,
+      decimal-short 2 i b,
+      decimal-short 1 r c,
       length-append (decimal g) (32 ∷ (decimal i ++ (32 ∷ (decimal r ++ (10 ∷ []))))),
       length-append (decimal i) (32 ∷ (decimal r ++ (10 ∷ []))),
       length-append (decimal r) (10 ∷ []),

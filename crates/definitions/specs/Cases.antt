@@ -13,9 +13,9 @@ use Rattle.definitions.specs.Logic.{NoMoreSolutions}
 use Rattle.definitions.specs.Turn.{found, fail, cut, stopped}
 use Rattle.definitions.specs.Forest.{make}
 use Rattle.definitions.specs.Calls.{Call, opens, searches, peeks, Reply, refusal, table, searched, peeked, sitting, calls}
-use Rattle.definitions.specs.Listing.{listing}
+use Rattle.definitions.specs.Listing.{fields}
 
--- What is run: the listing program, or calls on a forest made with that clock limit.
+-- What is run: the listing program, of which the fields are told, or calls on a forest made with that clock limit.
 pub data Run : Type 0 where
   lists : Run
   runs : (clock-limit : ℕ) → List Call → Run
@@ -31,7 +31,7 @@ pub record Case : Type 0 where
   pub gives : Gives
 
 abbrev pub run-on : List ℕ → Run → Gives
-run-on book lists = prints (listing book)
+run-on book lists = prints (fields book)
 run-on book (runs limit cs) = elim (make book limit) [
   | refused n ↦ refuses n
   | accepted f ↦ replies (map (λ c. c .reply) (calls (sitting f) cs))

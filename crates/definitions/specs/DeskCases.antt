@@ -10,7 +10,7 @@ use Rattle.definitions.specs.Refusal.{Refusable, refused, accepted}
 use Rattle.definitions.specs.Lists.{push}
 use Rattle.definitions.specs.Book.{any, exactly, Positive, Clause, Book, read, write}
 use Rattle.definitions.specs.Desk.{Repeat, repeat-of, desk}
-use Rattle.definitions.specs.Listing.{listing}
+use Rattle.definitions.specs.Listing.{fields}
 use Rattle.definitions.specs.Cases.{pos, neg, rule, fact, unproved, one-rule, inductive}
 use Rattle.definitions.specs.RangeCases.{range}
 
@@ -35,7 +35,7 @@ told bytes = record {
   by-read = number (read bytes);
   by-desk = number (desk bytes);
   repeat = repeat-of (read bytes);
-  prints = listing bytes;
+  prints = fields bytes;
 }
 
 -- The three ways: taken by both; turned down by the desk alone; refused by both, which the bytes settle.

@@ -26,7 +26,9 @@ pub mod Cases
 pub mod MoreCases
 pub mod RangeCases
 pub mod DeskCases
+pub mod PageCases
 pub mod Model
+pub mod Pages
 pub mod Levels
 pub mod NotPlain
 pub mod LevelCases

@@ -1,17 +1,16 @@
--- The listing program (document 01), in two halves: from a book's bytes to the lines, and from the lines to the bytes that are printed.
--- The second half knows the lines alone, so that they can be rendered in another way.
+-- The listing program (document 01 and change request 3), in two halves: from a book's bytes to the lines, and from the lines to the bytes
+-- that are printed. The second half knows the lines alone; it renders them twice, in the fields of document 01 and as pages.
 use Prim.Native.Nat.{ℕ, zero, suc, _+_, _-_, _/_, _%_}
 use mathlib.Core.Bool.{Bool, true, false}
 use mathlib.Core.List.{List, [], _∷_, _++_}
-use lib.ListN.{length}
-use Rattle.definitions.specs.{CompleteAnswer}
+use lib.ListN.{length, replicate}
 use Rattle.definitions.specs.Ascii.{ascii}
 use Rattle.definitions.specs.Refusal.{Refusable, refused, accepted}
 use Rattle.definitions.specs.Stop.{stop, go}
 use Rattle.definitions.specs.Tables.{Forest}
 use Rattle.definitions.specs.Logic.{RootSearchFail, NoMoreSolutions, Floundered, QuantumExceeded, NegativeCycle, InvalidAnswer}
 use Rattle.definitions.specs.Turn.{Ending, found, fail, cut, stopped}
-use Rattle.definitions.specs.Forest.{opened, peek-rounds}
+use Rattle.definitions.specs.Forest.{Opened, opened, peek-rounds}
 use Rattle.definitions.specs.Desk.{make-at-desk}
 
 -- The lines.
@@ -68,13 +67,14 @@ list-from (suc more) goal t i f =
     ]
 
 -- one goal: it is opened, then peeked at
+abbrev pub list-opened : (goal : ℕ) → Opened → Listed
+list-opened goal o = elim (o .table) [
+  | stop n ↦ record { lines = line goal 0 (stopped n) ∷ []; stops = true; forest = o .forest }
+  | go t ↦ list-from 257 goal t 0 (o .forest)
+]
+
 abbrev pub list-goal : (goal : ℕ) → Forest → Listed
-list-goal goal f =
-    let o = opened 0 f goal in
-    elim (o .table) [
-      | stop n ↦ record { lines = line goal 0 (stopped n) ∷ []; stops = true; forest = o .forest }
-      | go t ↦ list-from 257 goal t 0 (o .forest)
-    ]
+list-goal goal f = list-opened goal (opened 0 f goal)
 
 -- the last `left` goals of a book, the first of them `goal`
 abbrev pub list-goals : (left goal : ℕ) → Forest → List Line
@@ -106,9 +106,7 @@ digits (suc more) n after = elim (n / 10) [
 abbrev pub decimal : ℕ → List ℕ
 decimal n = digits (suc n) n []
 
--- the word and, behind it, the number of an ending
-abbrev pub answer-words : CompleteAnswer → List ℕ
-answer-words a = elim (a .ambiguous) [ true ↦ ascii "maybe" | false ↦ ascii "yes" ] ++ ascii " " ++ decimal (a .variant)
+-- The word of an ending.
 
 abbrev pub fail-word : RootSearchFail → List ℕ
 fail-word NoMoreSolutions = ascii "none"
@@ -117,22 +115,103 @@ fail-word QuantumExceeded = ascii "again"
 fail-word NegativeCycle = ascii "negcycle"
 fail-word InvalidAnswer = ascii "invalid"
 
-abbrev pub ending-words : Ending → List ℕ
-ending-words (found a) = answer-words a
-ending-words (fail e) = fail-word e
-ending-words cut = ascii "cut"
-ending-words (stopped n) = ascii "stop" ++ ascii " " ++ decimal n
+abbrev pub word : Ending → List ℕ
+word (found a) = elim (a .ambiguous) [ true ↦ ascii "maybe" | false ↦ ascii "yes" ]
+word (fail e) = fail-word e
+word cut = ascii "cut"
+word (stopped n) = ascii "stop"
+
+-- the variant of an answer, the number of a stop, or nothing
+abbrev pub number : Ending → List ℕ
+number (found a) = decimal (a .variant)
+number (fail e) = []
+number cut = []
+number (stopped n) = decimal n
+
+-- The fields of document 01: one space apart, a line each.
+
+abbrev pub behind : List ℕ → List ℕ
+behind [] = []
+behind (b ∷ bs) = ascii " " ++ (b ∷ bs)
 
 abbrev pub line-bytes : Line → List ℕ
-line-bytes l = decimal (l .goal) ++ ascii " " ++ decimal (l .index) ++ ascii " " ++ ending-words (l .ending) ++ ascii "\n"
+line-bytes l =
+    decimal (l .goal) ++ ascii " " ++ decimal (l .index) ++ ascii " " ++ word (l .ending) ++ behind (number (l .ending)) ++ ascii "\n"
 
 abbrev pub lines-bytes : List Line → List ℕ
 lines-bytes [] = []
 lines-bytes (l ∷ ls) = line-bytes l ++ lines-bytes ls
 
--- what the program prints
+abbrev pub refusal-bytes : (number : ℕ) → List ℕ
+refusal-bytes n = ascii "refused" ++ ascii " " ++ decimal n ++ ascii "\n"
+
+abbrev pub fields : (bytes : List ℕ) → List ℕ
+fields bytes = elim (lines bytes) [ refused n ↦ refusal-bytes n | accepted ls ↦ lines-bytes ls ]
+
+-- The pages of change request 3: "Columns: goal 3 wide right-aligned, index 5 right, word 10 left, variant or stop number 5 right, a space
+-- between columns, blanks where there is no number".
+
+pub data Side : Type 0 where
+  at-left : Side
+  at-right : Side
+
+pub record Column : Type 0 where
+  pub width : ℕ
+  pub side : Side
+  pub shows : Line → List ℕ
+
+abbrev pub columns : List Column
+columns =
+    record { width = 3; side = at-right; shows = λ l. decimal (l .goal) }
+    ∷ record { width = 5; side = at-right; shows = λ l. decimal (l .index) }
+    ∷ record { width = 10; side = at-left; shows = λ l. word (l .ending) }
+    ∷ record { width = 5; side = at-right; shows = λ l. number (l .ending) }
+    ∷ []
+
+abbrev pub blanks : ℕ → List ℕ
+blanks n = replicate n 32
+
+abbrev pub in-column : Side → (width : ℕ) → List ℕ → List ℕ
+in-column at-left width bs = bs ++ blanks (width - length bs)
+in-column at-right width bs = blanks (width - length bs) ++ bs
+
+abbrev pub across : List Column → Line → List ℕ
+across [] l = []
+across (c ∷ []) l = in-column (c .side) (c .width) (c .shows l)
+across (c ∷ d ∷ cs) l = in-column (c .side) (c .width) (c .shows l) ++ ascii " " ++ across (d ∷ cs) l
+
+abbrev pub width-of : List Column → ℕ
+width-of [] = 0
+width-of (c ∷ []) = c .width
+width-of (c ∷ d ∷ cs) = c .width + 1 + width-of (d ∷ cs)
+
+-- "each line 26 bytes and a newline"
+abbrev pub page-line : Line → List ℕ
+page-line l = across columns l ++ ascii "\n"
+
+abbrev pub blank-line : List ℕ
+blank-line = blanks (width-of columns) ++ ascii "\n"
+
+abbrev pub blank-lines : ℕ → List ℕ
+blank-lines zero = []
+blank-lines (suc n) = blank-line ++ blank-lines n
+
+abbrev pub page-lines : List Line → List ℕ
+page-lines [] = []
+page-lines (l ∷ ls) = page-line l ++ page-lines ls
+
+-- "pages of 60 lines"
+abbrev pub lines-a-page : ℕ
+lines-a-page = 60
+
+-- how many lines are left of the page that n lines end on; none where they fill it, and none where there are none
+abbrev pub lines-left : ℕ → ℕ
+lines-left n = (lines-a-page - n % lines-a-page) % lines-a-page
+
+-- "The last page is filled up with blank lines. An empty page is never written."
+abbrev pub pages : List Line → List ℕ
+pages ls = page-lines ls ++ blank-lines (lines-left (length ls))
+
+-- what the program prints: "Only accepted books are paged"
 abbrev pub listing : (bytes : List ℕ) → List ℕ
-listing bytes = elim (lines bytes) [
-  | refused n ↦ ascii "refused" ++ ascii " " ++ decimal n ++ ascii "\n"
-  | accepted ls ↦ lines-bytes ls
-]
+listing bytes = elim (lines bytes) [ refused n ↦ refusal-bytes n | accepted ls ↦ pages ls ]

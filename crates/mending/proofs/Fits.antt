@@ -10,7 +10,7 @@ use Rattle.definitions.specs.Refusal.{Refusable, refused, accepted}
 use Rattle.definitions.specs.Ascii.{ascii}
 use Rattle.definitions.specs.Listing.{decimal}
 use Rattle.definitions.specs.Mend.{Mended, mend}
-use Rattle.definitions.proofs.Digits.{decimal-short-2}
+use Rattle.definitions.proofs.Digits.{decimal-short}
 use Rattle.definitions.proofs.MendFits.{mend-fits, mend-number}
 use Rattle.pen.specs.Pen.{Pen, pen, put-all}
 use Rattle.pen.specs.Refusals.{refusal-line}
@@ -41,7 +41,7 @@ unfolding refusal-line
 refusal-short n h =
     omega (
       arith,
-      decimal-short-2 n h,
+      decimal-short 1 n h,
       length-append (ascii "refused ") (decimal n),
       length-append (ascii "refused " ++ decimal n) (10 ∷ []),
     )
