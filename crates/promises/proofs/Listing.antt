@@ -1,34 +1,38 @@
 -- The listing is whole. Each peek is made on a sound forest and ends neither in stop 0 nor in InvalidAnswer (`Asserts`); what it found is
--- stored (`ListingStored`), and at most 256 answers are held, so that 257 lines are enough for a goal.
-use Prim.Native.Nat.{ℕ, zero, suc, _+_, _-_, _≤_, _<_}
+-- stored (`ListingStored`), and at most 256 answers are held, so that 257 lines are enough for a goal. A stop has a listed
+-- number (`Total`).
+use Prim.Native.Nat.{ℕ, zero, suc, _+_, _-_, _*_, _≤_, _<_}
 use native.Mathlib.Omega.{arith}
-use mathlib.Core.Path.{_≡_, refl, subst}
+use mathlib.Core.Path.{_≡_, refl, sym, subst, _∙_}
 use mathlib.Core.Bool.{Bool, true, false, true≢false}
 use mathlib.Core.Logic.{inr}
 use mathlib.Core.List.{List, [], _∷_, _++_, append-nil}
-use lib.ListN.{length}
+use lib.ListN.{length, length-append}
 use Rattle.definitions.specs.Refusal.{Refusable, refused, accepted}
-use Rattle.definitions.specs.Stop.{stop, go}
+use Rattle.definitions.specs.Stop.{stop}
 use Rattle.definitions.specs.Book.{Book}
 use Rattle.definitions.specs.Desk.{desk, make-at-desk}
-use Rattle.definitions.specs.Tables.{Forest}
+use Rattle.definitions.specs.Tables.{Forest, with-mark}
 use Rattle.definitions.specs.Turn.{Ending, found, fail, cut, stopped}
 use Rattle.definitions.specs.Forest.{make-of, Opened, is-invalid, Peeked, peek-rounds}
 use Rattle.definitions.specs.Listing.{listing-rounds, listing-turns, listing-clock, Line, line, Next, next-index, next-goal, the-end, next}
-use Rattle.definitions.specs.Listing.{Listed, list-from, list-goal, list-goals, lines}
+use Rattle.definitions.specs.Listing.{Listed, list-from, list-opened, list-goal, list-goals, lines}
 use Rattle.definitions.specs.Model.{Each}
 use Rattle.definitions.proofs.Desk.{made-as-read}
 use Rattle.definitions.proofs.Members.{each-append}
 use Rattle.laws.proofs.Bools.{case-bool}
-use Rattle.asserts.proofs.Safe.{case-safe}
+use Rattle.asserts.proofs.Safe.{NotZero, case-safe}
 use Rattle.asserts.proofs.Sound.{Reached, SoundForest}
 use Rattle.asserts.proofs.Making.{makes}
 use Rattle.asserts.proofs.Unwinding.{Ended}
-use Rattle.asserts.proofs.Searches.{Fine, mark-kept}
+use Rattle.asserts.proofs.Searches.{mark-kept}
 use Rattle.asserts.proofs.Peeks.{PeekWell, peeks-well}
 use Rattle.asserts.proofs.Bounds.{answers-at-most}
 use Rattle.asserts.proofs.Reading.{made-sound}
-use Rattle.promises.proofs.ListingStored.{is-found, PeekStored, peek-stored}
+use Rattle.promises.proofs.ListingStored.{is-found, PeekStored, peek-stored, peek-index}
+use Rattle.promises.proofs.Listed.Searches.{Opens, rounds-end, opened-ends}
+use Rattle.promises.proofs.Total.{table-listed, ending-listed}
+use Rattle.promises.specs.Total.{StopNumber, EndingListed}
 use Rattle.promises.specs.ListingWhole.{MayStand, StartsAt, Behind, InOrder, Whole, ListedAs, ListingWhole}
 
 module _ {B : Type 0} (P : B → Type 0) where
@@ -56,33 +60,47 @@ abbrev Follows : (goals goal : ℕ) → (stops : Bool) → List Line → Type 0
 Follows goals goal true rest = rest ≡ []
 Follows goals goal false rest = Whole goals (suc goal) rest
 
+-- a stop has a listed number
+stop-is-listed : (e : Ending) (left n : ℕ) → EndingListed e left → e ≡ stopped n → StopNumber n
+stop-is-listed e left n x q = subst (λ z. EndingListed z left) q x .0
+
+-- and nothing else leaves a mark
+stays-unmarked : (e : Ending) (left : ℕ) → EndingListed e left → (next e ≡ the-end → ⊥) → left ≡ 0
+stays-unmarked (found a) left x h = x
+stays-unmarked (fail r) left x h = x
+stays-unmarked cut left x h = x
+stays-unmarked (stopped n) left x h = absurd (h refl)
+
+index-goes-on : next-index ≡ the-end → ⊥
+index-goes-on q = let z : _≡_ {A = ℕ} 0 1 = cc in omega arith
+
+goal-goes-on : next-goal ≡ the-end → ⊥
+goal-goes-on q = let z : _≡_ {A = ℕ} 0 1 = cc in omega arith
+
 -- the lines of a goal from an index on; the book has n goals
 record GoalListed (n goal index : ℕ) (r : Listed) : Type 0 where
   sound : SoundForest n (r .forest)
+  unmarked : r .stops ≡ false → r .forest .mark ≡ 0
   first : FirstAt goal index (r .lines)
-  may-stand : Each MayStand (r .lines)
+  may-stand : Each (MayStand n) (r .lines)
+  few : length (r .lines) + index ≤ 257
   in-order : (rest : List Line) → Follows n goal (r .stops) rest → InOrder n (r .lines ++ rest)
 
--- a line of the goal: its index, and its ending, which is no assert and not invalid
-record GoalLine (index at : ℕ) (ending : Ending) : Type 0 where
+-- a line of the goal: its index, and that it may stand
+record GoalLine (n goal index at : ℕ) (ending : Ending) : Type 0 where
   not-before : index ≤ at
-  fine : Fine ending
-  valid : is-invalid ending ≡ false
+  stands : MayStand n (line goal at ending)
 
-stands : {index : ℕ} (goal at : ℕ) (ending : Ending) → GoalLine index at ending → MayStand (line goal at ending)
-stands goal at ending l = record {
-  no-bound-ran-out = λ e. subst Fine e (l .fine);
-  not-invalid = λ e. absurd (true≢false (subst (λ z. is-invalid z ≡ false) e (l .valid)));
-}
-
-module _ (n goal index at : ℕ) (ending : Ending) (here : GoalLine index at ending) where
+module _ (n goal index at : ℕ) (ending : Ending) (here : GoalLine n goal index at ending) where
   -- after a yes or maybe: the lines from a later index on
   more-lines : next ending ≡ next-index → (r : Listed) → GoalListed n goal (suc at) r →
       GoalListed n goal index (record { lines = line goal at ending ∷ r .lines; stops = r .stops; forest = r .forest })
   more-lines e r x = record {
     sound = x .sound;
+    unmarked = x .unmarked;
     first = (refl, here .not-before);
-    may-stand = (stands goal at ending here, x .may-stand);
+    may-stand = (here .stands, x .may-stand);
+    few = let a = x .few in let b = here .not-before in omega arith;
     in-order = λ rest y. (rw e (behind (r .lines) rest (x .first)), x .in-order rest y);
   }
     where
@@ -90,13 +108,18 @@ module _ (n goal index at : ℕ) (ending : Ending) (here : GoalLine index at end
       behind [] rest f = absurd f
       behind (l ∷ ls) rest f = f
 
+  one-line : 1 + index ≤ 257
+  one-line = let a = here .not-before in let b = here .stands .few-indices in omega arith
+
   -- after a stop nothing, after any other ending the next goal
-  last-line : (f : Forest) → SoundForest n f → next ending ≡ next-goal →
+  last-line : (f : Forest) → SoundForest n f → f .mark ≡ 0 → next ending ≡ next-goal →
       GoalListed n goal index (record { lines = line goal at ending ∷ []; stops = false; forest = f })
-  last-line f s e = record {
+  last-line f s m e = record {
     sound = s;
+    unmarked = λ q. m;
     first = (refl, here .not-before);
-    may-stand = (stands goal at ending here, tt);
+    may-stand = (here .stands, tt);
+    few = one-line;
     in-order = λ rest y. (rw e (y .starts), y .in-order);
   }
 
@@ -104,8 +127,10 @@ module _ (n goal index at : ℕ) (ending : Ending) (here : GoalLine index at end
       GoalListed n goal index (record { lines = line goal at ending ∷ []; stops = true; forest = f })
   stop-line f s e = record {
     sound = s;
+    unmarked = λ q. absurd (true≢false q);
     first = (refl, here .not-before);
-    may-stand = (stands goal at ending here, tt);
+    may-stand = (here .stands, tt);
+    few = one-line;
     in-order = λ rest y. rw (y, e) (tt, tt);
   }
 
@@ -120,39 +145,62 @@ module _ (n goal t : ℕ) where
       let most = answers-at-most (w .ended .sound) t own made in
       ((omega arith), record { sound = w .ended .sound; own = own; is-made = made; reached = inr (omega arith) })
 
-  from-listed : (more index : ℕ) (f : Forest) → index ≤ 256 → 257 ≤ index + more → Ended n t index f →
+  from-listed : (more index : ℕ) (f : Forest) → goal < n → index ≤ 256 → 257 ≤ index + more → f .mark ≡ 0 → Ended n t index f →
       GoalListed n goal index (list-from more goal t index f)
-  from-listed zero index f few enough x = absurd (omega arith)
-  from-listed (suc more) index f few enough x =
+  from-listed zero index f lt few enough m x = absurd (omega arith)
+  from-listed (suc more) index f lt few enough m x =
       let p = peek-rounds (listing-rounds - 1) listing-turns 0 t index f in
       let w = peeks-well n t listing-turns (listing-rounds - 1) 0 index f x in
       let y = peek-stored t listing-turns (listing-rounds - 1) 0 index f in
+      let ends = rounds-end (listing-rounds - 1) listing-turns 0 t index f m .ends in
+      let listed = ending-listed (p .ending) (p .forest .mark) ends (w .fine) in
       let later = y .not-before in
-      let here : GoalLine index (p .index) (p .ending) = record { not-before = later; fine = w .fine; valid = w .valid } in
+      let here : GoalLine n goal index (p .index) (p .ending) = record {
+        not-before = later;
+        stands = record {
+          of-the-book = lt;
+          few-indices = peek-index n t listing-turns (listing-rounds - 1) index f few x;
+          stop-listed = λ k e. stop-is-listed (p .ending) (p .forest .mark) k listed e;
+          not-invalid = λ e. true≢false (subst (λ z. is-invalid z ≡ false) e (w .valid));
+        };
+      } in
+      let stays = stays-unmarked (p .ending) (p .forest .mark) listed in
       case-next (GoalListed n goal index) (next (p .ending))
       (λ e.
       let after = found-next index p w y e in
-      let rest = from-listed more (suc (p .index)) (p .forest) (after .0) (omega arith) (after .1) in
+      let unmarked = stays (λ q. index-goes-on (sym e ∙ q)) in
+      let rest = from-listed more (suc (p .index)) (p .forest) lt (after .0) (omega arith) unmarked (after .1) in
       more-lines n goal index (p .index) (p .ending) here e _ rest)
-      (λ e. last-line n goal index (p .index) (p .ending) here (p .forest) (w .ended .sound) e)
+      (λ e. last-line n goal index (p .index) (p .ending) here (p .forest) (w .ended .sound) (stays (λ q. goal-goes-on (sym e ∙ q))) e)
       (λ e. stop-line n goal index (p .index) (p .ending) here (p .forest) (w .ended .sound) e)
 
--- the second half of `list-goal`
-abbrev list-opened : (goal : ℕ) → Opened → Listed
-list-opened goal o = elim (o .table) [
-  | stop n ↦ record { lines = line goal 0 (stopped n) ∷ []; stops = true; forest = o .forest }
-  | go t ↦ list-from 257 goal t 0 (o .forest)
-]
+module _ (n goal : ℕ) (f : Forest) (s : SoundForest n f) (lt : goal < n) where
+  -- an open that stops does so with 22
+  open-stops : (m : ℕ) → NotZero m → Opens 0 (stop m) m
+      → GoalListed n goal 0 (list-opened goal (record { table = stop m; forest = with-mark f m }))
+  open-stops m z h =
+      let is = table-listed (stop m) m h z .0 in
+      stop-line n goal 0 0 (stopped m) (record {
+        not-before = omega arith;
+        stands = record {
+          of-the-book = lt;
+          few-indices = omega arith;
+          stop-listed = λ k e. stop-is-listed (stopped m) m k ((omega arith, omega arith), refl) e;
+          not-invalid = λ e. true≢false (subst (λ z. is-invalid z ≡ false) e refl);
+        };
+      }) _ (mark-kept m s .sound) refl
 
-goal-listed : (n goal : ℕ) (f : Forest) → SoundForest n f → goal < n → GoalListed n goal 0 (list-goal goal f)
-goal-listed n goal f s lt =
-    let few = s .few-strands in
-    case-safe (λ (o : Opened). GoalListed n goal 0 (list-opened goal o)) (makes s 0 goal (omega arith) lt)
-    (λ m z. stop-line n goal 0 0 (stopped m) (record { not-before = omega arith; fine = z; valid = refl }) _ (mark-kept m s .sound) refl)
-    (λ r x.
-    let reached : Reached (x .own) 0 = inr (omega arith) in
-    let made : Ended n (r .0) 0 (r .1) = record { sound = x .kept .sound; own = x .own; is-made = x .is-made; reached = reached } in
-    from-listed n goal (r .0) 257 0 (r .1) (omega arith) (omega arith) made)
+  goal-listed : f .mark ≡ 0 → GoalListed n goal 0 (list-goal goal f)
+  goal-listed m =
+      let few = s .few-strands in
+      case-safe (λ (o : Opened). Opens 0 (o .table) (o .forest .mark) → GoalListed n goal 0 (list-opened goal o))
+      (makes s 0 goal (omega arith) lt)
+      (λ k z h. open-stops k z h)
+      (λ r x h.
+      let reached : Reached (x .own) 0 = inr (omega arith) in
+      let made : Ended n (r .0) 0 (r .1) = record { sound = x .kept .sound; own = x .own; is-made = x .is-made; reached = reached } in
+      from-listed n goal (r .0) 257 0 (r .1) lt (omega arith) (omega arith) h made)
+      (opened-ends f goal m)
 
 -- All goals.
 
@@ -161,25 +209,26 @@ starts-first n goal index [] rest x = absurd x
 starts-first n goal index (l ∷ ls) rest x = x .0
 
 -- a goal's lines, and those behind them
-goal-and-rest : (n goal : ℕ) (r : Listed) → GoalListed n goal 0 r →
-    (rest : List Line) → Follows n goal (r .stops) rest → Each MayStand rest → Whole n goal (r .lines ++ rest)
-goal-and-rest n goal r x rest y m = record {
+goal-and-rest : (n goal : ℕ) (r : Listed) → GoalListed n goal 0 r → (rest : List Line) → Follows n goal (r .stops) rest
+    → Each (MayStand n) rest → length rest + 257 * suc goal ≤ 257 * n → Whole n goal (r .lines ++ rest)
+goal-and-rest n goal r x rest y m few = record {
   starts = starts-first n goal 0 (r .lines) rest (x .first);
   in-order = x .in-order rest y;
-  may-stand = each-append MayStand (r .lines) rest (x .may-stand) m;
+  may-stand = each-append (MayStand n) (r .lines) rest (x .may-stand) m;
+  few = let a = x .few in omega (arith, length-append (r .lines) rest);
 }
 
-goals-listed : (n left goal : ℕ) (f : Forest) → goal + left ≡ n → SoundForest n f → Whole n goal (list-goals left goal f)
-goals-listed n zero goal f e s = record { starts = omega arith; in-order = tt; may-stand = tt }
-goals-listed n (suc left) goal f e s =
+goals-listed : (n left goal : ℕ) (f : Forest) → goal + left ≡ n → SoundForest n f → f .mark ≡ 0 → Whole n goal (list-goals left goal f)
+goals-listed n zero goal f e s m = record { starts = omega arith; in-order = tt; may-stand = tt; few = omega arith }
+goals-listed n (suc left) goal f e s m =
     let here = list-goal goal f in
-    let x = goal-listed n goal f s (omega arith) in
+    let x = goal-listed n goal f s (omega arith) m in
     case-bool (Whole n goal) (here .stops)
-    (λ q. subst (Whole n goal) (append-nil (here .lines)) (goal-and-rest n goal here x [] (rw q refl) tt))
+    (λ q. subst (Whole n goal) (append-nil (here .lines)) (goal-and-rest n goal here x [] (rw q refl) tt (omega arith)))
     (λ q.
     let rest = list-goals left (suc goal) (here .forest) in
-    let y = goals-listed n left (suc goal) (here .forest) (omega arith) (x .sound) in
-    goal-and-rest n goal here x rest (rw q y) (y .may-stand))
+    let y = goals-listed n left (suc goal) (here .forest) (omega arith) (x .sound) (x .unmarked q) in
+    goal-and-rest n goal here x rest (rw q y) (y .may-stand) (y .few))
 
 pub listing-whole : ListingWhole
 listing-whole bytes = on (desk bytes) refl
@@ -192,4 +241,4 @@ listing-whole bytes = on (desk bytes) refl
     on (accepted book) e =
         let made = made-as-read bytes listing-clock (made-of book) (rw (e, make-at-desk, make-of)) in
         let sound = made-sound bytes listing-clock (made-of book) made in
-        rw (e, lines, make-at-desk, make-of) (goals-listed (length book) (length book) 0 (made-of book) (omega arith) sound)
+        rw (e, lines, make-at-desk, make-of) (goals-listed (length book) (length book) 0 (made-of book) (omega arith) sound refl)

@@ -1,9 +1,11 @@
 -- An answer that a search or a peek found is stored at its index: the table has more answers than that. Only the end of `root_answer`
--- gives one, and reads it from the table; putting the search back changes queues alone.
+-- gives one, and reads it from the table; putting the search back changes queues alone. So are the answers that a peek passes over: it ends
+-- at index 256 at most.
 use Prim.Native.Nat.{ℕ, zero, suc, _≤_, _<_}
 use native.Mathlib.Omega.{arith}
 use mathlib.Core.Path.{_≡_, refl, sym, ap, subst, _∙_}
 use mathlib.Core.Bool.{Bool, true, false, false≢true}
+use mathlib.Core.Logic.{inr}
 use mathlib.Core.Option.{Option, none, some}
 use mathlib.Core.List.{[], _∷_}
 use lib.ListN.{length, getElem?, set}
@@ -24,6 +26,9 @@ use Rattle.laws.proofs.Options.{same-some, case-option}
 use Rattle.laws.proofs.Lists.{place-under}
 use Rattle.laws.proofs.Bools.{case-bool}
 use Rattle.asserts.proofs.Safe.{case-stops, stop-go, unwrapped}
+use Rattle.asserts.proofs.Unwinding.{Ended}
+use Rattle.asserts.proofs.Searches.{root-answers}
+use Rattle.asserts.proofs.Bounds.{answers-at-most}
 
 -- how many answers a table has, if it is made
 abbrev answers-of : Option Table → ℕ
@@ -175,3 +180,38 @@ module _ (root limit : ℕ) where
       case-bool (PeekStored root index) (is-exceeded (r .ending))
       (λ e. later-stored (p .not-before) (peek-stored more (suc k) (r .index) (r .forest)))
       (λ e. p)
+
+-- The last index of a peek, on a sound forest. A search can leave the table floundered and without answers: what was passed over was there
+-- before it.
+module _ (n root limit : ℕ) where
+  abbrev EndsFew : Peeked → Type 0
+  EndsFew p = (p .index ≤ 256) × Ended n root (p .index) (p .forest)
+
+  skip-few : (more k index : ℕ) (f : Forest) → index ≤ 256 → Ended n root index f → EndsFew (skip-invalid more limit k root index f)
+  skip-few zero k index f few x = (few, root-answers n root index limit f x .ended)
+  skip-few (suc more) k index f few x =
+      let w = root-answers n root index limit f x in
+      case-bool EndsFew (is-invalid (root-answer limit root index f .ending))
+      (λ e.
+      let y = w .when-invalid e in
+      let most = answers-at-most (w .ended .sound) root (y .own) (y .is-made) in
+      let later = y .enough in
+      skip-few more k (suc index) (root-answer limit root index f .forest) (omega arith) (record {
+        sound = w .ended .sound;
+        own = y .own;
+        is-made = y .is-made;
+        reached = inr later;
+      }))
+      (λ e. (few, w .ended))
+
+  peek-few : (more k index : ℕ) (f : Forest) → index ≤ 256 → Ended n root index f → EndsFew (peek-rounds more limit k root index f)
+  peek-few zero k index f few x =
+      let p = skip-few 256 k index f few x in
+      case-bool EndsFew (is-exceeded (skip-invalid 256 limit k root index f .ending)) (λ e. p) (λ e. p)
+  peek-few (suc more) k index f few x =
+      let r = skip-invalid 256 limit k root index f in
+      let p = skip-few 256 k index f few x in
+      case-bool EndsFew (is-exceeded (r .ending)) (λ e. peek-few more (suc k) (r .index) (r .forest) (p .0) (p .1)) (λ e. p)
+
+  pub peek-index : (more index : ℕ) (f : Forest) → index ≤ 256 → Ended n root index f → peek-rounds more limit 0 root index f .index ≤ 256
+  peek-index more index f few x = peek-few more 0 index f few x .0

@@ -80,7 +80,7 @@ listed-number (suc n) k z =
     (ap (λ (b : Bool). b || and-then (leb 21 (suc n)) (leb (suc n) 29)) (sym (eqb·suc-zero n)) ∙ k) in
     (leb-true 21 (suc n) (x .0), leb-true (suc n) 29 (x .1))
 
-table-listed : (t : Stops TableIndex) (left : ℕ) → Opens 0 t left → NoStop t → TableListed t left
+pub table-listed : (t : Stops TableIndex) (left : ℕ) → Opens 0 t left → NoStop t → TableListed t left
 table-listed (stop n) left (h, k) z = (on (one-of (0 ∷ 22 ∷ []) n h), k)
   where
     on : OneOf (0 ∷ 22 ∷ []) n → n ≡ 22
@@ -89,7 +89,7 @@ table-listed (stop n) left (h, k) z = (on (one-of (0 ∷ 22 ∷ []) n h), k)
     on (inr (inr none)) = absurd none
 table-listed (go t) left h z = h
 
-ending-listed : (e : Ending) (left : ℕ) → Ends 0 e left → Fine e → EndingListed e left
+pub ending-listed : (e : Ending) (left : ℕ) → Ends 0 e left → Fine e → EndingListed e left
 ending-listed (found a) left h z = h
 ending-listed (fail e) left h z = h
 ending-listed cut left h z = h

@@ -1,7 +1,7 @@
 -- The listing is whole (document 01, "The listing program"): for every byte string it is refused as the desk refuses it, or its lines are
--- those of the book's goals, one after the other and each to its end. No line says stop 0, so that no bound ran out, and none says
--- "invalid". `Listing` of proofs/ has the proof.
-use Prim.Native.Nat.{ℕ, suc, _<_}
+-- those of the book's goals, one after the other and each to its end. Every stop is one of the listed numbers, so that no bound ran out,
+-- and no line says "invalid". `Listing` of proofs/ has the proof.
+use Prim.Native.Nat.{ℕ, suc, _+_, _*_, _≤_, _<_}
 use mathlib.Core.Path.{_≡_}
 use mathlib.Core.List.{List, [], _∷_}
 use lib.ListN.{length}
@@ -12,10 +12,13 @@ use Rattle.definitions.specs.Logic.{InvalidAnswer}
 use Rattle.definitions.specs.Turn.{fail, stopped}
 use Rattle.definitions.specs.Listing.{Line, Next, next-index, next-goal, the-end, next, lines}
 use Rattle.definitions.specs.Model.{Each}
+use Rattle.promises.specs.Total.{StopNumber}
 
--- a line that may stand in a listing
-pub record MayStand (l : Line) : Type 0 where
-  pub no-bound-ran-out : l .ending ≡ stopped 0 → ⊥
+-- a line that may stand in the listing of a book of so many goals
+pub record MayStand (goals : ℕ) (l : Line) : Type 0 where
+  pub of-the-book : l .goal < goals
+  pub few-indices : l .index ≤ 256
+  pub stop-listed : (n : ℕ) → l .ending ≡ stopped n → StopNumber n
   pub not-invalid : l .ending ≡ fail InvalidAnswer → ⊥
 
 -- The lines of the goals from this one on begin with a line of it; there are none only behind the last goal.
@@ -36,11 +39,12 @@ abbrev pub InOrder : (goals : ℕ) → List Line → Type 0
 InOrder goals [] = Unit {0}
 InOrder goals (l ∷ ls) = Behind goals l (next (l .ending)) ls × InOrder goals ls
 
--- the lines of the goals from this one on
+-- the lines of the goals from this one on; a goal has at most 257
 pub record Whole (goals goal : ℕ) (ls : List Line) : Type 0 where
   pub starts : StartsAt goals goal ls
   pub in-order : InOrder goals ls
-  pub may-stand : Each MayStand ls
+  pub may-stand : Each (MayStand goals) ls
+  pub few : length ls + 257 * goal ≤ 257 * goals
 
 -- what the desk takes, and what is listed
 abbrev pub ListedAs : Refusable Book → Refusable (List Line) → Type 0
