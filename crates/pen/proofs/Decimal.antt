@@ -8,7 +8,7 @@ use mathlib.Core.List.{List, [], _∷_, _++_, append-assoc, append-nil}
 use borrow.Author.Tests.{lt-ltb}
 use Rattle.io.specs.Digits.{glyph, Fewest}
 use Rattle.io.specs.Digits.{digits as spelt}
-use Rattle.definitions.specs.Listing.{digits, decimal}
+use Rattle.definitions.specs.Listing.{digits, decimal, in-column, at-right}
 use Rattle.pen.specs.Pen.{Pen, put-all}
 
 glyph-digit : (d : ℕ) → d < 10 → glyph d ≡ 48 + d
@@ -54,3 +54,8 @@ fewest-decimal n (suc k) f =
 pub put-number : (n r : ℕ) (text : List ℕ) (p q : Pen) → Fewest 10 1 n r → text ≡ spelt 10 r n → q ≡ put-all text p
     → q ≡ put-all (decimal n) p
 put-number n r text p q f e g = g ∙ ap (λ (l : List ℕ). put-all l p) (e ∙ fewest-decimal n r f)
+
+-- the same in a column
+pub put-number-right : (width n r : ℕ) (text : List ℕ) (p q : Pen) → Fewest 10 1 n r → text ≡ spelt 10 r n
+    → q ≡ put-all (in-column at-right width text) p → q ≡ put-all (in-column at-right width (decimal n)) p
+put-number-right width n r text p q f e g = g ∙ ap (λ (l : List ℕ). put-all (in-column at-right width l) p) (e ∙ fewest-decimal n r f)

@@ -3,3 +3,4 @@ pub mod Decimal
 pub mod Sentences
 pub mod Placing
 pub mod Goals
+pub mod Filling

@@ -1,12 +1,13 @@
 // Writing to standard output through a buffer that the caller lends. What is put down stays in the buffer until it is full; then it is
 // written out, and the buffer is used again from its start, so that nothing is lost however much is put down. `at` is how much of the
 // buffer is in use: each function takes it and returns the new one. At the end, `flush` writes out what is left. Where standard output
-// takes no more, what is left in the buffer can't be kept, and `flush` alone says so: a program to which that matters lends a buffer
-// that holds all it says.
+// takes no more, what a full buffer holds is lost, and standard error tells so at once; of what is left at the end `flush` says whether it
+// was written.
 //
 // No contract can speak of what is written: a `flush` that answers true and writes nothing, or a `byte` that never writes a full buffer
 // out, would meet those below. The programs' runs guard it, whose output is held to their files `stdout`: `reading_tests` says more than
 // its buffer holds, so that `byte` has to write it out, and the last words of every program come by `flush`.
+pub mod columns;
 pub mod places;
 pub mod refusals;
 
@@ -42,6 +43,16 @@ pub fn tell(out: &[u8], at: usize) -> bool
     send(2, out, at)
 }
 
+// A full buffer is written out, and where that fails, it is told.
+fn leave(out: &[u8], at: usize) {
+    if !flush(out, at) {
+        io::write_all(
+            2,
+            b"standard output can't be written: what is printed is not whole\n",
+        );
+    }
+}
+
 pub fn byte(out: &mut [u8], at: usize, b: u8) -> usize
     ensures { λ r. ⌜ pen (now (out .exit)) r ≡ put b (pen (now (out .entry)) at) ⌝ }
 {
@@ -49,7 +60,7 @@ pub fn byte(out: &mut [u8], at: usize, b: u8) -> usize
         out[at] = b;
         return at + 1;
     }
-    flush(out, at);
+    leave(out, at);
     if 0 < out.len() {
         out[0] = b;
         return 1;

@@ -17,8 +17,8 @@ same-length c = search needs
 returns : tie.Need-returns
 returns c = put-room (c .before .before .args .out .now) (c .before .before .args .at) (c .before .before .args .b) (omega arith)
 
-flush-requires : tie.Need-flush-requires
-flush-requires c κs = search needs
+leave-requires : tie.Need-leave-requires
+leave-requires c κs = search needs
 
 slice-write-out-2 : tie.Need-slice-write-out-2
 slice-write-out-2 c = search needs
@@ -47,7 +47,7 @@ byte-spec =
     add-result
     same-length
     returns
-    flush-requires
+    leave-requires
     slice-write-out-2
     same-length-2
     returns-2
