@@ -19,7 +19,7 @@ use Rattle.definitions.specs.Logic.{most-strands, build-table, get-or-create-ta
 use Rattle.definitions.specs.Turn.{stopped}
 use Rattle.definitions.specs.Forest.{is-marked, not-made, index-above, Opened, opened, open-goal, Peeked, peek, peek-rounds}
 use Rattle.definitions.specs.Listing.{listing-rounds, listing-turns, Line, line, Next, next-index, next-goal, the-end, next}
-use Rattle.definitions.specs.Listing.{Listed, list-from, list-goal, list-goals}
+use Rattle.definitions.specs.Listing.{Listed, list-from, list-opened, list-goal, list-goals}
 use Rattle.laws.proofs.Lists.{place-under}
 use Rattle.laws.proofs.Options.{case-option}
 use Rattle.asserts.proofs.Safe.{Safe, stops, goes, stop-go}
@@ -174,13 +174,6 @@ module _ (n : ℕ) (f : Forest) (s : SoundForest n f) (goal : ℕ) (named : goal
 
   pub opens-table : Opens (opened 0 f goal)
   opens-table = both (makes s 0 goal (let o = s .few-strands in omega arith) named) (table-marks 0 f goal)
-
--- what is listed from an open on
-abbrev list-opened : (goal : ℕ) → Opened → Listed
-list-opened goal o = elim (o .table) [
-  | stop n ↦ record { lines = line goal 0 (stopped n) ∷ []; stops = true; forest = o .forest }
-  | go t ↦ list-from 257 goal t 0 (o .forest)
-]
 
 module _ (goal : ℕ) (f g : Forest) where
   pub goal-stopped : (n : ℕ) → opened 0 f goal ≡ record { table = stop n; forest = g }

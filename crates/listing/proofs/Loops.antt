@@ -2,22 +2,23 @@
 use Prim.Native.Nat.{ℕ, suc, _+_, _-_, _*_, _≤_, _<_}
 use native.Mathlib.Omega.{arith}
 use mathlib.Core.Bool.{Bool, true, false, _||_, true≢false, false≢true}
-use mathlib.Core.List.{List, [], _∷_, _++_, append-nil}
+use mathlib.Core.List.{List, [], _∷_}
 use mathlib.Core.Path.{_≡_, refl, sym, ap, subst, _∙_}
 use lib.Dec.{eqb, leb}
 use lib.ListN.{length, getD}
 use borrow.Author.Tests.{lt-ltb}
 use Rattle.definitions.specs.{MAX}
-use Rattle.definitions.specs.Ascii.{ascii}
 use Rattle.definitions.specs.Book.{Book}
 use Rattle.definitions.specs.Forest as said
 use Rattle.definitions.specs.Listing.{Line, line, Next, next-index, next-goal, the-end, next}
-use Rattle.definitions.specs.Listing.{list-from, list-goals, line-bytes, lines-bytes, decimal, listing, listing-clock}
+use Rattle.definitions.specs.Listing.{list-from, list-goals, page-line, blank-lines, lines-left, pages, refusal-bytes}
+use Rattle.definitions.specs.Listing.{listing, listing-clock}
 use Rattle.definitions.specs.Refusal.{Refusable, refused, accepted, _refuses_, unless}
 use Rattle.definitions.specs.Tables as tables
 use Rattle.definitions.specs.Turn.{stopped}
 use Rattle.definitions.proofs.Refusal.{same-accepted, not-accepted}
 use Rattle.pen.specs.Pen.{Pen, pen, put-all}
+use Rattle.pen.specs.Refusals.{refusal-line}
 use Rattle.pen.proofs.Putting.{put-nothing, put-all-append}
 use Rattle.search.specs.RootAnswer.{one-more-by, one-more}
 use Rattle.forest.specs.declared.Forest.{Forest}
@@ -32,51 +33,63 @@ use Rattle.forest.specs.Open.{OpenSays}
 use Rattle.forest.specs.ServeCalls.{ServeCallsSays}
 use Rattle.forest.specs.View.{view, Sound}
 use Rattle.listing.specs.declared.goals.Place.{Place}
-use Rattle.listing.specs.Lines.{reply-line, refusal-line}
+use Rattle.listing.specs.Lines.{reply-line, next-line, pages-behind}
 use Rattle.listing.specs.Goals.{Ready, Stands, goal-count, rest-lines, first-place, ended-place, opened-place, opened-bytes, OpenedTo}
 use Rattle.listing.specs.Goals.{peek-put, next-place, ToldTo}
 use Rattle.listing.proofs.Listing.{goals-on, lines-behind, peeked-lines}
 use Rattle.listing.proofs.Opens.{goal-past, goal-stops, goal-stands, goal-named, same-count, goal-lists}
 use Rattle.listing.proofs.Told.{asks-room, tells-room, one-peek, PeekTells, peek-tells}
-use Rattle.listing.proofs.Words.{stop-line}
+use Rattle.listing.proofs.Pages.{few-lines, behind-next, behind-last, behind-none}
+use Rattle.listing.proofs.Replies.{stop-line}
 
 -- WHERE THE LISTING IS: f, s at the start; g, q now
 
 -- all that is to be put down
 abbrev whole : Forest → Pen → Pen
-whole f s = put-all (lines-bytes (rest-lines 0 f)) s
+whole f s = put-all (pages (rest-lines 0 f)) s
+
+-- these lines are left, and so many are on the page
+abbrev Left : Forest → Pen → (lines : ℕ) → List Line → Pen → Type 0
+Left f s lines ls q = put-all (pages-behind lines ls) q ≡ whole f s
 
 -- between two goals
-pub record Amid (f : Forest) (s : Pen) (g : Forest) (goal : ℕ) (q : Pen) : Type 0 where
+pub record Amid (f : Forest) (s : Pen) (g : Forest) (goal lines : ℕ) (q : Pen) : Type 0 where
   pub ready : Ready g
   pub same-goals : goal-count g ≡ goal-count f
-  pub same-bytes : put-all (lines-bytes (rest-lines goal g)) q ≡ whole f s
+  pub same-bytes : Left f s lines (rest-lines goal g) q
 
 -- between two lines of a goal: the rest of them, whatever the bound that is left, and behind it the goals after this one
-pub record Midway (f : Forest) (s : Pen) (g : Forest) (goal table index : ℕ) (q : Pen) : Type 0 where
+pub record Midway (f : Forest) (s : Pen) (g : Forest) (goal table index lines : ℕ) (q : Pen) : Type 0 where
   pub stands : Stands g table index
   pub same-goals : goal-count g ≡ goal-count f
   pub named : goal < goal-count f
   pub more : ℕ
   pub enough : 257 ≤ index + more
-  pub same-bytes : put-all (lines-bytes (goals-on (goal-count f - (goal + 1)) goal (list-from more goal table index (view g)))) q
-      ≡ whole f s
+  pub same-bytes : Left f s lines (goals-on (goal-count f - (goal + 1)) goal (list-from more goal table index (view g))) q
 
--- at a place
+-- at a place; the page is never full
 pub record Along (f : Forest) (s : Pen) (g : Forest) (p : Place) (q : Pen) : Type 0 where
-  pub over : p .over ≡ true → q ≡ whole f s
-  pub opens : p .over ≡ false → p .opens ≡ true → Amid f s g (p .goal) q
-  pub peeks : p .over ≡ false → p .opens ≡ false → Midway f s g (p .goal) (p .table) (p .index) q
+  pub few : p .lines < 60
+  pub over : p .over ≡ true → Left f s (p .lines) [] q
+  pub opens : p .over ≡ false → p .opens ≡ true → Amid f s g (p .goal) (p .lines) q
+  pub peeks : p .over ≡ false → p .opens ≡ false → Midway f s g (p .goal) (p .table) (p .index) (p .lines) q
 
 pub along-start : (f : Forest) (out : List ℕ) (p : Place) → Ready f → p ≡ first-place → Along f (pen out 0) f p (pen out (p .used))
 along-start f out p x e = rw e (record {
+  few = omega arith;
   over = λ z. absurd (false≢true z);
-  opens = λ y z. record { ready = x; same-goals = refl; same-bytes = refl };
+  opens = λ y z. record {
+    ready = x;
+    same-goals = refl;
+    same-bytes = ap (λ (w : List ℕ). put-all w (pen out 0)) (behind-none (rest-lines 0 f));
+  };
   peeks = λ y z. absurd (true≢false z);
 })
 
-pub along-over : (f : Forest) (s : Pen) (g : Forest) (p : Place) (q : Pen) → Along f s g p q → p .over ≡ true → q ≡ whole f s
-along-over f s g p q a e = a .over e
+-- at the end the page is filled up
+pub along-over : (f : Forest) (s : Pen) (g : Forest) (p : Place) (q r : Pen) → Along f s g p q → p .over ≡ true
+    → r ≡ put-all (blank-lines (lines-left (p .lines))) q → r ≡ whole f s
+along-over f s g p q r a e fills = fills ∙ sym (ap (λ (w : List ℕ). put-all w q) (behind-last (p .lines))) ∙ a .over e
 
 -- WHAT IS LEFT TO DO: for each goal at most an open, and a peek at each of 257 indices
 abbrev left-by : (over opens : Bool) → (goals index : ℕ) → ℕ
@@ -99,12 +112,21 @@ pub record Moved (f : Forest) (s : Pen) (p : Place) (h : Forest) (r : Place) (q 
   pub along : Along f s h r q
   pub less : left-at f r < left-at f p
 
-moved-end : (f : Forest) (s : Pen) (p : Place) (h : Forest) (used : ℕ) (q : Pen) → 0 < left-at f p → q ≡ whole f s
-    → Moved f s p h (ended-place used p) q
-moved-end f s p h used q o e = record {
-  along = record { over = λ z. e; opens = λ y z. absurd (true≢false y); peeks = λ y z. absurd (true≢false y) };
+moved-end : (f : Forest) (s : Pen) (p : Place) (h : Forest) (used lines : ℕ) (q : Pen) → 0 < left-at f p → lines < 60
+    → Left f s lines [] q → Moved f s p h (ended-place used lines p) q
+moved-end f s p h used lines q o few e = record {
+  along = record { few = few; over = λ z. e; opens = λ y z. absurd (true≢false y); peeks = λ y z. absurd (true≢false y) };
   less = o;
 }
+
+-- a line is put down, and what is behind it is left
+line-put : (f : Forest) (s : Pen) (lines : ℕ) (here : Line) (rest : List Line) (bytes : List ℕ) (q after : Pen) → lines < 60
+    → bytes ≡ page-line here → after ≡ put-all bytes q → Left f s lines (here ∷ rest) q → Left f s (next-line lines) rest after
+line-put f s lines here rest bytes q after few e put left =
+    ap (put-all (pages-behind (next-line lines) rest)) (put ∙ ap (λ (w : List ℕ). put-all w q) e)
+    ∙ sym (put-all-append (page-line here) (pages-behind (next-line lines) rest) q)
+    ∙ sym (ap (λ (w : List ℕ). put-all w q) (behind-next lines here rest few))
+    ∙ left
 
 one-up : (n : ℕ) → n + 1 ≡ suc n
 one-up n = omega arith
@@ -122,25 +144,26 @@ module _ (f : Forest) (s : Pen) (g : Forest) (p : Place) (q : Pen) (a : Along f 
 
   -- AN OPEN
   module _ (opening : p .opens ≡ true) (o : Opened) (says : OpenSays g (p .goal) o) where
-    amid : Amid f s g goal q
+    amid : Amid f s g goal (p .lines) q
     amid = a .opens live opening
 
     left-now : left-at f p ≡ goals-left * 259 + 259
     left-now = left-opens (p .over) (p .opens) goals-left (p .index) live opening
 
-    put-rest : (ls : List Line) → rest-lines goal g ≡ ls → put-all (lines-bytes ls) q ≡ whole f s
-    put-rest ls e = ap (λ (z : List Line). put-all (lines-bytes z) q) (sym e) ∙ amid .same-bytes
+    left-as : (ls : List Line) → rest-lines goal g ≡ ls → Left f s (p .lines) ls q
+    left-as ls e = subst (λ (z : List Line). Left f s (p .lines) z q) e (amid .same-bytes)
 
     opened-by-case : (z : Opening) (used : ℕ) (after : Pen) → o .opening ≡ z → after ≡ put-all (opened-bytes z goal) q
         → Moved f s p (o .forest) (opened-place z used p) after
     opened-by-case (openings.Refused n) used after e put =
         let now = left-now in
-        moved-end f s p (o .forest) used after (omega arith) (put ∙ put-rest [] (goal-past g (amid .ready) goal o says n e))
+        moved-end f s p (o .forest) used (p .lines) after (omega arith) (a .few)
+        (ap (put-all _) (put ∙ put-nothing q) ∙ left-as [] (goal-past g (amid .ready) goal o says n e))
     opened-by-case (openings.Stopped n) used after e put =
         let now = left-now in
-        moved-end f s p (o .forest) used after (omega arith)
-        (put ∙ ap (λ (w : List ℕ). put-all w q) (stop-line goal n ∙ sym (append-nil (line-bytes (line goal 0 (stopped n)))))
-        ∙ put-rest (line goal 0 (stopped n) ∷ []) (goal-stops g (amid .ready) goal o says n e))
+        moved-end f s p (o .forest) used (next-line (p .lines)) after (omega arith) (few-lines (p .lines))
+        (line-put f s (p .lines) (line goal 0 (stopped n)) [] _ q after (a .few) (stop-line goal n) put
+        (left-as (line goal 0 (stopped n) ∷ []) (goal-stops g (amid .ready) goal o says n e)))
     opened-by-case (openings.Table t) used after e put =
         let x = amid .ready in
         let lists = goal-lists g x goal o says t e in
@@ -150,6 +173,7 @@ module _ (f : Forest) (s : Pen) (g : Forest) (p : Place) (q : Pen) (a : Along f 
         let then = left-peeks (p .over) false goals-left 0 live refl in
         record {
           along = record {
+            few = a .few;
             over = λ z. absurd (true≢false (sym z ∙ live));
             opens = λ y z. absurd (false≢true z);
             peeks = λ y z. record {
@@ -160,9 +184,9 @@ module _ (f : Forest) (s : Pen) (g : Forest) (p : Place) (q : Pen) (a : Along f 
               enough = omega arith;
               same-bytes =
                   ap (put-all _) (put ∙ put-nothing q)
-                  ∙ ap (λ (n : ℕ). put-all (lines-bytes (goals-on (n - (goal + 1)) goal (list-from 257 goal t 0 (view (o .forest))))) q)
-                  (sym same)
-                  ∙ put-rest _ lists;
+                  ∙ ap (λ (n : ℕ). put-all (pages-behind (p .lines)
+                  (goals-on (n - (goal + 1)) goal (list-from 257 goal t 0 (view (o .forest))))) q) (sym same)
+                  ∙ left-as _ lists;
             };
           };
           less = omega arith;
@@ -181,7 +205,7 @@ module _ (f : Forest) (s : Pen) (g : Forest) (p : Place) (q : Pen) (a : Along f 
 
   -- A PEEK
   module _ (peeking : p .opens ≡ false) (h : Forest) (replies : List ℕ) where
-    midway : Midway f s g goal (p .table) (p .index) q
+    midway : Midway f s g goal (p .table) (p .index) (p .lines) q
     midway = a .peeks live peeking
 
     abbrev fewer : ℕ
@@ -208,27 +232,26 @@ module _ (f : Forest) (s : Pen) (g : Forest) (p : Place) (q : Pen) (a : Along f 
       abbrev here : Line
       here = line goal (x .made .index) (x .made .ending)
 
-      -- the line is put down, and what is behind it is left
       behind-put : (rest : List Line) (after : Pen)
           → after ≡ put-all (reply-line goal (getD replies 2 0) (getD replies 0 0) (getD replies 1 0)) q
           → goals-on others goal (list-from (suc fewer) goal (p .table) (p .index) (view g)) ≡ here ∷ rest
-          → put-all (lines-bytes rest) after ≡ whole f s
+          → Left f s (next-line (p .lines)) rest after
       behind-put rest after put e =
-          ap (put-all (lines-bytes rest)) (put ∙ ap (λ (w : List ℕ). put-all w q) (x .says-line goal))
-          ∙ sym (put-all-append (line-bytes here) (lines-bytes rest) q)
-          ∙ ap (λ (ls : List Line). put-all (lines-bytes ls) q) (sym e)
-          ∙ ap (λ (k : ℕ). put-all (lines-bytes (goals-on others goal (list-from k goal (p .table) (p .index) (view g)))) q) (sym has-more)
-          ∙ midway .same-bytes
+          line-put f s (p .lines) here rest _ q after (a .few) (x .says-line goal) put
+          (ap (λ (ls : List Line). put-all (pages-behind (p .lines) ls) q) (sym e)
+          ∙ ap (λ (k : ℕ). put-all (pages-behind (p .lines)
+          (goals-on others goal (list-from k goal (p .table) (p .index) (view g)))) q) (sym has-more)
+          ∙ midway .same-bytes)
 
       abbrev behind : Next → List Line
       behind n = lines-behind others fewer goal (p .table) (x .made) n
 
       peeked-by-case : (n : Next) (used index : ℕ) (after : Pen) → next (x .made .ending) ≡ n → index ≡ x .made .index
-          → put-all (lines-bytes (behind n)) after ≡ whole f s → Moved f s p h (next-place n used index p) after
+          → Left f s (next-line (p .lines)) (behind n) after → Moved f s p h (next-place n used index p) after
       peeked-by-case the-end used index after e i left =
           let now = left-then in
           let few = midway .stands .few in
-          moved-end f s p h used after (omega arith) (sym (put-nothing after) ∙ left)
+          moved-end f s p h used (next-line (p .lines)) after (omega arith) (few-lines (p .lines)) left
       peeked-by-case next-goal used index after e i left =
           let now = left-then in
           let few = midway .stands .few in
@@ -238,15 +261,17 @@ module _ (f : Forest) (s : Pen) (g : Forest) (p : Place) (q : Pen) (a : Along f 
           let same = x .same-goals ∙ midway .same-goals in
           record {
             along = record {
+              few = few-lines (p .lines);
               over = λ z. absurd (true≢false (sym z ∙ live));
               opens = λ y z. record {
                 ready = x .ready e;
                 same-goals = same;
                 same-bytes =
-                    ap (λ (k : ℕ). put-all (lines-bytes (list-goals (k - one-more goal) (one-more goal) (view h))) after) same
-                    ∙ ap (λ (k : ℕ). put-all (lines-bytes (list-goals (goal-count f - k) k (view h))) after) next
-                    ∙ ap (λ (k : ℕ). put-all (lines-bytes (list-goals others k (view h))) after) (one-up goal)
-                    ∙ ap (λ (k : tables.Forest). put-all (lines-bytes (list-goals others (suc goal) k)) after) (sym (x .left))
+                    ap (λ (ls : List Line). put-all (pages-behind (next-line (p .lines)) ls) after)
+                    (ap (λ (k : ℕ). list-goals (k - one-more goal) (one-more goal) (view h)) same
+                    ∙ ap (λ (k : ℕ). list-goals (goal-count f - k) k (view h)) next
+                    ∙ ap (λ (k : ℕ). list-goals others k (view h)) (one-up goal)
+                    ∙ ap (λ (k : tables.Forest). list-goals others (suc goal) k) (sym (x .left)))
                     ∙ left;
               };
               peeks = λ y z. absurd (true≢false z);
@@ -266,6 +291,7 @@ module _ (f : Forest) (s : Pen) (g : Forest) (p : Place) (q : Pen) (a : Along f 
           let more = has-more in
           record {
             along = record {
+              few = few-lines (p .lines);
               over = λ z. absurd (true≢false (sym z ∙ live));
               opens = λ y z. absurd (true≢false (sym z ∙ peeking));
               peeks = λ y z. record {
@@ -275,10 +301,10 @@ module _ (f : Forest) (s : Pen) (g : Forest) (p : Place) (q : Pen) (a : Along f 
                 more = fewer;
                 enough = omega arith;
                 same-bytes =
-                    ap (λ (k : ℕ). put-all (lines-bytes (goals-on others goal (list-from fewer goal (p .table) k (view h)))) after)
-                    (next ∙ one-up (x .made .index))
-                    ∙ ap (λ (k : tables.Forest). put-all (lines-bytes
-                    (goals-on others goal (list-from fewer goal (p .table) (suc (x .made .index)) k))) after) (sym (x .left))
+                    ap (λ (ls : List Line). put-all (pages-behind (next-line (p .lines)) ls) after)
+                    (ap (λ (k : ℕ). goals-on others goal (list-from fewer goal (p .table) k (view h))) (next ∙ one-up (x .made .index))
+                    ∙ ap (λ (k : tables.Forest). goals-on others goal (list-from fewer goal (p .table) (suc (x .made .index)) k))
+                    (sym (x .left)))
                     ∙ left;
               };
             };
@@ -321,8 +347,8 @@ listing-of m = elim (elim m as (λ _. Refusable (List Line)) [
   | refused n ↦ refused n
   | accepted f ↦ accepted (list-goals (length (f .book)) 0 f)
 ]) [
-  | refused n ↦ ascii "refused" ++ ascii " " ++ decimal n ++ ascii "\n"
-  | accepted ls ↦ lines-bytes ls
+  | refused n ↦ refusal-bytes n
+  | accepted ls ↦ pages ls
 ]
 
 made-unmarked : (given : Refusable Book) (limit : ℕ) (f : tables.Forest) → said.make-of given limit ≡ accepted f → f .mark ≡ 0
@@ -346,9 +372,9 @@ made-ready given r says e = record {
 }
 
 module _ (bytes : List ℕ) (r : Made) (says : MakeAtDeskSays bytes listing-clock r) (p q : Pen) where
-  pub listing-made : r .making ≡ makings.Made → q ≡ put-all (lines-bytes (rest-lines 0 (r .forest))) p → q ≡ put-all (listing bytes) p
+  pub listing-made : r .making ≡ makings.Made → q ≡ put-all (pages (rest-lines 0 (r .forest))) p → q ≡ put-all (listing bytes) p
   listing-made e put =
-      put ∙ ap (λ (n : ℕ). put-all (lines-bytes (list-goals n 0 (view (r .forest)))) p) (all-of (goal-count (r .forest)))
+      put ∙ ap (λ (n : ℕ). put-all (pages (list-goals n 0 (view (r .forest)))) p) (all-of (goal-count (r .forest)))
       ∙ ap (λ (m : Refusable tables.Forest). put-all (listing-of m) p)
       (sym (ap (λ (m : Making). made-by m (view (r .forest))) e) ∙ says .says)
     where

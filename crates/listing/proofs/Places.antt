@@ -10,7 +10,7 @@ use Rattle.search.specs.RootAnswer.{one-more}
 use Rattle.forest.specs.declared.open.Opening.{Opening}
 use Rattle.forest.specs.declared.open.Opening.the-variants as openings
 use Rattle.listing.specs.declared.goals.Place.{Place}
-use Rattle.listing.specs.Lines.{reply-line}
+use Rattle.listing.specs.Lines.{reply-line, next-line}
 use Rattle.listing.specs.Goals.{ended-place, opened-place, opened-bytes, OpenedTo, next-of, next-place, PeekedTo}
 
 module _ (opening : Opening) (p : Place) (q : Pen) where
@@ -26,15 +26,15 @@ module _ (opening : Opening) (p : Place) (q : Pen) where
       same-used (openings.Table t) used = refl
       same-used (openings.Stopped n) used = refl
 
-  pub opened-past : (n : ℕ) → opening ≡ openings.Refused n → OpenedTo opening p q (ended-place (p .used) p) q
+  pub opened-past : (n : ℕ) → opening ≡ openings.Refused n → OpenedTo opening p q (ended-place (p .used) (p .lines) p) q
   opened-past n e = opened-by (openings.Refused n) (p .used) q e (sym (put-nothing q))
 
   pub opened-table : (t : ℕ) → opening ≡ openings.Table t → OpenedTo opening p q (opened-place (openings.Table t) (p .used) p) q
   opened-table t e = opened-by (openings.Table t) (p .used) q e (sym (put-nothing q))
 
-  pub opened-stops : (n used : ℕ) (after : Pen) → opening ≡ openings.Stopped n → after ≡ put-all (reply-line (p .goal) 0 2 n) q
-      → OpenedTo opening p q (ended-place used p) after
-  opened-stops n used after e put = opened-by (openings.Stopped n) used after e put
+  pub opened-stops : (n used lines : ℕ) (after : Pen) → opening ≡ openings.Stopped n → lines ≡ next-line (p .lines)
+      → after ≡ put-all (reply-line (p .goal) 0 2 n) q → OpenedTo opening p q (ended-place used lines p) after
+  opened-stops n used lines after e l put = rw l (opened-by (openings.Stopped n) used after e put)
 
 module _ (word value index : ℕ) (p : Place) (q : Pen) (used : ℕ) (after : Pen)
     (put : after ≡ put-all (reply-line (p .goal) index word value) q) where
@@ -43,26 +43,27 @@ module _ (word value index : ℕ) (p : Place) (q : Pen) (used : ℕ) (after : Pe
   told-by next-goal e = record { place = ap (λ (y : Next). next-place y used index p) (sym e); bytes = put }
   told-by the-end e = record { place = ap (λ (y : Next). next-place y used index p) (sym e); bytes = put }
 
-  pub told-stop : word ≡ 2 → PeekedTo word value index p q (ended-place used p) after
-  told-stop e = told-by the-end (ap next-of e)
+  module _ (lines : ℕ) (one-on : lines ≡ next-line (p .lines)) where
+    pub told-stop : word ≡ 2 → PeekedTo word value index p q (ended-place used lines p) after
+    told-stop e = rw one-on (told-by the-end (ap next-of e))
 
-  pub told-none : (more : ℕ) → (word ≡ 2 → ⊥) → (word ≡ 3 → ⊥) → (word ≡ 4 → ⊥) → more ≡ one-more (p .goal)
-      → PeekedTo word value index p q
-      (record { used = used; over = p .over; opens = true; goal = more; table = p .table; index = p .index }) after
-  told-none more a b d m = rw m (told-by next-goal (by word a b d))
-    where
-      by : (w : ℕ) → (w ≡ 2 → ⊥) → (w ≡ 3 → ⊥) → (w ≡ 4 → ⊥) → next-of w ≡ next-goal
-      by zero a b d = refl
-      by (suc zero) a b d = refl
-      by (suc (suc zero)) a b d = absurd (a refl)
-      by (suc (suc (suc zero))) a b d = absurd (b refl)
-      by (suc (suc (suc (suc zero)))) a b d = absurd (d refl)
-      by (suc (suc (suc (suc (suc w))))) a b d = refl
+    pub told-none : (more : ℕ) → (word ≡ 2 → ⊥) → (word ≡ 3 → ⊥) → (word ≡ 4 → ⊥) → more ≡ one-more (p .goal)
+        → PeekedTo word value index p q
+        (record { used = used; lines = lines; over = p .over; opens = true; goal = more; table = p .table; index = p .index }) after
+    told-none more a b d m = rw (one-on, m) (told-by next-goal (by word a b d))
+      where
+        by : (w : ℕ) → (w ≡ 2 → ⊥) → (w ≡ 3 → ⊥) → (w ≡ 4 → ⊥) → next-of w ≡ next-goal
+        by zero a b d = refl
+        by (suc zero) a b d = refl
+        by (suc (suc zero)) a b d = absurd (a refl)
+        by (suc (suc (suc zero))) a b d = absurd (b refl)
+        by (suc (suc (suc (suc zero)))) a b d = absurd (d refl)
+        by (suc (suc (suc (suc (suc w))))) a b d = refl
 
-pub next-index-is : (used index more : ℕ) (p : Place) → more ≡ one-more index
-    → record { used = used; over = p .over; opens = p .opens; goal = p .goal; table = p .table; index = more }
+pub next-index-is : (used lines index more : ℕ) (p : Place) → lines ≡ next-line (p .lines) → more ≡ one-more index
+    → record { used = used; lines = lines; over = p .over; opens = p .opens; goal = p .goal; table = p .table; index = more }
     ≡ next-place next-index used index p
-next-index-is used index more p e = rw e
+next-index-is used lines index more p l e = rw (l, e)
 
 module _ (word value index : ℕ) (p : Place) (q : Pen) (used : ℕ) (out : List ℕ)
     (put : pen out used ≡ put-all (reply-line (p .goal) index word value) q) (r : Place) (on : r ≡ next-place next-index used index p) where

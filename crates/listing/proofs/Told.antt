@@ -9,7 +9,7 @@ use mathlib.Core.Path.{_≡_, refl, sym, ap, subst, _∙_}
 use lib.ListN.{length, getD, length-set}
 use Rattle.definitions.specs.Calls as calls
 use Rattle.definitions.specs.Forest as said
-use Rattle.definitions.specs.Listing.{listing-rounds, listing-turns, line, next-index, next-goal, next, line-bytes}
+use Rattle.definitions.specs.Listing.{listing-rounds, listing-turns, line, next-index, next-goal, next, page-line}
 use Rattle.definitions.specs.Refusal.{accepted}
 use Rattle.definitions.specs.Tables as tables
 use Rattle.definitions.specs.Turn.{Ending, found, fail, cut, stopped}
@@ -33,7 +33,7 @@ use Rattle.listing.specs.Lines.{reply-line}
 use Rattle.listing.specs.Goals.{Ready, Stands, goal-count, peek-put, next-of}
 use Rattle.listing.proofs.Marks.{MarkStays, PeekMarks, peek-mark}
 use Rattle.listing.proofs.Listing.{peek-asked}
-use Rattle.listing.proofs.Words.{ending-of, Tells, reply-tells, peek-line}
+use Rattle.listing.proofs.Replies.{ending-of, Tells, reply-tells, peek-line}
 
 -- A BATCH OF ONE PEEK
 
@@ -157,7 +157,7 @@ pub record PeekTells (f : Forest) (table index : ℕ) (g : Forest) (replies : Li
   pub follows : next-of (getD replies 0 0) ≡ next (made .ending)
   pub ended-at : getD replies 2 0 ≡ made .index
   pub says-line : (goal : ℕ)
-      → reply-line goal (getD replies 2 0) (getD replies 0 0) (getD replies 1 0) ≡ line-bytes (line goal (made .index) (made .ending))
+      → reply-line goal (getD replies 2 0) (getD replies 0 0) (getD replies 1 0) ≡ page-line (line goal (made .index) (made .ending))
   pub same-goals : goal-count g ≡ goal-count f
   pub not-before : index ≤ made .index
   pub stands : next (made .ending) ≡ next-index → Stands g table (made .index + 1)

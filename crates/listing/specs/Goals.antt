@@ -15,7 +15,7 @@ use Rattle.forest.specs.declared.open.Opening.{Opening}
 use Rattle.forest.specs.declared.open.Opening.the-variants as openings
 use Rattle.forest.specs.View.{view, Sound}
 use Rattle.listing.specs.declared.goals.Place.{Place}
-use Rattle.listing.specs.Lines.{reply-line}
+use Rattle.listing.specs.Lines.{reply-line, next-line}
 
 -- a forest that may be asked: sound, and not marked by a stop
 pub record Ready (f : Forest) : Type 0 where
@@ -39,12 +39,13 @@ rest-lines goal f = list-goals (goal-count f - goal) goal (view f)
 
 -- at first goal 0 is to be opened
 abbrev pub first-place : Place
-first-place = record { used = 0; over = false; opens = true; goal = 0; table = 0; index = 0 }
+first-place = record { used = 0; lines = 0; over = false; opens = true; goal = 0; table = 0; index = 0 }
 
 -- nothing is listed any more
-abbrev pub ended-place : (used : ℕ) → Place → Place
-ended-place used p = record {
+abbrev pub ended-place : (used lines : ℕ) → Place → Place
+ended-place used lines p = record {
   used = used;
+  lines = lines;
   over = true;
   opens = p .opens;
   goal = p .goal;
@@ -54,16 +55,17 @@ ended-place used p = record {
 
 -- AN OPEN: where it leads, and the bytes of its line
 abbrev pub opened-place : Opening → (used : ℕ) → Place → Place
-opened-place (openings.Refused n) used p = ended-place used p
+opened-place (openings.Refused n) used p = ended-place used (p .lines) p
 opened-place (openings.Table t) used p = record {
   used = used;
+  lines = p .lines;
   over = p .over;
   opens = false;
   goal = p .goal;
   table = t;
   index = 0;
 }
-opened-place (openings.Stopped n) used p = ended-place used p
+opened-place (openings.Stopped n) used p = ended-place used (next-line (p .lines)) p
 
 abbrev pub opened-bytes : Opening → (goal : ℕ) → List ℕ
 opened-bytes (openings.Refused n) goal = []
@@ -86,6 +88,7 @@ next-of word = getD (next-goal ∷ next-goal ∷ the-end ∷ next-index ∷ next
 abbrev pub next-place : Next → (used index : ℕ) → Place → Place
 next-place next-index used index p = record {
   used = used;
+  lines = next-line (p .lines);
   over = p .over;
   opens = p .opens;
   goal = p .goal;
@@ -94,13 +97,14 @@ next-place next-index used index p = record {
 }
 next-place next-goal used index p = record {
   used = used;
+  lines = next-line (p .lines);
   over = p .over;
   opens = true;
   goal = one-more (p .goal);
   table = p .table;
   index = p .index;
 }
-next-place the-end used index p = ended-place used p
+next-place the-end used index p = ended-place used (next-line (p .lines)) p
 
 -- by a reply's word, its value and the index at which the peek ended
 pub record PeekedTo (word value index : ℕ) (p : Place) (before : Pen) (r : Place) (after : Pen) : Type 0 where

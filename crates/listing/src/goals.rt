@@ -1,6 +1,7 @@
 // From a book's bytes to the lines: one forest, each goal opened and peeked at from index 0 on (document 01, "The listing program").
+use crate::lines::fill;
 use crate::lines::line;
-use crate::lines::refusal;
+use crate::lines::one_line_more;
 use batch::calls::NUMBERS;
 use forest::Forest;
 use forest::make::Making;
@@ -8,9 +9,10 @@ use forest::make::make_at_desk;
 use forest::open::Opening;
 use forest::open::open;
 use forest::serve_calls::serve_calls;
+use pen::refusals::refusal_line;
 use search::root_answer::one_more;
 ghost use mathlib.Core.Path.{_≡_};
-ghost use Rattle.definitions.specs.Listing.{next-index, lines-bytes, listing};
+ghost use Rattle.definitions.specs.Listing.{next-index, pages, listing};
 ghost use Rattle.pen.specs.Pen.{pen, put-all};
 ghost use Rattle.listing.specs.Goals.{Ready, rest-lines, first-place, OpenedTo, peek-put, next-place, ToldTo};
 
@@ -20,10 +22,11 @@ const ROUNDS: u64 = 1000;
 
 const TURNS: u64 = 10000;
 
-// Where the listing is: how much of the buffer is in use, whether the last line is written, whether the goal is to be opened, and if not,
-// which table is to be peeked at and from which index on.
+// Where the listing is: how much of the buffer is in use and how many lines are on the page, whether the last line is written, whether the
+// goal is to be opened, and if not, which table is to be peeked at and from which index on.
 struct Place {
     used: usize,
+    lines: usize,
     over: bool,
     opens: bool,
     goal: u64,
@@ -36,6 +39,7 @@ fn first_place() -> Place
 {
     Place {
         used: 0,
+        lines: 0,
         over: false,
         opens: true,
         goal: 0,
@@ -61,6 +65,7 @@ fn opened(out: &mut [u8], opening: Opening, p: Place) -> Place
             let used = line(out, p.used, p.goal, 0, 2, n as u64);
             Place {
                 used,
+                lines: one_line_more(p.lines),
                 over: true,
                 ..p
             }
@@ -85,6 +90,7 @@ fn next_index(used: usize, index: u64, p: Place) -> Place
 {
     Place {
         used,
+        lines: one_line_more(p.lines),
         index: one_more(index),
         ..p
     }
@@ -101,6 +107,7 @@ fn told(out: &mut [u8], replies: &[u64; NUMBERS], p: Place) -> Place
     match word {
         2 => Place {
             used,
+            lines: one_line_more(p.lines),
             over: true,
             ..p
         },
@@ -108,6 +115,7 @@ fn told(out: &mut [u8], replies: &[u64; NUMBERS], p: Place) -> Place
         4 => next_index(used, index, p),
         _ => Place {
             used,
+            lines: one_line_more(p.lines),
             opens: true,
             goal: one_more(p.goal),
             ..p
@@ -115,11 +123,12 @@ fn told(out: &mut [u8], replies: &[u64; NUMBERS], p: Place) -> Place
     }
 }
 
-// Where it is asked for, standard error tells which goal is at hand; the next one is written over it.
+// Where it is asked for, standard error tells which goal is at hand; what comes next, a goal or a page, is written over it.
 fn tell(shown: bool, goal: u64) {
     if shown {
-        io::write_all(2, b"\rgoal ");
+        io::write_all(2, b"goal ");
         io::print_decimal(2, goal);
+        io::write_all(2, b"\r");
     }
 }
 
@@ -127,7 +136,7 @@ fn tell(shown: bool, goal: u64) {
 // opening and by the numbers of a reply. So a peek is a batch of one call.
 fn list_goals(out: &mut [u8], f: Forest, shown: bool) -> usize
     requires { ⌜ Ready f ⌝ }
-    ensures { λ r. ⌜ pen (now (out .exit)) r ≡ put-all (lines-bytes (rest-lines 0 f)) (pen (now (out .entry)) 0) ⌝ }
+    ensures { λ r. ⌜ pen (now (out .exit)) r ≡ put-all (pages (rest-lines 0 f)) (pen (now (out .entry)) 0) ⌝ }
 {
     let mut calls = [0u64; NUMBERS];
     let mut replies = [0u64; NUMBERS];
@@ -135,7 +144,7 @@ fn list_goals(out: &mut [u8], f: Forest, shown: bool) -> usize
     let mut p = first_place();
     loop {
         if p.over {
-            return p.used;
+            return fill(out, p.used, p.lines);
         }
         if p.opens {
             tell(shown, p.goal);
@@ -159,7 +168,7 @@ pub(crate) fn list(out: &mut [u8], bytes: &[u8], shown: bool) -> usize
     let making = m.making;
     let forest = m.forest;
     match making {
-        Making::Refused(n) => refusal(out, 0, n),
+        Making::Refused(n) => refusal_line(out, 0, n),
         Making::Made => list_goals(out, forest, shown),
     }
 }

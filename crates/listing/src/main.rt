@@ -1,4 +1,4 @@
-// Prints what follows from a paper: a book from standard input, listed goal by goal, or `refused` and the number.
+// Prints what follows from a paper: a book from standard input, listed goal by goal on pages of 60 lines, or `refused` and the number.
 // No contract can speak of what is read or written: the program's run on its file `stdin`, held to its file `stdout`, guards that.
 mod goals;
 mod lines;
@@ -6,15 +6,15 @@ mod lines;
 use intake::input;
 
 // How an input is listed is settled by its first 20,480 bytes (`listing-take`), so what follows is not read.
-// A listing has at most 320 lines of at most 20 bytes: a line for each goal, and a yes or maybe for each clause. So it is all in the
-// buffer when that is written, and whether it could be written is known.
-// At a terminal standard error tells which goal is at hand, until the lines are written.
+// The buffer holds a page: it leaves when the first line of the next one comes, the last one at the end. Where a page can't be written,
+// that is told, by `pen` or here.
+// At a terminal standard error tells which goal is at hand, until a page is written over it.
 fn answer(bytes: &[u8]) {
-    let mut out = [0u8; 8192];
+    let mut out = [0u8; 1620];
     let shown = libc::isatty(2) == 1;
     let used = goals::list(&mut out, bytes, shown);
     if shown {
-        io::write_all(2, b"\r       \r");
+        io::write_all(2, b"       \r");
     }
     if !pen::flush(&out, used) {
         io::write_all(2, b"listing: the lines can't be written\n");

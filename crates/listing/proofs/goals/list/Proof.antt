@@ -11,8 +11,8 @@ make-at-desk-requires c κs = search needs
 enum-known-making : tie.Need-enum-known-making
 enum-known-making c = search needs
 
-refusal-requires : tie.Need-refusal-requires
-refusal-requires c κs = search needs
+refusal-line-requires : tie.Need-refusal-line-requires
+refusal-line-requires c κs = search needs
 
 enum-told : tie.Need-enum-told
 enum-told c = search needs
@@ -40,7 +40,7 @@ list-spec =
     (tie.spec
     make-at-desk-requires
     enum-known-making
-    refusal-requires
+    refusal-line-requires
     enum-told
     list-goals-requires
     same-length

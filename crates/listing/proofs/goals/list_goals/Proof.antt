@@ -24,6 +24,9 @@ first-place-requires c κs = search needs
 loop-holds : tie.Need-loop-holds Inv-loop μ-loop
 loop-holds c = (refl, omega arith, omega arith, search along-start)
 
+fill-requires : tie.Need-fill-requires Inv-loop μ-loop
+fill-requires c κs = search needs
+
 same-length : tie.Need-same-length Inv-loop μ-loop
 same-length c = search needs
 
@@ -81,6 +84,7 @@ list-goals-spec =
     μ-loop
     first-place-requires
     loop-holds
+    fill-requires
     same-length
     returns
     tell-requires

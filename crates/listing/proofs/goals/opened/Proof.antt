@@ -19,6 +19,9 @@ cast-line c = search needs
 line-requires : tie.Need-line-requires
 line-requires c κs = search needs
 
+one-line-more-requires : tie.Need-one-line-more-requires
+one-line-more-requires c κs = search needs
+
 returns : tie.Need-returns
 returns c = search opened-past
 
@@ -40,6 +43,7 @@ opened-spec =
     enum-known-opening-3
     cast-line
     line-requires
+    one-line-more-requires
     returns
     returns-2
     same-length

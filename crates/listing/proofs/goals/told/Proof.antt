@@ -16,11 +16,17 @@ element-copy-out-index c = search needs
 line-requires : tie.Need-line-requires
 line-requires c κs = search needs
 
+one-line-more-requires : tie.Need-one-line-more-requires
+one-line-more-requires c κs = search needs
+
 next-index-requires : tie.Need-next-index-requires
 next-index-requires c κs = search needs
 
 next-index-requires-2 : tie.Need-next-index-requires-2
 next-index-requires-2 c κs = search needs
+
+one-line-more-requires-2 : tie.Need-one-line-more-requires-2
+one-line-more-requires-2 c κs = search needs
 
 one-more-requires : tie.Need-one-more-requires
 one-more-requires c κs = search needs
@@ -57,8 +63,10 @@ told-spec =
     element-copy-out-value
     element-copy-out-index
     line-requires
+    one-line-more-requires
     next-index-requires
     next-index-requires-2
+    one-line-more-requires-2
     one-more-requires
     same-length
     returns

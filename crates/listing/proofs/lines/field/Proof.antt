@@ -1,11 +1,11 @@
--- `field`: the number, then the space.
+-- `field`: the number in its column, then the space.
 use Rattle.listing.proofs.Words.{field-said}
 use borrow.Author.Needs.{needs}
 use Rattle.listing.proofs.lines.field.Statement.{statement}
 use Rattle.listing.proofs.lines.field.Tie as tie
 
-number-requires : tie.Need-number-requires
-number-requires c κs = search needs
+right-number-requires : tie.Need-right-number-requires
+right-number-requires c κs = search needs
 
 slice-aggregate-text : tie.Need-slice-aggregate-text
 slice-aggregate-text c = search needs
@@ -20,4 +20,6 @@ returns : tie.Need-returns
 returns c = search field-said
 
 pub field-spec : {M : Type 1} → statement M
-field-spec = tie.close (tie.spec number-requires slice-aggregate-text text-requires same-length returns)
+field-spec =
+    tie.close
+    (tie.spec right-number-requires slice-aggregate-text text-requires same-length returns)
