@@ -19,7 +19,6 @@ told. Status 0 only if nothing is wrong; else the book in hex and as text, the l
 """
 import argparse
 import collections
-import concurrent.futures
 import glob
 import os
 import random
@@ -32,7 +31,7 @@ import derived_books
 import papers
 import sides
 import tree
-from solvers import installed, with_listing
+from solvers import Listing, installed, with_listing
 
 PROFILES = "mix plain tiny answers small limits large".split()
 # Books that one process of clingo gets at once: each has a number of its own.
@@ -123,33 +122,18 @@ def by_clingo(folder, books):
     return found
 
 
-def listed(program, data):
-    run = subprocess.run([program], input=data, capture_output=True)
-    if run.returncode != 0 or run.stderr:
-        sys.exit("derived: %s ended with %d on %s: %s" % (program, run.returncode, data.hex(), run.stderr.decode(errors="replace")))
-    return run.stdout.decode()
-
-
 class Sides:
     """The programs that are held against what can be derived."""
 
     def __init__(self, a):
-        self.oracle, self.jobs = tree.oracle(a.oracle), a.jobs
-        self.listing = None if a.rust else tree.program(a.program, "rt check listing") if a.program else tree.built("listing")
+        self.listing, self.jobs = Listing(a), a.jobs
+        self.oracle = self.listing.oracle
         self.replay = None if a.rust or not a.calls else tree.program(a.replay, "rt check replay") if a.replay else tree.built("replay")
         self.clingo = bool(installed(a, ("clingo",)))
 
     def listings(self, books):
         """The listing of each book, as lines of words."""
-        if self.listing:
-            with concurrent.futures.ThreadPoolExecutor(self.jobs) as pool:
-                texts = list(pool.map(lambda book: listed(self.listing, book.data), books))
-        else:
-            asked = "".join(book.data.hex() + "\n" for book in books).encode()
-            texts = sides.said([self.oracle, "lists"], asked).decode().split(".\n")[:-1]
-        if len(texts) != len(books):
-            sys.exit("derived: %d books, %d listings" % (len(books), len(texts)))
-        return [[line.split() for line in text.splitlines()] for text in texts]
+        return self.listing.lines([book.data for book in books], self.jobs)
 
 
 # What is held.
@@ -361,9 +345,9 @@ def main():
         counts, wrong = hold(a, both, folder)
     called, wrong_calls = hold_calls(a, both)
     print("\n".join("%9s %s" % (format(number, ","), what) for what, number in sorted((counts + called).items())))
-    who = both.listing and "listing" or "the oracle"
     print("derived: %s books, %s of them wrong; %s calls, %s wrong; by %s%s" % (
-        format(counts["books"] + wrong, ","), wrong, format(called["calls"], ","), wrong_calls, who, ", clingo beside" * both.clingo))
+        format(counts["books"] + wrong, ","), wrong, format(called["calls"], ","), wrong_calls, both.listing.name,
+        ", clingo beside" * both.clingo))
     enough = counts["yes of clean goals, by no fact"] > 0 and counts["yes of other goals, not derived"] > 0
     return 0 if good and not wrong and not wrong_calls and enough else 1
 

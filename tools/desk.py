@@ -187,9 +187,9 @@ def read_so(oracle, some):
     return wrong
 
 
-def listed_so(who, words, some):
-    """Where a program lists otherwise."""
-    return sides.listed_otherwise(who, words, [(one.title, one.data, one.listing or one.made("desk"), one.listed_as) for one in some])
+def listed_so(who, listed, some):
+    """Where a side lists otherwise."""
+    return sides.listed_otherwise(who, listed, [(one.title, one.data, one.listing or one.made("desk"), one.listed_as) for one in some])
 
 
 def told(who, some, wrong):
@@ -211,10 +211,11 @@ def main():
         good = not wrong
     if a.oracle:
         oracle = tree.oracle()
-        good = told("the Rust", some, read_so(oracle, some) + listed_so("the Rust", [oracle, "list"], some)) and good
+        listed = listed_so("the Rust", lambda data: sides.listed_by_the_rust(oracle, [data])[0], some)
+        good = told("the Rust", some, read_so(oracle, some) + listed) and good
     if a.listing is not None:
         listing = tree.program(a.listing, "rt check listing") if a.listing else tree.built("listing")
-        good = told("listing", some, listed_so("listing", [listing], some)) and good
+        good = told("listing", some, listed_so("listing", lambda data: sides.listed(listing, data), some)) and good
     if not (a.check or a.oracle or a.listing is not None):
         papers.write_files(SCRIPTS, files())
     return 0 if good else 1

@@ -143,19 +143,6 @@ def pieces(a, words):
                 for size in PIECES])
 
 
-def with_streams(words, given, out):
-    """What is said on standard error, and the status. Input or output: a file, or None for one that is closed."""
-    def closed():
-        for number, file in ((0, given), (1, out)):
-            if file is None:
-                os.close(number)
-    files = [os.open(path or os.devnull, how) for path, how in ((given, os.O_RDONLY), (out, os.O_WRONLY))]
-    done = subprocess.run(words, stdin=files[0], stdout=files[1], stderr=subprocess.PIPE, preexec_fn=closed)
-    for file in files:
-        os.close(file)
-    return done.stderr, done.returncode
-
-
 def failures(words):
     """What is said where the input or the output fails, byte by byte. The lines of the clauses that go come first."""
     by_data = {data: said for _, data, said in by_hand()}
@@ -166,14 +153,7 @@ def failures(words):
         must = err + (CANT_WRITE if out else b"")
         for where, to in (("a full device", "/dev/full"), ("a closed output", None)):
             cases.append(("%s and %s" % (name, where), os.path.join(papers.FOLDER, name), to, must))
-    wrong = 0
-    for title, given, out, must in cases:
-        said = with_streams(words, given, out)
-        wrong += said != (must, 0)
-        if said != (must, 0):
-            print("%s\nmust be: %r\nmend (status %d): %r" % (title, must[-300:], said[1], said[0][-300:]))
-    print("mend: %d times the input or the output fails, %d told otherwise" % (len(cases), wrong))
-    return not wrong
+    return sides.streams_told("mend", words, cases)
 
 
 def times(a, heads):

@@ -128,10 +128,10 @@ def listed_as(listing):
     return lambda said: said.startswith("0 ") if listing is None else said == listing
 
 
-def held(who, words):
-    """Whether a program lists each book so; tells where it doesn't."""
+def held(who, listed):
+    """Whether a side lists each book so; tells where it doesn't."""
     all_books = list(cases())
-    wrong = sides.listed_otherwise(who, words, [
+    wrong = sides.listed_otherwise(who, listed, [
         (title, data, listing or "a book that is read", listed_as(listing)) for title, data, listing in all_books])
     print("\n".join(wrong + ["ranges: %d books, %d of which %s lists otherwise" % (len(all_books), len(wrong), who)]))
     return not wrong
@@ -149,9 +149,11 @@ def main():
         print("ranges: %s" % ("not as made: " + " ".join(wrong) if wrong else "%d scripts as made" % len(BOOKS)))
         good = not wrong
     if a.oracle:
-        good = held("the Rust", [tree.oracle(), "list"]) and good
+        oracle = tree.oracle()
+        good = held("the Rust", lambda data: sides.listed_by_the_rust(oracle, [data])[0]) and good
     if a.listing is not None:
-        good = held("listing", [tree.program(a.listing, "rt check listing") if a.listing else tree.built("listing")]) and good
+        listing = tree.program(a.listing, "rt check listing") if a.listing else tree.built("listing")
+        good = held("listing", lambda data: sides.listed(listing, data)) and good
     if not (a.check or a.oracle or a.listing is not None):
         papers.write_files(SCRIPTS, files())
     return 0 if good else 1

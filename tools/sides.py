@@ -5,6 +5,7 @@ import os
 import re
 import subprocess
 
+import pages
 import papers
 import tree
 
@@ -47,20 +48,41 @@ def printed(program, data):
     return run.stdout.decode(errors="replace") + beside
 
 
-def printed_each(program, books, jobs):
+def printed_each(program, books, jobs, printed=printed):
     with concurrent.futures.ThreadPoolExecutor(jobs) as pool:
         return list(pool.map(lambda data: printed(program, data), books))
 
 
-def listed_otherwise(who, words, books):
-    """Where a program lists a book otherwise than it must. A book: its title and bytes, what must be listed, and a test of what is."""
+def listed(program, data):
+    """The text of document 01 on the pages that `listing` prints of a book."""
+    run = subprocess.run([program], input=data, capture_output=True)
+    if run.returncode != 0 or run.stderr:
+        raise Broken("%s ended with %d on %s: %s" % (program, run.returncode, data.hex(), run.stderr.decode(errors="replace")[-2000:]))
+    try:
+        return pages.fields(run.stdout).decode()
+    except pages.NotPages as wrong:
+        raise Broken("%s prints no pages of %s: %s" % (program, data.hex(), wrong)) from None
+
+
+def listed_by_the_rust(oracle, books):
+    """The same text of each book by the Rust, which prints no pages."""
+    texts = said([oracle, "lists"], "".join(data.hex() + "\n" for data in books).encode()).decode().split(".\n")[:-1]
+    if len(texts) != len(books):
+        raise Broken("%s: %d books, %d listings" % (oracle, len(books), len(texts)))
+    return texts
+
+
+def listed_otherwise(who, listed, books):
+    """Where a side lists a book otherwise than it must. A book: its title and bytes, what must be listed, and a test of what is."""
     wrong = []
     for title, data, listing, right in books:
-        run = subprocess.run(words, input=data, capture_output=True)
-        listed = run.stdout.decode(errors="replace")
-        if run.returncode != 0 or not right(listed):
-            wrong.append("%s, %s\nmust be listed as:\n%s\n%s (status %d):\n%s" % (
-                title, data.hex()[:200], listing.rstrip("\n"), who, run.returncode, listed[:400]))
+        try:
+            found = listed(data)
+            good = right(found)
+        except Broken as broken:
+            found, good = str(broken), False
+        if not good:
+            wrong.append("%s, %s\nmust be listed as:\n%s\n%s:\n%s" % (title, data.hex()[:200], listing.rstrip("\n"), who, found[:400]))
     return wrong
 
 
@@ -82,18 +104,43 @@ def in_xsb(oracle, command, asked):
     return [refused(*one.partition("\n")) if one.startswith("refused") else accepted(one) for one in found]
 
 
+def with_streams(words, given, out):
+    """What is said on standard error, and the status. Input or output: a file, or None for one that is closed."""
+    def closed():
+        for number, file in ((0, given), (1, out)):
+            if file is None:
+                os.close(number)
+    files = [os.open(path or os.devnull, how) for path, how in ((given, os.O_RDONLY), (out, os.O_WRONLY))]
+    done = subprocess.run(words, stdin=files[0], stdout=files[1], stderr=subprocess.PIPE, preexec_fn=closed)
+    for file in files:
+        os.close(file)
+    return done.stderr, done.returncode
+
+
+def streams_told(who, words, cases):
+    """Whether a program says what it must where its input or its output fails. A case: its title, the two, and what must be said, as it
+    stands or as an expression for all of it."""
+    wrong = 0
+    for title, given, out, must in cases:
+        told, status = with_streams(words, given, out)
+        right = status == 0 and (must.fullmatch(told) if isinstance(must, re.Pattern) else told == must)
+        wrong += not right
+        if not right:
+            print("%s\nmust be: %r\n%s (status %d): %r" % (title, must, who, status, told[-300:]))
+    print("%s: %d times the input or the output fails, %d told otherwise" % (who, len(cases), wrong))
+    return not wrong
+
+
 def failures(program, paper="largest.book"):
     """Whether a program says it where its input or its output fails: a folder for input, a full device and a closed output."""
     paper = os.path.join(tree.ROOT, "papers", paper)
     right = True
-    for name, words in (("a folder", "can't be read"), ("a full device", "can't be written"), ("a closed output", "can't be written")):
-        given = os.open(tree.ROOT if name == "a folder" else paper, os.O_RDONLY)
-        out = os.open("/dev/full", os.O_WRONLY)
-        closed = (lambda: os.close(1)) if name == "a closed output" else None
-        said_there = subprocess.run([program], stdin=given, stdout=out, stderr=subprocess.PIPE, preexec_fn=closed).stderr.decode()
-        os.close(given)
-        os.close(out)
-        print("%s and %s: %s" % (os.path.basename(program), name, said_there.strip() or "nothing is said"))
+    cant_write = "can't be written"
+    for name, given, out, words in (("a folder", tree.ROOT, "/dev/full", "can't be read"),
+                                    ("a full device", paper, "/dev/full", cant_write), ("a closed output", paper, None, cant_write)):
+        said_there = with_streams([program], given, out)[0].decode()
+        told = "; ".join(dict.fromkeys(said_there.splitlines()))
+        print("%s and %s: %s" % (os.path.basename(program), name, told or "nothing is said"))
         right = right and words in said_there
     return right
 

@@ -1,8 +1,10 @@
 """Other solvers, and the listing that they are held against: what is shared by the tools that run them."""
+import os
 import shutil
 import subprocess
 import sys
 
+import sides
 import tree
 
 PACKAGES = {"clingo": "gringo", "swipl": "swi-prolog-core"}
@@ -28,7 +30,7 @@ def installed(a, names=tuple(PACKAGES)):
 
 
 class Listing:
-    """`listing`, a process for each book, or the oracle in its place."""
+    """`listing`, a process for each book, or the oracle in its place, which lists the same without pages."""
 
     def __init__(self, a):
         self.oracle = tree.oracle(a.oracle)
@@ -38,14 +40,21 @@ class Listing:
     def words(self):
         return [self.program] if self.program else [self.oracle, "list"]
 
+    def lines(self, books, jobs=1):
+        """Of each book the lines that are listed, as words."""
+        try:
+            if self.program:
+                texts = sides.printed_each(self.program, books, jobs, sides.listed)
+            else:
+                texts = sides.listed_by_the_rust(self.oracle, books)
+        except sides.Broken as broken:
+            sys.exit("%s: %s" % (os.path.basename(sys.argv[0]), broken))
+        return [[line.split() for line in text.splitlines()] for text in texts]
+
     def holds(self, books):
         """Of each book the goals that hold, and the lines that settle nothing."""
         held, unsettled = [], []
-        for data in books:
-            run = subprocess.run(self.words(), input=data, capture_output=True)
-            if run.returncode != 0:
-                sys.exit("peers: %s ended with %d on %s" % (" ".join(self.words()), run.returncode, data.hex()))
-            lines = [line.split() for line in run.stdout.decode().splitlines()]
+        for data, lines in zip(books, self.lines(books)):
             if lines[0][0] == "refused":
                 sys.exit("peers: %s refuses by %s the book %s" % (self.name, lines[0][1], data.hex()))
             held.append({int(line[0]) for line in lines if line[2] == "yes"})
