@@ -88,10 +88,10 @@ pub(crate) fn fill(out: &mut [u8], at: usize, lines: usize) -> usize
     ensures { λ r. ⌜ pen (now (out .exit)) r ≡ put-all (blank-lines (lines-left lines)) (pen (now (out .entry)) at) ⌝ }
 {
     let mut used = at;
-    let mut left = (PAGE - lines % PAGE) % PAGE;
-    while 0 < left {
+    let mut missing = (PAGE - lines % PAGE) % PAGE;
+    while 0 < missing {
         used = blank(out, used);
-        left -= 1;
+        missing -= 1;
     }
     used
 }

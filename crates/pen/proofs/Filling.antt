@@ -1,10 +1,10 @@
 -- What the proofs of the columns cite: blanks one by one, and a text with blanks beside it. Assumes nothing.
-use Prim.Native.Nat.{ℕ, zero, suc, _+_, _-_, _<_, _≤_}
+use Prim.Native.Nat.{ℕ, suc, _+_, _-_, _<_, _≤_}
 use native.Mathlib.Omega.{arith}
-use mathlib.Core.Path.{_≡_, refl, sym, ap, _∙_}
-use mathlib.Core.List.{List, _++_}
+use mathlib.Core.Path.{_≡_, sym, ap, _∙_}
+use mathlib.Core.List.{List}
 use lib.ListN.{length}
-use Rattle.definitions.specs.Listing.{blanks, in-column, at-left, at-right, decimal}
+use Rattle.definitions.specs.Listing.{blanks, in-column, at-left, at-right}
 use Rattle.pen.specs.Pen.{Pen, put, put-all}
 use Rattle.pen.proofs.Putting.{put-two, put-nothing}
 

@@ -9,14 +9,14 @@ use Rattle.listing.proofs.lines.fill.Statement.{statement}
 use Rattle.listing.proofs.lines.fill.Tie as tie
 
 abbrev Inv-loop : tie.InvT-loop
-Inv-loop out₀ at lines used₀ left₀ out used left =
-    (length out ≡ length out₀) × (put-all (blank-lines left) (pen out used) ≡ put-all (blank-lines (lines-left lines)) (pen out₀ at))
+Inv-loop out₀ at lines used₀ missing₀ out used missing =
+    (length out ≡ length out₀) × (put-all (blank-lines missing) (pen out used) ≡ put-all (blank-lines (lines-left lines)) (pen out₀ at))
 
 abbrev μ-loop : tie.MeasureT-loop
-μ-loop out₀ at lines used₀ left₀ out used left = left
+μ-loop out₀ at lines used₀ missing₀ out used missing = missing
 
-sub-left : tie.Need-sub-left Inv-loop μ-loop
-sub-left c = search needs
+sub-missing : tie.Need-sub-missing Inv-loop μ-loop
+sub-missing c = search needs
 
 loop-holds : tie.Need-loop-holds Inv-loop μ-loop
 loop-holds c = (search needs, search needs)
@@ -24,8 +24,8 @@ loop-holds c = (search needs, search needs)
 blank-requires : tie.Need-blank-requires Inv-loop μ-loop
 blank-requires c κs = search needs
 
-sub-left-2 : tie.Need-sub-left-2 Inv-loop μ-loop
-sub-left-2 c = search needs
+sub-missing-2 : tie.Need-sub-missing-2 Inv-loop μ-loop
+sub-missing-2 c = search needs
 
 loop-less : tie.Need-loop-less Inv-loop μ-loop
 loop-less c = search needs
@@ -45,10 +45,10 @@ fill-spec =
     (tie.spec
     Inv-loop
     μ-loop
-    sub-left
+    sub-missing
     loop-holds
     blank-requires
-    sub-left-2
+    sub-missing-2
     loop-less
     loop-again
     same-length
