@@ -216,9 +216,9 @@ line-said : (l : Line) (rest : List ℕ) → words-from false false (page-line l
 line-said l rest =
     let a = decimal (l .goal) in
     let b = decimal (l .index) in
-    let c = word (l .ending) in
+    let c = word (l .ending) (l .skipped) in
     let d = number (l .ending) in
-    let x = word-found c (word-is (l .ending)) in
+    let x = word-found c (word-is (l .ending) (l .skipped)) in
     ap (words-from false false) (append-assoc (across columns l) (ascii "\n") rest)
     ∙ gap-unseen (across columns l ++ (10 ∷ rest))
     ∙ across-said false columns l rest

@@ -37,19 +37,20 @@ across-long (c ∷ d ∷ cs) l f = omega (
 abbrev pub is-word : List ℕ → Bool
 is-word bs = ltb 0 (length bs) && (leb (length bs) 10 && each-passes (λ b. ltb 32 b) bs)
 
-pub word-is : (e : Ending) → is-word (word e) ≡ true
-word-is (found a) = on (a .ambiguous)
+pub word-is : (e : Ending) (skipped : Bool) → is-word (word e skipped) ≡ true
+word-is (found a) skipped = on (a .ambiguous)
   where
     on : (b : Bool) → is-word (elim b [ true ↦ ascii "maybe" | false ↦ ascii "yes" ]) ≡ true
     on true = refl
     on false = refl
-word-is (fail NoMoreSolutions) = refl
-word-is (fail Floundered) = refl
-word-is (fail QuantumExceeded) = refl
-word-is (fail NegativeCycle) = refl
-word-is (fail InvalidAnswer) = refl
-word-is cut = refl
-word-is (stopped n) = refl
+word-is (fail NoMoreSolutions) true = refl
+word-is (fail NoMoreSolutions) false = refl
+word-is (fail Floundered) skipped = refl
+word-is (fail QuantumExceeded) skipped = refl
+word-is (fail NegativeCycle) skipped = refl
+word-is (fail InvalidAnswer) skipped = refl
+word-is cut skipped = refl
+word-is (stopped n) skipped = refl
 
 -- what the test finds
 pub word-found : (bs : List ℕ) → is-word bs ≡ true
@@ -63,7 +64,7 @@ word-found bs e =
 pub fits-columns : (l : Line) → length (decimal (l .goal)) ≤ 3 → length (decimal (l .index)) ≤ 5 → length (number (l .ending)) ≤ 5
     → FitsColumns columns l
 fits-columns l goal index number =
-    let x = word-found (word (l .ending)) (word-is (l .ending)) .1 in
+    let x = word-found (word (l .ending) (l .skipped)) (word-is (l .ending) (l .skipped)) .1 in
     (omega arith, (omega arith, (omega arith, (omega arith, tt))))
 
 pub page-line-long : (l : Line) → FitsColumns columns l → length (page-line l) ≡ 27

@@ -100,14 +100,14 @@ cases =
     ∷ listed (write (inductive (one-rule (neg 0) ∷ []) ∷ [])) (ascii "0 0 negcycle\n")
     ∷ listed (write (coinductive (one-rule (neg 0) ∷ []) ∷ [])) (ascii "0 0 stop 28\n")
     -- p3, and with goal 1 searched first
-    ∷ listed p3 (ascii "0 0 yes 0\n0 1 none\n1 1 none\n")
+    ∷ listed p3 (ascii "0 0 yes 0\n0 1 none\n1 1 unsettled\n")
     ∷ replied p3 1000000
     (opens 1 ∷ peeks 0 0 1000 10000 ∷ peeks 0 1 1000 10000 ∷ opens 0 ∷ peeks 1 0 1000 10000 ∷ [])
     (table (go 0) ∷ peeked (found (yes-answer 0)) 0 5 0 ∷ peeked (fail NoMoreSolutions) 1 1 0
     ∷ table (go 1) ∷ peeked (fail NoMoreSolutions) 1 1 0 ∷ [])
     -- p4
     ∷ listed (write (coinductive (one-rule (pos 1) ∷ []) ∷ coinductive (one-rule (pos 0) ∷ []) ∷ inductive (one-rule (neg 1) ∷ []) ∷ []))
-    (ascii "0 0 yes 0\n0 1 none\n1 1 none\n2 0 stop 27\n")
+    (ascii "0 0 yes 0\n0 1 none\n1 1 unsettled\n2 0 stop 27\n")
     -- p5
     ∷ listed (write (inductive (one-rule (pos 1) ∷ []) ∷ floundered ∷ [])) (ascii "0 0 maybe 0\n0 1 none\n1 0 floundered\n")
     ∷ listed (write (inductive (one-rule (neg 1) ∷ []) ∷ floundered ∷ [])) (ascii "0 0 stop 25\n")

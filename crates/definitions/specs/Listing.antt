@@ -1,9 +1,10 @@
--- The listing program (document 01 and change request 3), in two halves: from a book's bytes to the lines, and from the lines to the bytes
--- that are printed. The second half knows the lines alone; it renders them twice, in the fields of document 01 and as pages.
+-- The listing program (document 01 and change requests 3 and 5), in two halves: from a book's bytes to the lines, and from the lines to the
+-- bytes that are printed. The second half knows the lines alone; it renders them twice, in the fields of document 01 and as pages.
 use Prim.Native.Nat.{ℕ, zero, suc, _+_, _-_, _/_, _%_}
-use mathlib.Core.Bool.{Bool, true, false}
+use mathlib.Core.Bool.{Bool, true, false, _||_}
 use mathlib.Core.List.{List, [], _∷_, _++_}
 use lib.ListN.{length, replicate}
+use lib.Dec.{ltb}
 use Rattle.definitions.specs.Ascii.{ascii}
 use Rattle.definitions.specs.Refusal.{Refusable, refused, accepted}
 use Rattle.definitions.specs.Stop.{stop, go}
@@ -24,14 +25,16 @@ listing-turns = 10000
 abbrev pub listing-clock : ℕ
 listing-clock = 1000000
 
--- a line: a goal, the index at which the peek ended, and how; the index is 0 if the open stopped
+-- a line: a goal, the index at which the peek ended, and how; the index is 0 if the open stopped. `skipped` (change request 5): an answer
+-- of the goal was skipped as invalid, "in this peek or an earlier one"
 pub record Line : Type 0 where
   pub goal : ℕ
   pub index : ℕ
   pub ending : Ending
+  pub skipped : Bool
 
-abbrev pub line : (goal index : ℕ) → Ending → Line
-line goal index ending = record { goal = goal; index = index; ending = ending }
+abbrev pub line : (goal index : ℕ) → Ending → (skipped : Bool) → Line
+line goal index ending skipped = record { goal = goal; index = index; ending = ending; skipped = skipped }
 
 -- what follows a line: the next index, the next goal, or the end
 pub data Next : Type 0 where
@@ -51,16 +54,18 @@ pub record Listed : Type 0 where
   pub stops : Bool
   pub forest : Forest
 
--- The lines of a goal from an index on. The first number bounds them: each index but the last has an answer, and at most 256 are held
--- together. Where it ran out the line would say stop 0.
-abbrev pub list-from : ℕ → (goal table index : ℕ) → Forest → Listed
-list-from zero goal t i f = record { lines = line goal i (stopped 0) ∷ []; stops = true; forest = f }
-list-from (suc more) goal t i f =
+-- The lines of a goal from an index on; `skipped`: an earlier peek skipped an answer. A peek ends at a later index than it was asked for
+-- just where it skipped one. The first number bounds the lines: each index but the last has an answer, and at most 256 are held together.
+-- Where it ran out the line would say stop 0.
+abbrev pub list-from : ℕ → (goal table index : ℕ) → (skipped : Bool) → Forest → Listed
+list-from zero goal t i skipped f = record { lines = line goal i (stopped 0) skipped ∷ []; stops = true; forest = f }
+list-from (suc more) goal t i skipped f =
     let p = peek-rounds (listing-rounds - 1) listing-turns 0 t i f in
-    let here = line goal (p .index) (p .ending) in
+    let skips = skipped || ltb i (p .index) in
+    let here = line goal (p .index) (p .ending) skips in
     elim (next (p .ending)) [
       | next-index ↦
-          let rest = list-from more goal t (suc (p .index)) (p .forest) in
+          let rest = list-from more goal t (suc (p .index)) skips (p .forest) in
           record { lines = here ∷ rest .lines; stops = rest .stops; forest = rest .forest }
       | next-goal ↦ record { lines = here ∷ []; stops = false; forest = p .forest }
       | the-end ↦ record { lines = here ∷ []; stops = true; forest = p .forest }
@@ -69,8 +74,8 @@ list-from (suc more) goal t i f =
 -- one goal: it is opened, then peeked at
 abbrev pub list-opened : (goal : ℕ) → Opened → Listed
 list-opened goal o = elim (o .table) [
-  | stop n ↦ record { lines = line goal 0 (stopped n) ∷ []; stops = true; forest = o .forest }
-  | go t ↦ list-from 257 goal t 0 (o .forest)
+  | stop n ↦ record { lines = line goal 0 (stopped n) false ∷ []; stops = true; forest = o .forest }
+  | go t ↦ list-from 257 goal t 0 false (o .forest)
 ]
 
 abbrev pub list-goal : (goal : ℕ) → Forest → Listed
@@ -106,20 +111,21 @@ digits (suc more) n after = elim (n / 10) [
 abbrev pub decimal : ℕ → List ℕ
 decimal n = digits (suc n) n []
 
--- The word of an ending.
+-- The word of an ending; change request 5: "`unsettled` where NoMoreSolutions comes after a skipped answer of that goal".
 
-abbrev pub fail-word : RootSearchFail → List ℕ
-fail-word NoMoreSolutions = ascii "none"
-fail-word Floundered = ascii "floundered"
-fail-word QuantumExceeded = ascii "again"
-fail-word NegativeCycle = ascii "negcycle"
-fail-word InvalidAnswer = ascii "invalid"
+abbrev pub fail-word : RootSearchFail → (skipped : Bool) → List ℕ
+fail-word NoMoreSolutions true = ascii "unsettled"
+fail-word NoMoreSolutions false = ascii "none"
+fail-word Floundered skipped = ascii "floundered"
+fail-word QuantumExceeded skipped = ascii "again"
+fail-word NegativeCycle skipped = ascii "negcycle"
+fail-word InvalidAnswer skipped = ascii "invalid"
 
-abbrev pub word : Ending → List ℕ
-word (found a) = elim (a .ambiguous) [ true ↦ ascii "maybe" | false ↦ ascii "yes" ]
-word (fail e) = fail-word e
-word cut = ascii "cut"
-word (stopped n) = ascii "stop"
+abbrev pub word : Ending → (skipped : Bool) → List ℕ
+word (found a) skipped = elim (a .ambiguous) [ true ↦ ascii "maybe" | false ↦ ascii "yes" ]
+word (fail e) skipped = fail-word e skipped
+word cut skipped = ascii "cut"
+word (stopped n) skipped = ascii "stop"
 
 -- the variant of an answer, the number of a stop, or nothing
 abbrev pub number : Ending → List ℕ
@@ -136,7 +142,8 @@ behind (b ∷ bs) = ascii " " ++ (b ∷ bs)
 
 abbrev pub line-bytes : Line → List ℕ
 line-bytes l =
-    decimal (l .goal) ++ ascii " " ++ decimal (l .index) ++ ascii " " ++ word (l .ending) ++ behind (number (l .ending)) ++ ascii "\n"
+    decimal (l .goal) ++ ascii " " ++ decimal (l .index) ++ ascii " " ++ word (l .ending) (l .skipped)
+    ++ behind (number (l .ending)) ++ ascii "\n"
 
 abbrev pub lines-bytes : List Line → List ℕ
 lines-bytes [] = []
@@ -164,7 +171,7 @@ abbrev pub columns : List Column
 columns =
     record { width = 3; side = at-right; shows = λ l. decimal (l .goal) }
     ∷ record { width = 5; side = at-right; shows = λ l. decimal (l .index) }
-    ∷ record { width = 10; side = at-left; shows = λ l. word (l .ending) }
+    ∷ record { width = 10; side = at-left; shows = λ l. word (l .ending) (l .skipped) }
     ∷ record { width = 5; side = at-right; shows = λ l. number (l .ending) }
     ∷ []
 

@@ -1,12 +1,12 @@
--- Cases of change request 3, by computation: pages byte by byte.
+-- Cases of change requests 3 and 5, by computation: pages byte by byte, and the word behind an answer that was skipped.
 use Prim.Native.Nat.{ℕ, zero, suc, _*_}
 use mathlib.Core.Path.{_≡_, refl}
 use mathlib.Core.List.{List, [], _∷_, _++_}
 use lib.ListN.{length, replicate, drop}
 use Rattle.definitions.specs.Ascii.{ascii}
 use Rattle.definitions.specs.Book.{Clause, write}
-use Rattle.definitions.specs.Cases.{p1, p6, pos, neg, fact, one-rule, inductive, floundered}
-use Rattle.definitions.specs.Listing.{columns, width-of, blank-lines, listing}
+use Rattle.definitions.specs.Cases.{p1, p3, p6, pos, neg, fact, one-rule, inductive, coinductive, floundered}
+use Rattle.definitions.specs.Listing.{columns, width-of, blank-lines, fields, listing}
 
 -- a line has 26 bytes, and a newline
 pub columns-wide : width-of columns ≡ 26
@@ -43,6 +43,24 @@ page-of-p6 = refl
 pub page-of-a-stop :
     listing (write (inductive (one-rule (neg 1) ∷ []) ∷ floundered ∷ [])) ≡ ascii "  0     0 stop          25\n" ++ blank-lines 59
 page-of-a-stop = refl
+
+-- Change request 5. p3 on its page; with `2 :- 1` the answer that was skipped comes back refined, and the end is unsettled still.
+pub page-of-p3 :
+    listing p3
+    ≡ ascii "  0     0 yes            0\n"
+    ++ ascii "  0     1 none            \n"
+    ++ ascii "  1     1 unsettled       \n"
+    ++ blank-lines 57
+page-of-p3 = refl
+
+pub refined :
+    fields (write (coinductive (one-rule (pos 1) ∷ []) ∷ coinductive (one-rule (pos 0) ∷ []) ∷ coinductive (one-rule (pos 1) ∷ []) ∷ []))
+    ≡ ascii "0 0 yes 0\n0 1 none\n1 1 unsettled\n2 1 yes 0\n2 2 unsettled\n"
+refined = refl
+
+-- a goal that rests on itself alone: its own delayed goal is dropped, and nothing is skipped
+pub own : fields (write (coinductive (one-rule (pos 0) ∷ []) ∷ [])) ≡ ascii "0 0 yes 0\n0 1 none\n"
+own = refl
 
 -- the widest number
 pub page-of-the-widest :

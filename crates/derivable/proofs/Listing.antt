@@ -2,10 +2,11 @@
 -- every peek, and what a peek finds is stored in that table. So every yes of a clean goal can be derived.
 use Prim.Native.Nat.{ℕ, zero, suc, _-_}
 use mathlib.Core.Path.{_≡_, refl, sym, ap, subst, _∙_}
-use mathlib.Core.Bool.{Bool, true, false, true≢false}
+use mathlib.Core.Bool.{Bool, true, false, _||_, true≢false}
 use mathlib.Core.Option.{none, some}
 use mathlib.Core.List.{List, [], _∷_}
 use lib.ListN.{length, getElem?}
+use lib.Dec.{ltb}
 use Rattle.definitions.specs.{Answer, CompleteAnswer, TableIndex}
 use Rattle.definitions.specs.Book.{Book}
 use Rattle.definitions.specs.Refusal.{Refusable, refused, accepted}
@@ -41,9 +42,9 @@ module _ {book : Book} {P : List ℕ → ℕ → Strand → Type 0} {Q : ℕ →
       → Q (l .goal) (record { variant = a .variant; delayed-subgoals = []; ambiguous = a .ambiguous })
 
   -- a line behind which a peek of the goal's table left this forest
-  line-kept : (gs : List ℕ) (goal index : ℕ) (t : TableIndex) (e : Ending) (f : Forest) → Ends kept gs t e f → getElem? gs t ≡ some goal
-      → LineKept (line goal index e)
-  line-kept gs goal index t e f w is a q =
+  line-kept : (gs : List ℕ) (goal index : ℕ) (t : TableIndex) (e : Ending) (skipped : Bool) (f : Forest) → Ends kept gs t e f
+      → getElem? gs t ≡ some goal → LineKept (line goal index e skipped)
+  line-kept gs goal index t e skipped f w is a q =
       let x = subst (Says kept f t) q (w .says) in
       let same = same-goal (w .between .kept) t (x .own) (x .is-made) goal (w .within t goal is) in
       subst (λ (g : ℕ). Q g (record { variant = a .variant; delayed-subgoals = []; ambiguous = a .ambiguous })) (sym same) (x .as-stored)
@@ -53,49 +54,53 @@ module _ {book : Book} {P : List ℕ → ℕ → Strand → Type 0} {Q : ℕ →
     each : Each LineKept (r .lines)
     left : r .stops ≡ false → Between kept 0 (r .forest)
 
-  from-kept : (more goal t index : ℕ) (f : Forest) (b : Between kept 0 f) → getElem? (b .goals) t ≡ some goal
-      → GoalKept (list-from more goal t index f)
-  from-kept zero goal t index f b is = record { each = ((λ a q. absurd (stop-found q)), tt); left = λ e. absurd (true≢false e) }
-  from-kept (suc more) goal t index f b is = by-ending (p .ending) w (λ c. from-kept more goal t (suc (p .index)) (p .forest) c)
+  from-kept : (more goal t index : ℕ) (skipped : Bool) (f : Forest) (b : Between kept 0 f) → getElem? (b .goals) t ≡ some goal
+      → GoalKept (list-from more goal t index skipped f)
+  from-kept zero goal t index skipped f b is = record { each = ((λ a q. absurd (stop-found q)), tt); left = λ e. absurd (true≢false e) }
+  from-kept (suc more) goal t index skipped f b is =
+      by-ending (p .ending) w (λ c. from-kept more goal t (suc (p .index)) skips (p .forest) c)
     where
       p : Peeked
       p = peek-rounds (listing-rounds - 1) listing-turns 0 t index f
+
+      skips : Bool
+      skips = skipped || ltb index (p .index)
 
       w : EndsPeek kept (b .goals) t p
       w = peeks-kept kept (listing-rounds - 1) listing-turns 0 t index f b
 
       by-ending : (e : Ending) (w : Ends kept (b .goals) t e (p .forest))
           → ((c : Between kept 0 (p .forest)) → getElem? (c .goals) t ≡ some goal
-          → GoalKept (list-from more goal t (suc (p .index)) (p .forest)))
+          → GoalKept (list-from more goal t (suc (p .index)) skips (p .forest)))
           → GoalKept (elim (next e) [
             | next-index ↦ record {
-              lines = line goal (p .index) e ∷ list-from more goal t (suc (p .index)) (p .forest) .lines;
-              stops = list-from more goal t (suc (p .index)) (p .forest) .stops;
-              forest = list-from more goal t (suc (p .index)) (p .forest) .forest;
+              lines = line goal (p .index) e skips ∷ list-from more goal t (suc (p .index)) skips (p .forest) .lines;
+              stops = list-from more goal t (suc (p .index)) skips (p .forest) .stops;
+              forest = list-from more goal t (suc (p .index)) skips (p .forest) .forest;
             }
-            | next-goal ↦ record { lines = line goal (p .index) e ∷ []; stops = false; forest = p .forest }
-            | the-end ↦ record { lines = line goal (p .index) e ∷ []; stops = true; forest = p .forest }
+            | next-goal ↦ record { lines = line goal (p .index) e skips ∷ []; stops = false; forest = p .forest }
+            | the-end ↦ record { lines = line goal (p .index) e skips ∷ []; stops = true; forest = p .forest }
           ])
       by-ending (found a) w rest =
           let x = rest (at-mark kept (w .unless-stopped refl) (w .between)) (w .within t goal is) in
-          record { each = (line-kept (b .goals) goal (p .index) t (found a) (p .forest) w is, x .each); left = x .left }
+          record { each = (line-kept (b .goals) goal (p .index) t (found a) skips (p .forest) w is, x .each); left = x .left }
       by-ending (fail e) w rest = record {
-        each = (line-kept (b .goals) goal (p .index) t (fail e) (p .forest) w is, tt);
+        each = (line-kept (b .goals) goal (p .index) t (fail e) skips (p .forest) w is, tt);
         left = λ q. at-mark kept (w .unless-stopped refl) (w .between);
       }
       by-ending cut w rest = record {
-        each = (line-kept (b .goals) goal (p .index) t cut (p .forest) w is, tt);
+        each = (line-kept (b .goals) goal (p .index) t cut skips (p .forest) w is, tt);
         left = λ q. at-mark kept (w .unless-stopped refl) (w .between);
       }
       by-ending (stopped n) w rest = record {
-        each = (line-kept (b .goals) goal (p .index) t (stopped n) (p .forest) w is, tt);
+        each = (line-kept (b .goals) goal (p .index) t (stopped n) skips (p .forest) w is, tt);
         left = λ q. absurd (true≢false q);
       }
 
   goal-kept : (goal : ℕ) (f : Forest) → Between kept 0 f → GoalKept (list-goal goal f)
   goal-kept goal f b = case-fine (λ (o : Opened). GoalKept (list-opened goal o)) (makes kept (b .kept) 0 goal)
       (λ n. record { each = ((λ a q. absurd (stop-found q)), tt); left = λ e. absurd (true≢false e) })
-      (λ r x. from-kept 257 goal (r .0) 0 (r .1) (record { goals = x .goals; kept = x .kept }) (x .is-made))
+      (λ r x. from-kept 257 goal (r .0) 0 false (r .1) (record { goals = x .goals; kept = x .kept }) (x .is-made))
 
   goals-kept : (left goal : ℕ) (f : Forest) → Between kept 0 f → Each LineKept (list-goals left goal f)
   goals-kept zero goal f b = tt

@@ -4,10 +4,11 @@
 use Prim.Native.Nat.{ℕ, zero, suc, _+_, _-_, _*_, _≤_, _<_}
 use native.Mathlib.Omega.{arith}
 use mathlib.Core.Path.{_≡_, refl, sym, subst, _∙_}
-use mathlib.Core.Bool.{Bool, true, false, true≢false}
+use mathlib.Core.Bool.{Bool, true, false, _||_, true≢false}
 use mathlib.Core.Logic.{inr}
 use mathlib.Core.List.{List, [], _∷_, _++_, append-nil}
 use lib.ListN.{length, length-append}
+use lib.Dec.{ltb}
 use Rattle.definitions.specs.Refusal.{Refusable, refused, accepted}
 use Rattle.definitions.specs.Stop.{stop}
 use Rattle.definitions.specs.Book.{Book}
@@ -36,7 +37,7 @@ use Rattle.promises.specs.Total.{StopNumber, EndingListed}
 use Rattle.promises.specs.ListingWhole.{MayStand, StartsAt, Behind, InOrder, Whole, ListedAs, ListingWhole}
 
 module _ {B : Type 0} (P : B → Type 0) where
-  case-next : (x : Next) {a b c : B} → (x ≡ next-index → P a) → (x ≡ next-goal → P b) → (x ≡ the-end → P c) →
+  pub case-next : (x : Next) {a b c : B} → (x ≡ next-index → P a) → (x ≡ next-goal → P b) → (x ≡ the-end → P c) →
       P (elim x [ next-index ↦ a | next-goal ↦ b | the-end ↦ c ])
   case-next next-index p q r = p refl
   case-next next-goal p q r = q refl
@@ -44,7 +45,7 @@ module _ {B : Type 0} (P : B → Type 0) where
 
 -- One goal.
 
-next-found : (e : Ending) → next e ≡ next-index → is-found e ≡ true
+pub next-found : (e : Ending) → next e ≡ next-index → is-found e ≡ true
 next-found (found a) q = refl
 next-found (fail e) q = let z : _≡_ {A = ℕ} 0 1 = cc in absurd (omega arith)
 next-found cut q = let z : _≡_ {A = ℕ} 0 1 = cc in absurd (omega arith)
@@ -71,10 +72,10 @@ stays-unmarked (fail r) left x h = x
 stays-unmarked cut left x h = x
 stays-unmarked (stopped n) left x h = absurd (h refl)
 
-index-goes-on : next-index ≡ the-end → ⊥
+pub index-goes-on : next-index ≡ the-end → ⊥
 index-goes-on q = let z : _≡_ {A = ℕ} 0 1 = cc in omega arith
 
-goal-goes-on : next-goal ≡ the-end → ⊥
+pub goal-goes-on : next-goal ≡ the-end → ⊥
 goal-goes-on q = let z : _≡_ {A = ℕ} 0 1 = cc in omega arith
 
 -- the lines of a goal from an index on; the book has n goals
@@ -87,14 +88,14 @@ record GoalListed (n goal index : ℕ) (r : Listed) : Type 0 where
   in-order : (rest : List Line) → Follows n goal (r .stops) rest → InOrder n (r .lines ++ rest)
 
 -- a line of the goal: its index, and that it may stand
-record GoalLine (n goal index at : ℕ) (ending : Ending) : Type 0 where
+record GoalLine (n goal index at : ℕ) (ending : Ending) (skipped : Bool) : Type 0 where
   not-before : index ≤ at
-  stands : MayStand n (line goal at ending)
+  stands : MayStand n (line goal at ending skipped)
 
-module _ (n goal index at : ℕ) (ending : Ending) (here : GoalLine n goal index at ending) where
+module _ (n goal index at : ℕ) (ending : Ending) (skipped : Bool) (here : GoalLine n goal index at ending skipped) where
   -- after a yes or maybe: the lines from a later index on
   more-lines : next ending ≡ next-index → (r : Listed) → GoalListed n goal (suc at) r →
-      GoalListed n goal index (record { lines = line goal at ending ∷ r .lines; stops = r .stops; forest = r .forest })
+      GoalListed n goal index (record { lines = line goal at ending skipped ∷ r .lines; stops = r .stops; forest = r .forest })
   more-lines e r x = record {
     sound = x .sound;
     unmarked = x .unmarked;
@@ -104,7 +105,7 @@ module _ (n goal index at : ℕ) (ending : Ending) (here : GoalLine n goal index
     in-order = λ rest y. (rw e (behind (r .lines) rest (x .first)), x .in-order rest y);
   }
     where
-      behind : (ls rest : List Line) → FirstAt goal (suc at) ls → Behind n (line goal at ending) next-index (ls ++ rest)
+      behind : (ls rest : List Line) → FirstAt goal (suc at) ls → Behind n (line goal at ending skipped) next-index (ls ++ rest)
       behind [] rest f = absurd f
       behind (l ∷ ls) rest f = f
 
@@ -113,7 +114,7 @@ module _ (n goal index at : ℕ) (ending : Ending) (here : GoalLine n goal index
 
   -- after a stop nothing, after any other ending the next goal
   last-line : (f : Forest) → SoundForest n f → f .mark ≡ 0 → next ending ≡ next-goal →
-      GoalListed n goal index (record { lines = line goal at ending ∷ []; stops = false; forest = f })
+      GoalListed n goal index (record { lines = line goal at ending skipped ∷ []; stops = false; forest = f })
   last-line f s m e = record {
     sound = s;
     unmarked = λ q. m;
@@ -124,7 +125,7 @@ module _ (n goal index at : ℕ) (ending : Ending) (here : GoalLine n goal index
   }
 
   stop-line : (f : Forest) → SoundForest n f → next ending ≡ the-end →
-      GoalListed n goal index (record { lines = line goal at ending ∷ []; stops = true; forest = f })
+      GoalListed n goal index (record { lines = line goal at ending skipped ∷ []; stops = true; forest = f })
   stop-line f s e = record {
     sound = s;
     unmarked = λ q. absurd (true≢false q);
@@ -145,17 +146,18 @@ module _ (n goal t : ℕ) where
       let most = answers-at-most (w .ended .sound) t own made in
       ((omega arith), record { sound = w .ended .sound; own = own; is-made = made; reached = inr (omega arith) })
 
-  from-listed : (more index : ℕ) (f : Forest) → goal < n → index ≤ 256 → 257 ≤ index + more → f .mark ≡ 0 → Ended n t index f →
-      GoalListed n goal index (list-from more goal t index f)
-  from-listed zero index f lt few enough m x = absurd (omega arith)
-  from-listed (suc more) index f lt few enough m x =
+  from-listed : (more index : ℕ) (skipped : Bool) (f : Forest) → goal < n → index ≤ 256 → 257 ≤ index + more → f .mark ≡ 0
+      → Ended n t index f → GoalListed n goal index (list-from more goal t index skipped f)
+  from-listed zero index skipped f lt few enough m x = absurd (omega arith)
+  from-listed (suc more) index skipped f lt few enough m x =
       let p = peek-rounds (listing-rounds - 1) listing-turns 0 t index f in
+      let skips = skipped || ltb index (p .index) in
       let w = peeks-well n t listing-turns (listing-rounds - 1) 0 index f x in
       let y = peek-stored t listing-turns (listing-rounds - 1) 0 index f in
       let ends = rounds-end (listing-rounds - 1) listing-turns 0 t index f m .ends in
       let listed = ending-listed (p .ending) (p .forest .mark) ends (w .fine) in
       let later = y .not-before in
-      let here : GoalLine n goal index (p .index) (p .ending) = record {
+      let here : GoalLine n goal index (p .index) (p .ending) skips = record {
         not-before = later;
         stands = record {
           of-the-book = lt;
@@ -169,10 +171,12 @@ module _ (n goal t : ℕ) where
       (λ e.
       let after = found-next index p w y e in
       let unmarked = stays (λ q. index-goes-on (sym e ∙ q)) in
-      let rest = from-listed more (suc (p .index)) (p .forest) lt (after .0) (omega arith) unmarked (after .1) in
-      more-lines n goal index (p .index) (p .ending) here e _ rest)
-      (λ e. last-line n goal index (p .index) (p .ending) here (p .forest) (w .ended .sound) (stays (λ q. goal-goes-on (sym e ∙ q))) e)
-      (λ e. stop-line n goal index (p .index) (p .ending) here (p .forest) (w .ended .sound) e)
+      let rest = from-listed more (suc (p .index)) skips (p .forest) lt (after .0) (omega arith) unmarked (after .1) in
+      more-lines n goal index (p .index) (p .ending) skips here e _ rest)
+      (λ e.
+      let unmarked = stays (λ q. goal-goes-on (sym e ∙ q)) in
+      last-line n goal index (p .index) (p .ending) skips here (p .forest) (w .ended .sound) unmarked e)
+      (λ e. stop-line n goal index (p .index) (p .ending) skips here (p .forest) (w .ended .sound) e)
 
 module _ (n goal : ℕ) (f : Forest) (s : SoundForest n f) (lt : goal < n) where
   -- an open that stops does so with 22
@@ -180,7 +184,7 @@ module _ (n goal : ℕ) (f : Forest) (s : SoundForest n f) (lt : goal < n) where
       → GoalListed n goal 0 (list-opened goal (record { table = stop m; forest = with-mark f m }))
   open-stops m z h =
       let is = table-listed (stop m) m h z .0 in
-      stop-line n goal 0 0 (stopped m) (record {
+      stop-line n goal 0 0 (stopped m) false (record {
         not-before = omega arith;
         stands = record {
           of-the-book = lt;
@@ -199,7 +203,7 @@ module _ (n goal : ℕ) (f : Forest) (s : SoundForest n f) (lt : goal < n) where
       (λ r x h.
       let reached : Reached (x .own) 0 = inr (omega arith) in
       let made : Ended n (r .0) 0 (r .1) = record { sound = x .kept .sound; own = x .own; is-made = x .is-made; reached = reached } in
-      from-listed n goal (r .0) 257 0 (r .1) lt (omega arith) (omega arith) h made)
+      from-listed n goal (r .0) 257 0 false (r .1) lt (omega arith) (omega arith) h made)
       (opened-ends f goal m)
 
 -- All goals.
