@@ -2,7 +2,7 @@
 -- listing. And each line with what is behind it.
 use Prim.Native.Nat.{ℕ, suc, _+_, _-_, _≤_, _<_}
 use native.Mathlib.Omega.{arith}
-use mathlib.Core.Bool.{Bool, true, false, not, _&&_, _||_}
+use mathlib.Core.Bool.{Bool, true, false, not, _&&_, _||_, and-false}
 use mathlib.Core.List.{List, [], _∷_, _++_}
 use mathlib.Core.Logic.{inl, inr}
 use mathlib.Core.Option.{Option, none, some}
@@ -45,10 +45,6 @@ module _ {A : Type 0} where
 
 not-above : (t : Table) (i : ℕ) → Reached t i → (ltb (length (t .answers)) i && not (t .floundered)) ≡ false
 not-above t i (inl e) = rw e (and-false (ltb (length (t .answers)) i))
-  where
-    and-false : (b : Bool) → (b && false) ≡ false
-    and-false true = refl
-    and-false false = refl
 not-above t i (inr o) = rw (le-ltb (length (t .answers)) i o)
 
 module _ (n t i : ℕ) (f : Forest) (x : Ended n t i f) (unmarked : f .mark ≡ 0) where
@@ -99,37 +95,43 @@ line-first left goal here l = by (l .stops)
     by true = refl
     by false = refl
 
-module _ (left more goal t : ℕ) (p : Peeked) where
+-- a peek that was asked for at an index; `skipped`: an earlier one skipped an answer
+module _ (left more goal t i : ℕ) (skipped : Bool) (p : Peeked) where
+  abbrev skips : Bool
+  skips = skipped || ltb i (p .index)
+
   abbrev peek-line : Line
-  peek-line = line goal (p .index) (p .ending)
+  peek-line = line goal (p .index) (p .ending) skips
 
   -- what is listed from a peek on, by what follows its line
   abbrev listed-by : Next → Listed
-  listed-by next-index = with-line peek-line (list-from more goal t (suc (p .index)) (p .forest))
+  listed-by next-index = with-line peek-line (list-from more goal t (suc (p .index)) skips (p .forest))
   listed-by next-goal = record { lines = peek-line ∷ []; stops = false; forest = p .forest }
   listed-by the-end = record { lines = peek-line ∷ []; stops = true; forest = p .forest }
 
   -- the lines behind that of a peek
   abbrev pub lines-behind : Next → List Line
-  lines-behind next-index = goals-on left goal (list-from more goal t (suc (p .index)) (p .forest))
+  lines-behind next-index = goals-on left goal (list-from more goal t (suc (p .index)) skips (p .forest))
   lines-behind next-goal = list-goals left (suc goal) (p .forest)
   lines-behind the-end = []
 
   peek-first : (n : Next) → goals-on left goal (listed-by n) ≡ peek-line ∷ lines-behind n
-  peek-first next-index = line-first left goal peek-line (list-from more goal t (suc (p .index)) (p .forest))
+  peek-first next-index = line-first left goal peek-line (list-from more goal t (suc (p .index)) skips (p .forest))
   peek-first next-goal = refl
   peek-first the-end = refl
 
-  pub peeked-lines : (i : ℕ) (f : Forest) → peek-rounds (listing-rounds - 1) listing-turns 0 t i f ≡ p
-      → goals-on left goal (list-from (suc more) goal t i f) ≡ peek-line ∷ lines-behind (next (p .ending))
-  peeked-lines i f made = ap (λ (z : Peeked). goals-on left goal (from z)) made ∙ peek-first (next (p .ending))
+  pub peeked-lines : (f : Forest) → peek-rounds (listing-rounds - 1) listing-turns 0 t i f ≡ p
+      → goals-on left goal (list-from (suc more) goal t i skipped f) ≡ peek-line ∷ lines-behind (next (p .ending))
+  peeked-lines f made = ap (λ (z : Peeked). goals-on left goal (from z)) made ∙ peek-first (next (p .ending))
     where
       from : Peeked → Listed
-      from z = elim (next (z .ending)) [
-        | next-index ↦ with-line (line goal (z .index) (z .ending)) (list-from more goal t (suc (z .index)) (z .forest))
-        | next-goal ↦ record { lines = line goal (z .index) (z .ending) ∷ []; stops = false; forest = z .forest }
-        | the-end ↦ record { lines = line goal (z .index) (z .ending) ∷ []; stops = true; forest = z .forest }
-      ]
+      from z =
+          let here = line goal (z .index) (z .ending) (skipped || ltb i (z .index)) in
+          elim (next (z .ending)) [
+            | next-index ↦ with-line here (list-from more goal t (suc (z .index)) (skipped || ltb i (z .index)) (z .forest))
+            | next-goal ↦ record { lines = here ∷ []; stops = false; forest = z .forest }
+            | the-end ↦ record { lines = here ∷ []; stops = true; forest = z .forest }
+          ]
 
 -- GOAL BY GOAL
 
@@ -177,10 +179,10 @@ module _ (n : ℕ) (f : Forest) (s : SoundForest n f) (goal : ℕ) (named : goal
 
 module _ (goal : ℕ) (f g : Forest) where
   pub goal-stopped : (n : ℕ) → opened 0 f goal ≡ record { table = stop n; forest = g }
-      → list-goal goal f ≡ record { lines = line goal 0 (stopped n) ∷ []; stops = true; forest = g }
+      → list-goal goal f ≡ record { lines = line goal 0 (stopped n) false ∷ []; stops = true; forest = g }
   goal-stopped n e = ap (list-opened goal) e
 
-  pub goal-opened : (t : ℕ) → opened 0 f goal ≡ record { table = go t; forest = g } → list-goal goal f ≡ list-from 257 goal t 0 g
+  pub goal-opened : (t : ℕ) → opened 0 f goal ≡ record { table = go t; forest = g } → list-goal goal f ≡ list-from 257 goal t 0 false g
   goal-opened t e = ap (list-opened goal) e
 
 pub goals-here : (n goal : ℕ) (f : Forest) → goal < n → list-goals (n - goal) goal f ≡ goals-on (n - (goal + 1)) goal (list-goal goal f)

@@ -33,9 +33,9 @@ use Rattle.forest.specs.Open.{OpenSays}
 use Rattle.forest.specs.ServeCalls.{ServeCallsSays}
 use Rattle.forest.specs.View.{view, Sound}
 use Rattle.listing.specs.declared.goals.Place.{Place}
-use Rattle.listing.specs.Lines.{reply-line, next-line, pages-behind}
+use Rattle.listing.specs.Lines.{reply-line, settled-word, next-line, pages-behind}
 use Rattle.listing.specs.Goals.{Ready, Stands, goal-count, rest-lines, first-place, ended-place, opened-place, opened-bytes, OpenedTo}
-use Rattle.listing.specs.Goals.{peek-put, next-place, ToldTo}
+use Rattle.listing.specs.Goals.{peek-put, skips, next-place, ToldTo}
 use Rattle.listing.proofs.Listing.{goals-on, lines-behind, peeked-lines}
 use Rattle.listing.proofs.Opens.{goal-past, goal-stops, goal-stands, goal-named, same-count, goal-lists}
 use Rattle.listing.proofs.Told.{asks-room, tells-room, one-peek, PeekTells, peek-tells}
@@ -59,20 +59,20 @@ pub record Amid (f : Forest) (s : Pen) (g : Forest) (goal lines : ℕ) (q : Pen)
   pub same-bytes : Left f s lines (rest-lines goal g) q
 
 -- between two lines of a goal: the rest of them, whatever the bound that is left, and behind it the goals after this one
-pub record Midway (f : Forest) (s : Pen) (g : Forest) (goal table index lines : ℕ) (q : Pen) : Type 0 where
+pub record Midway (f : Forest) (s : Pen) (g : Forest) (goal table index : ℕ) (skipped : Bool) (lines : ℕ) (q : Pen) : Type 0 where
   pub stands : Stands g table index
   pub same-goals : goal-count g ≡ goal-count f
   pub named : goal < goal-count f
   pub more : ℕ
   pub enough : 257 ≤ index + more
-  pub same-bytes : Left f s lines (goals-on (goal-count f - (goal + 1)) goal (list-from more goal table index (view g))) q
+  pub same-bytes : Left f s lines (goals-on (goal-count f - (goal + 1)) goal (list-from more goal table index skipped (view g))) q
 
 -- at a place; the page is never full
 pub record Along (f : Forest) (s : Pen) (g : Forest) (p : Place) (q : Pen) : Type 0 where
   pub few : p .lines < 60
   pub over : p .over ≡ true → Left f s (p .lines) [] q
   pub opens : p .over ≡ false → p .opens ≡ true → Amid f s g (p .goal) (p .lines) q
-  pub peeks : p .over ≡ false → p .opens ≡ false → Midway f s g (p .goal) (p .table) (p .index) (p .lines) q
+  pub peeks : p .over ≡ false → p .opens ≡ false → Midway f s g (p .goal) (p .table) (p .index) (p .skipped) (p .lines) q
 
 pub along-start : (f : Forest) (out : List ℕ) (p : Place) → Ready f → p ≡ first-place → Along f (pen out 0) f p (pen out (p .used))
 along-start f out p x e = rw e (record {
@@ -162,8 +162,8 @@ module _ (f : Forest) (s : Pen) (g : Forest) (p : Place) (q : Pen) (a : Along f 
     opened-by-case (openings.Stopped n) used after e put =
         let now = left-now in
         moved-end f s p (o .forest) used (next-line (p .lines)) after (omega arith) (few-lines (p .lines))
-        (line-put f s (p .lines) (line goal 0 (stopped n)) [] _ q after (a .few) (stop-line goal n) put
-        (left-as (line goal 0 (stopped n) ∷ []) (goal-stops g (amid .ready) goal o says n e)))
+        (line-put f s (p .lines) (line goal 0 (stopped n) false) [] _ q after (a .few) (stop-line goal n) put
+        (left-as (line goal 0 (stopped n) false ∷ []) (goal-stops g (amid .ready) goal o says n e)))
     opened-by-case (openings.Table t) used after e put =
         let x = amid .ready in
         let lists = goal-lists g x goal o says t e in
@@ -185,7 +185,7 @@ module _ (f : Forest) (s : Pen) (g : Forest) (p : Place) (q : Pen) (a : Along f 
               same-bytes =
                   ap (put-all _) (put ∙ put-nothing q)
                   ∙ ap (λ (n : ℕ). put-all (pages-behind (p .lines)
-                  (goals-on (n - (goal + 1)) goal (list-from 257 goal t 0 (view (o .forest))))) q) (sym same)
+                  (goals-on (n - (goal + 1)) goal (list-from 257 goal t 0 false (view (o .forest))))) q) (sym same)
                   ∙ left-as _ lists;
             };
           };
@@ -205,7 +205,7 @@ module _ (f : Forest) (s : Pen) (g : Forest) (p : Place) (q : Pen) (a : Along f 
 
   -- A PEEK
   module _ (peeking : p .opens ≡ false) (h : Forest) (replies : List ℕ) where
-    midway : Midway f s g goal (p .table) (p .index) (p .lines) q
+    midway : Midway f s g goal (p .table) (p .index) (p .skipped) (p .lines) q
     midway = a .peeks live peeking
 
     abbrev fewer : ℕ
@@ -230,21 +230,28 @@ module _ (f : Forest) (s : Pen) (g : Forest) (p : Place) (q : Pen) (a : Along f 
 
     module _ (x : PeekTells g (p .table) (p .index) h replies) where
       abbrev here : Line
-      here = line goal (x .made .index) (x .made .ending)
+      here = line goal (x .made .index) (x .made .ending) (skips p (x .made .index))
+
+      says-here : reply-line goal (getD replies 2 0) (settled-word (getD replies 0 0) (skips p (getD replies 2 0))) (getD replies 1 0)
+          ≡ page-line here
+      says-here =
+          x .says-line goal (skips p (getD replies 2 0))
+          ∙ ap (λ (k : ℕ). page-line (line goal (x .made .index) (x .made .ending) (skips p k))) (x .ended-at)
 
       behind-put : (rest : List Line) (after : Pen)
-          → after ≡ put-all (reply-line goal (getD replies 2 0) (getD replies 0 0) (getD replies 1 0)) q
-          → goals-on others goal (list-from (suc fewer) goal (p .table) (p .index) (view g)) ≡ here ∷ rest
+          → after ≡ put-all (reply-line goal (getD replies 2 0) (settled-word (getD replies 0 0) (skips p (getD replies 2 0)))
+          (getD replies 1 0)) q
+          → goals-on others goal (list-from (suc fewer) goal (p .table) (p .index) (p .skipped) (view g)) ≡ here ∷ rest
           → Left f s (next-line (p .lines)) rest after
       behind-put rest after put e =
-          line-put f s (p .lines) here rest _ q after (a .few) (x .says-line goal) put
+          line-put f s (p .lines) here rest _ q after (a .few) says-here put
           (ap (λ (ls : List Line). put-all (pages-behind (p .lines) ls) q) (sym e)
           ∙ ap (λ (k : ℕ). put-all (pages-behind (p .lines)
-          (goals-on others goal (list-from k goal (p .table) (p .index) (view g)))) q) (sym has-more)
+          (goals-on others goal (list-from k goal (p .table) (p .index) (p .skipped) (view g)))) q) (sym has-more)
           ∙ midway .same-bytes)
 
       abbrev behind : Next → List Line
-      behind n = lines-behind others fewer goal (p .table) (x .made) n
+      behind n = lines-behind others fewer goal (p .table) (p .index) (p .skipped) (x .made) n
 
       peeked-by-case : (n : Next) (used index : ℕ) (after : Pen) → next (x .made .ending) ≡ n → index ≡ x .made .index
           → Left f s (next-line (p .lines)) (behind n) after → Moved f s p h (next-place n used index p) after
@@ -302,8 +309,11 @@ module _ (f : Forest) (s : Pen) (g : Forest) (p : Place) (q : Pen) (a : Along f 
                 enough = omega arith;
                 same-bytes =
                     ap (λ (ls : List Line). put-all (pages-behind (next-line (p .lines)) ls) after)
-                    (ap (λ (k : ℕ). goals-on others goal (list-from fewer goal (p .table) k (view h))) (next ∙ one-up (x .made .index))
-                    ∙ ap (λ (k : tables.Forest). goals-on others goal (list-from fewer goal (p .table) (suc (x .made .index)) k))
+                    (ap (λ (k : ℕ). goals-on others goal (list-from fewer goal (p .table) k (skips p index) (view h)))
+                    (next ∙ one-up (x .made .index))
+                    ∙ ap (λ (k : ℕ). goals-on others goal (list-from fewer goal (p .table) (suc (x .made .index)) (skips p k) (view h))) i
+                    ∙ ap (λ (k : tables.Forest).
+                    goals-on others goal (list-from fewer goal (p .table) (suc (x .made .index)) (skips p (x .made .index)) k))
                     (sym (x .left)))
                     ∙ left;
               };
@@ -317,7 +327,7 @@ module _ (f : Forest) (s : Pen) (g : Forest) (p : Place) (q : Pen) (a : Along f 
           (sym (to .place ∙ ap (λ (n : Next). next-place n (r .used) (getD replies 2 0) p) (x .follows)))
           (peeked-by-case (next (x .made .ending)) (r .used) (getD replies 2 0) after refl (x .ended-at)
           (behind-put (behind (next (x .made .ending))) after (to .bytes)
-          (peeked-lines others fewer goal (p .table) (x .made) (p .index) (view g) (x .is-made))))
+          (peeked-lines others fewer goal (p .table) (p .index) (p .skipped) (x .made) (view g) (x .is-made))))
 
     module _ (l calls before : List ℕ) (room : 5 ≤ length l) (room-too : 3 ≤ length before)
         (asks : calls ≡ peek-put (p .table) (p .index) l) (says : Sound g → ServeCallsSays g 1 calls before h replies) where

@@ -1,6 +1,7 @@
 -- One open of the code, on a forest that may be asked: by what it gave, the lines that are left.
 use Prim.Native.Nat.{ℕ, _+_, _-_, _≤_, _<_}
 use native.Mathlib.Omega.{arith}
+use mathlib.Core.Bool.{false}
 use mathlib.Core.List.{[], _∷_}
 use mathlib.Core.Logic.{inr}
 use mathlib.Core.Path.{_≡_, refl, sym, ap, subst, _∙_}
@@ -59,7 +60,7 @@ module _ (f : Forest) (x : Ready f) (goal : ℕ) (o : Opened) (says : OpenSays f
       goals-here (goal-count f) goal F (named t e) ∙ ap (λ (z : Listed). goals-on (goal-count f - (goal + 1)) goal z) is
 
   -- the open stopped
-  pub goal-stops : (n : ℕ) → o .opening ≡ openings.Stopped n → rest-lines goal f ≡ line goal 0 (stopped n) ∷ []
+  pub goal-stops : (n : ℕ) → o .opening ≡ openings.Stopped n → rest-lines goal f ≡ line goal 0 (stopped n) false ∷ []
   goal-stops n e =
       let m = ap (λ (z : Opening). opened-by z G) e in
       rest-is (stop n) m _ (goal-stopped goal F G n (is-opened (stop n) m))
@@ -91,5 +92,5 @@ module _ (f : Forest) (x : Ready f) (goal : ℕ) (o : Opened) (says : OpenSays f
     pub same-count : goal-count (o .forest) ≡ goal-count f
     same-count = is-table .sound .goals ∙ sym (x .sound .forest .goals)
 
-    pub goal-lists : rest-lines goal f ≡ goals-on (goal-count f - (goal + 1)) goal (list-from 257 goal t 0 G)
+    pub goal-lists : rest-lines goal f ≡ goals-on (goal-count f - (goal + 1)) goal (list-from 257 goal t 0 false G)
     goal-lists = rest-is (go t) m _ (goal-opened goal F G t (is-opened (go t) m))

@@ -3,6 +3,7 @@
 use Prim.Native.Nat.{ℕ, suc, _+_, _<_}
 use native.Mathlib.Omega.{arith}
 use native.Mathlib.Decide.{decLt}
+use mathlib.Core.Bool.{Bool}
 use mathlib.Core.List.{List, [], _∷_, _++_, append-assoc}
 use mathlib.Core.Path.{_≡_, ap, _∙_}
 use lib.ListN.{length}
@@ -21,17 +22,17 @@ joined : (a b c d : List ℕ)
 joined a b c d = simp append-assoc
 
 -- for an ending that has the word and the number
-pub line-is : (goal index said value : ℕ) (e : Ending) → word-of said ≡ word e → number-of said value ≡ number e
-    → reply-line goal index said value ≡ page-line (line goal index e)
+pub line-is : (goal index said value : ℕ) (e : Ending) (skipped : Bool) → word-of said ≡ word e skipped → number-of said value ≡ number e
+    → reply-line goal index said value ≡ page-line (line goal index e skipped)
 unfolding reply-line number-spaced word-column number-column
-line-is goal index said value e x y =
+line-is goal index said value e skipped x y =
     let a = in-column at-right 3 (decimal goal) in
     let b = in-column at-right 5 (decimal index) in
     ap (λ (w : List ℕ). (a ++ ascii " ") ++ ((b ++ ascii " ")
     ++ (in-column at-left 10 w ++ (ascii " " ++ (in-column at-right 5 (number-of said value) ++ ascii "\n"))))) x
     ∙ ap (λ (w : List ℕ). (a ++ ascii " ") ++ ((b ++ ascii " ")
-    ++ (in-column at-left 10 (word e) ++ (ascii " " ++ (in-column at-right 5 w ++ ascii "\n"))))) y
-    ∙ joined a b (in-column at-left 10 (word e)) (in-column at-right 5 (number e))
+    ++ (in-column at-left 10 (word e skipped) ++ (ascii " " ++ (in-column at-right 5 w ++ ascii "\n"))))) y
+    ∙ joined a b (in-column at-left 10 (word e skipped)) (in-column at-right 5 (number e))
 
 -- LINES BEHIND OTHERS ON THEIR PAGE
 

@@ -2,7 +2,7 @@
 -- reply tell is the next step of the definitions' listing.
 use Prim.Native.Nat.{ℕ, suc, _+_, _-_, _≤_, _<_}
 use native.Mathlib.Omega.{arith}
-use mathlib.Core.Bool.{true}
+use mathlib.Core.Bool.{Bool, true}
 use mathlib.Core.List.{List, [], _∷_, map}
 use mathlib.Core.Logic.{inr}
 use mathlib.Core.Path.{_≡_, refl, sym, ap, subst, _∙_}
@@ -29,7 +29,7 @@ use Rattle.forest.specs.Searches.{PeekSays, reply-by}
 use Rattle.forest.specs.ServeCalls.{call-means, outcome-numbers, numbers, all-put, all-left, ServeCallsSays}
 use Rattle.forest.specs.Sittings.{Told, opens, searches, peeks, asks-future, left, Gives, Sits, asked}
 use Rattle.forest.specs.View.{view, Sound}
-use Rattle.listing.specs.Lines.{reply-line}
+use Rattle.listing.specs.Lines.{reply-line, settled-word}
 use Rattle.listing.specs.Goals.{Ready, Stands, goal-count, peek-put, next-of}
 use Rattle.listing.proofs.Marks.{MarkStays, PeekMarks, peek-mark}
 use Rattle.listing.proofs.Listing.{peek-asked}
@@ -156,8 +156,9 @@ pub record PeekTells (f : Forest) (table index : ℕ) (g : Forest) (replies : Li
   pub left : made .forest ≡ view g
   pub follows : next-of (getD replies 0 0) ≡ next (made .ending)
   pub ended-at : getD replies 2 0 ≡ made .index
-  pub says-line : (goal : ℕ)
-      → reply-line goal (getD replies 2 0) (getD replies 0 0) (getD replies 1 0) ≡ page-line (line goal (made .index) (made .ending))
+  pub says-line : (goal : ℕ) (skipped : Bool)
+      → reply-line goal (getD replies 2 0) (settled-word (getD replies 0 0) skipped) (getD replies 1 0)
+      ≡ page-line (line goal (made .index) (made .ending) skipped)
   pub same-goals : goal-count g ≡ goal-count f
   pub not-before : index ≤ made .index
   pub stands : next (made .ending) ≡ next-index → Stands g table (made .index + 1)
@@ -225,7 +226,7 @@ module _ (f : Forest) (t i : ℕ) (x : Stands f t i) (r : Peeked) (says : PeekSa
     left = refl;
     follows = ap next-of a ∙ tells .follows;
     ended-at = c ∙ tells .ended-at;
-    says-line = λ goal. rw (a, b, c) (peek-line goal (r .index) (peek-numbers r) ending tells);
+    says-line = λ goal skipped. rw (a, b, c) (peek-line goal (r .index) (peek-numbers r) ending skipped tells);
     same-goals = same-goals;
     not-before = is-stored .not-before;
     stands = stands-next;

@@ -1,14 +1,16 @@
 -- What the proofs of a line's words cite: texts put down one after the other with a pen are put down as one, a lemma for each way out.
 use Prim.Native.Nat.{ℕ, zero, suc, _+_, _-_, _<_, _≤_}
 use native.Mathlib.Omega.{arith}
+use mathlib.Core.Bool.{Bool, true, false, and-false}
 use mathlib.Core.List.{List, []}
 use mathlib.Core.Path.{_≡_, refl, sym, ap, _∙_}
-use borrow.Author.Tests.{lt-ltb, le-ltb}
+use lib.Dec.{eqb}
+use borrow.Author.Tests.{lt-ltb, le-ltb, ne-eqb}
 use Rattle.definitions.specs.Ascii.{ascii}
 use Rattle.definitions.specs.Listing.{decimal, blanks, in-column, at-left, at-right, blank-line, blank-lines, lines-left}
 use Rattle.pen.specs.Pen.{Pen, put-all}
 use Rattle.pen.proofs.Putting.{put-two, put-left, put-ended}
-use Rattle.listing.specs.Lines.{word-of, number-of, word-column, number-column, number-spaced, reply-line, next-line}
+use Rattle.listing.specs.Lines.{word-of, settled-word, number-of, word-column, number-column, number-spaced, reply-line, next-line}
 
 -- THE WORD
 
@@ -17,26 +19,41 @@ word-is word k p q e f = rw e f
 
 -- no other number has one
 wordless : (word : ℕ) → (word ≡ 2 → ⊥) → (word ≡ 3 → ⊥) → (word ≡ 4 → ⊥) → (word ≡ 5 → ⊥) → (word ≡ 6 → ⊥) → (word ≡ 7 → ⊥)
-    → (word ≡ 8 → ⊥) → (word ≡ 9 → ⊥) → (word ≡ 10 → ⊥) → word-of word ≡ []
+    → (word ≡ 8 → ⊥) → (word ≡ 9 → ⊥) → (word ≡ 10 → ⊥) → (word ≡ 11 → ⊥) → word-of word ≡ []
 unfolding word-of
-wordless zero a b c d e f g h i = refl
-wordless (suc zero) a b c d e f g h i = refl
-wordless (suc (suc zero)) a b c d e f g h i = absurd (a refl)
-wordless (suc (suc (suc zero))) a b c d e f g h i = absurd (b refl)
-wordless (suc (suc (suc (suc zero)))) a b c d e f g h i = absurd (c refl)
-wordless (suc (suc (suc (suc (suc zero))))) a b c d e f g h i = absurd (d refl)
-wordless (suc (suc (suc (suc (suc (suc zero)))))) a b c d e f g h i = absurd (e refl)
-wordless (suc (suc (suc (suc (suc (suc (suc zero))))))) a b c d e f g h i = absurd (f refl)
-wordless (suc (suc (suc (suc (suc (suc (suc (suc zero)))))))) a b c d e f g h i = absurd (g refl)
-wordless (suc (suc (suc (suc (suc (suc (suc (suc (suc zero))))))))) a b c d e f g h i = absurd (h refl)
-wordless (suc (suc (suc (suc (suc (suc (suc (suc (suc (suc zero)))))))))) a b c d e f g h i = absurd (i refl)
-wordless (suc (suc (suc (suc (suc (suc (suc (suc (suc (suc (suc word))))))))))) a b c d e f g h i = refl
+wordless zero a b c d e f g h i j = refl
+wordless (suc zero) a b c d e f g h i j = refl
+wordless (suc (suc zero)) a b c d e f g h i j = absurd (a refl)
+wordless (suc (suc (suc zero))) a b c d e f g h i j = absurd (b refl)
+wordless (suc (suc (suc (suc zero)))) a b c d e f g h i j = absurd (c refl)
+wordless (suc (suc (suc (suc (suc zero))))) a b c d e f g h i j = absurd (d refl)
+wordless (suc (suc (suc (suc (suc (suc zero)))))) a b c d e f g h i j = absurd (e refl)
+wordless (suc (suc (suc (suc (suc (suc (suc zero))))))) a b c d e f g h i j = absurd (f refl)
+wordless (suc (suc (suc (suc (suc (suc (suc (suc zero)))))))) a b c d e f g h i j = absurd (g refl)
+wordless (suc (suc (suc (suc (suc (suc (suc (suc (suc zero))))))))) a b c d e f g h i j = absurd (h refl)
+wordless (suc (suc (suc (suc (suc (suc (suc (suc (suc (suc zero)))))))))) a b c d e f g h i j = absurd (i refl)
+wordless (suc (suc (suc (suc (suc (suc (suc (suc (suc (suc (suc zero))))))))))) a b c d e f g h i j = absurd (j refl)
+wordless (suc (suc (suc (suc (suc (suc (suc (suc (suc (suc (suc (suc word)))))))))))) a b c d e f g h i j = refl
 
 pub no-word : (word : ℕ) (p q : Pen) → (word ≡ 2 → ⊥) → (word ≡ 3 → ⊥) → (word ≡ 4 → ⊥) → (word ≡ 5 → ⊥) → (word ≡ 6 → ⊥) → (word ≡ 7 → ⊥)
-    → (word ≡ 8 → ⊥) → (word ≡ 9 → ⊥) → (word ≡ 10 → ⊥) → q ≡ put-all (blanks 10) p → q ≡ put-all (word-column word) p
+    → (word ≡ 8 → ⊥) → (word ≡ 9 → ⊥) → (word ≡ 10 → ⊥) → (word ≡ 11 → ⊥) → q ≡ put-all (blanks 10) p → q ≡ put-all (word-column word) p
 unfolding word-column
-no-word word p q a b c d e f g h i put =
-    put ∙ ap (λ (w : List ℕ). put-all (in-column at-left 10 w) p) (sym (wordless word a b c d e f g h i))
+no-word word p q a b c d e f g h i j put =
+    put ∙ ap (λ (w : List ℕ). put-all (in-column at-left 10 w) p) (sym (wordless word a b c d e f g h i j))
+
+-- the one that is written: 11 for a none behind an answer that was skipped, else the one that was said
+
+pub unsettled-is : (said : ℕ) (skipped : Bool) → said ≡ 5 → skipped ≡ true → 11 ≡ settled-word said skipped
+unfolding settled-word
+unsettled-is said skipped a b = rw (a, b)
+
+pub settled-other : (said : ℕ) (skipped : Bool) → (said ≡ 5 → ⊥) → said ≡ settled-word said skipped
+unfolding settled-word
+settled-other said skipped a = rw (ne-eqb said 5 a, settled-word)
+
+pub settled-whole : (said : ℕ) (skipped : Bool) → skipped ≡ false → said ≡ settled-word said skipped
+unfolding settled-word
+settled-whole said skipped b = rw b (rw (and-false (eqb said 5), settled-word))
 
 -- THE NUMBER
 

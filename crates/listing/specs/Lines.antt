@@ -1,13 +1,13 @@
 -- A line in the words of the code: what the definitions' line says, for the numbers of a reply.
 use Prim.Native.Nat.{ℕ, _+_}
-use mathlib.Core.Bool.{true, false}
+use mathlib.Core.Bool.{Bool, true, false, _&&_}
 use mathlib.Core.List.{List, [], _∷_, _++_}
-use lib.Dec.{ltb}
+use lib.Dec.{eqb, ltb}
 use lib.ListN.{getD, length}
 use Rattle.definitions.specs.Ascii.{ascii}
 use Rattle.definitions.specs.Listing.{Line, decimal, in-column, at-left, at-right, page-lines, blank-lines, lines-left}
 
--- the word of a reply, by its number; 0 and 1 are no words of a peek
+-- the word of a reply, by its number; 0 and 1 are no words of a peek, and 11 is the listing's own
 unfoldable pub word-of : (word : ℕ) → List ℕ
 word-of word = getD (
     []
@@ -21,7 +21,12 @@ word-of word = getD (
     ∷ ascii "negcycle"
     ∷ ascii "invalid"
     ∷ ascii "cut"
+    ∷ ascii "unsettled"
     ∷ []) word []
+
+-- the number of the word that is written: 11 for a none behind an answer that was skipped
+unfoldable pub settled-word : (word : ℕ) → (skipped : Bool) → ℕ
+settled-word word skipped = elim (eqb word 5 && skipped) [ true ↦ 11 | false ↦ word ]
 
 -- the number behind it
 unfoldable pub number-of : (word value : ℕ) → List ℕ

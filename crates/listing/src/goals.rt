@@ -2,6 +2,7 @@
 use crate::lines::fill;
 use crate::lines::line;
 use crate::lines::one_line_more;
+use crate::lines::settled;
 use batch::calls::NUMBERS;
 use forest::Forest;
 use forest::make::Making;
@@ -11,7 +12,9 @@ use forest::open::open;
 use forest::serve_calls::serve_calls;
 use pen::refusals::refusal_line;
 use search::root_answer::one_more;
+ghost use mathlib.Core.Bool.{_||_};
 ghost use mathlib.Core.Path.{_≡_};
+ghost use lib.Dec.{ltb};
 ghost use Rattle.definitions.specs.Listing.{next-index, pages, listing};
 ghost use Rattle.pen.specs.Pen.{pen, put-all};
 ghost use Rattle.listing.specs.Goals.{Ready, rest-lines, first-place, OpenedTo, peek-put, next-place, ToldTo};
@@ -22,11 +25,12 @@ const ROUNDS: u64 = 1000;
 
 const TURNS: u64 = 10000;
 
-// Where the listing is: how much of the buffer is in use and how many lines are on the page, whether the last line is written, whether the
-// goal is to be opened, and if not, which table is to be peeked at and from which index on.
+// Where the listing is: how much of the buffer is in use and how many lines are on the page, whether an answer of the goal was skipped,
+// whether the last line is written, whether the goal is to be opened, and if not, which table is to be peeked at and from which index on.
 struct Place {
     used: usize,
     lines: usize,
+    skipped: bool,
     over: bool,
     opens: bool,
     goal: u64,
@@ -40,6 +44,7 @@ fn first_place() -> Place
     Place {
         used: 0,
         lines: 0,
+        skipped: false,
         over: false,
         opens: true,
         goal: 0,
@@ -56,6 +61,7 @@ fn opened(out: &mut [u8], opening: Opening, p: Place) -> Place
     match opening {
         Opening::Refused(n) => Place { over: true, ..p },
         Opening::Table(table) => Place {
+            skipped: false,
             opens: false,
             table,
             index: 0,
@@ -84,6 +90,13 @@ fn ask(calls: &mut [u64; NUMBERS], table: u64, index: u64)
     calls[4] = TURNS;
 }
 
+// Whether an answer of the goal was skipped as invalid, in this peek or in an earlier one: a peek's index rises by nothing else.
+fn skips(skipped: bool, asked: u64, index: u64) -> bool
+    ensures { λ r. ⌜ r ≡ (skipped || ltb asked index) ⌝ }
+{
+    skipped || asked < index
+}
+
 // Behind an answer the goal's next one is looked for.
 fn next_index(used: usize, index: u64, p: Place) -> Place
     ensures { λ r. ⌜ r ≡ next-place next-index used index p ⌝ }
@@ -91,6 +104,7 @@ fn next_index(used: usize, index: u64, p: Place) -> Place
     Place {
         used,
         lines: one_line_more(p.lines),
+        skipped: skips(p.skipped, p.index, index),
         index: one_more(index),
         ..p
     }
@@ -103,7 +117,8 @@ fn told(out: &mut [u8], replies: &[u64; NUMBERS], p: Place) -> Place
     let word = replies[0];
     let value = replies[1];
     let index = replies[2];
-    let used = line(out, p.used, p.goal, index, word, value);
+    let said = settled(word, skips(p.skipped, p.index, index));
+    let used = line(out, p.used, p.goal, index, said, value);
     match word {
         2 => Place {
             used,

@@ -6,7 +6,7 @@ use pen::columns::right_number;
 ghost use mathlib.Core.Path.{_≡_};
 ghost use Rattle.definitions.specs.Listing.{blank-line, blank-lines, lines-left};
 ghost use Rattle.pen.specs.Pen.{pen, put-all};
-ghost use Rattle.listing.specs.Lines.{word-column, number-column, number-spaced, reply-line, next-line};
+ghost use Rattle.listing.specs.Lines.{word-column, number-column, number-spaced, reply-line, settled-word, next-line};
 
 // The columns' widths (`columns`).
 const GOAL: usize = 3;
@@ -34,6 +34,7 @@ fn word(out: &mut [u8], at: usize, said: u64) -> usize
         8 => left(out, at, WORD, b"negcycle"),
         9 => left(out, at, WORD, b"invalid"),
         10 => left(out, at, WORD, b"cut"),
+        11 => left(out, at, WORD, b"unsettled"),
         _ => blanks(out, at, WORD),
     }
 }
@@ -56,6 +57,13 @@ fn field(out: &mut [u8], at: usize, width: usize, n: u64) -> usize
 {
     let named = right_number(out, at, width, n);
     pen::text(out, named, b" ")
+}
+
+// The number of the word, where the goal's answers were skipped or not: 5 is none, and 11 says that it is unsettled.
+pub(crate) fn settled(said: u64, skipped: bool) -> u64
+    ensures { λ r. ⌜ r ≡ settled-word said skipped ⌝ }
+{
+    if said == 5 && skipped { 11 } else { said }
 }
 
 pub(crate) fn line(out: &mut [u8], at: usize, goal: u64, index: u64, said: u64, value: u64) -> usize

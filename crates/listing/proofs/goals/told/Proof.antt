@@ -13,6 +13,12 @@ element-copy-out-value c = search needs
 element-copy-out-index : tie.Need-element-copy-out-index
 element-copy-out-index c = search needs
 
+skips-requires : tie.Need-skips-requires
+skips-requires c κs = search needs
+
+settled-requires : tie.Need-settled-requires
+settled-requires c κs = search needs
+
 line-requires : tie.Need-line-requires
 line-requires c κs = search needs
 
@@ -62,6 +68,8 @@ told-spec =
     element-copy-out-word
     element-copy-out-value
     element-copy-out-index
+    skips-requires
+    settled-requires
     line-requires
     one-line-more-requires
     next-index-requires

@@ -59,6 +59,12 @@ slice-aggregate-left-9 c = search needs
 left-requires-9 : tie.Need-left-requires-9
 left-requires-9 c κs = search needs
 
+slice-aggregate-left-10 : tie.Need-slice-aggregate-left-10
+slice-aggregate-left-10 c = search needs
+
+left-requires-10 : tie.Need-left-requires-10
+left-requires-10 c κs = search needs
+
 blanks-requires : tie.Need-blanks-requires
 blanks-requires c κs = search needs
 
@@ -129,7 +135,14 @@ same-length-10 : tie.Need-same-length-10
 same-length-10 c = search needs
 
 returns-10 : tie.Need-returns-10
-returns-10 c = search no-word
+unfolding word-of word-column
+returns-10 c = search word-is
+
+same-length-11 : tie.Need-same-length-11
+same-length-11 c = search needs
+
+returns-11 : tie.Need-returns-11
+returns-11 c = search no-word
 
 pub word-spec : {M : Type 1} → statement M
 word-spec =
@@ -153,6 +166,8 @@ word-spec =
     left-requires-8
     slice-aggregate-left-9
     left-requires-9
+    slice-aggregate-left-10
+    left-requires-10
     blanks-requires
     same-length
     returns
@@ -173,4 +188,6 @@ word-spec =
     same-length-9
     returns-9
     same-length-10
-    returns-10)
+    returns-10
+    same-length-11
+    returns-11)
