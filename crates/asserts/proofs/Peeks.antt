@@ -20,7 +20,7 @@ pub record PeekWell (n root : ℕ) (p : Peeked) : Type 0 where
 
 module _ (n root limit : ℕ) where
   -- an invalid answer is a stored one
-  invalid-under : (index : ℕ) (r : Searched) → Well n root index r → is-invalid (r .ending) ≡ true → index < 256
+  pub invalid-under : (index : ℕ) (r : Searched) → Well n root index r → is-invalid (r .ending) ≡ true → index < 256
   invalid-under index r w e =
       let x = w .when-invalid e in
       let a = x .enough in

@@ -78,7 +78,7 @@ module _ {n : ℕ} (at : Sitting) (s : SoundForest n (at .forest)) where
       subst (λ o. QuietStop (o .table) × SoundForest n (o .forest)) (a .1) (opened-well goal (omega arith))
 
   -- the tests of a search and a peek
-  asked : (t i : ℕ) → not-made f t ≡ false → index-above f t i ≡ false → Ended n t i f
+  pub asked : (t i : ℕ) → not-made f t ≡ false → index-above f t i ≡ false → Ended n t i f
   asked t i m o =
       let own = at-place (f .tables) t (leb-false (length (f .tables)) t m) in
       record { sound = s; own = own .0; is-made = own .1; reached = at-most (own .0) (within (own .0) (own .1)) }

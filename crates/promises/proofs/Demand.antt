@@ -131,24 +131,27 @@ start book = record {
   unmade = λ g n. (refl, refl, refl);
 }
 
+abbrev pub premises : (book : Book) (limit : ℕ) (level : ℕ → ℕ) → limit ≤ MAX → Good book → Plain book → Levelled book level → Premises
+premises book limit level room good plain levelled = record {
+  book = book;
+  sound = good-sound book good plain;
+  limit = limit;
+  level = level;
+  levelled = levelled-is book level levelled;
+  inside = inside-is book;
+  room = room;
+  few = let sums = clauses-total book in let x = good .small .few-clauses in omega arith;
+}
+
+pub starts : (G : Premises) → Between G (forest-of (G .book) (G .limit) 0 [] 0) (M.initial (book-of (G .book)))
+starts G = record { goals = []; tables = []; is = refl; agree = start (G .book); ready = initial-ok (setting-of G) }
+
 from-start : (book : Book) (limit : ℕ) (level : ℕ → ℕ) → limit ≤ MAX → Good book → Plain book → Levelled book level
     → AsPromised (forest-of book limit 0 [] 0) limit level
 from-start book limit level room good plain levelled cs =
     let sums = clauses-total book in
-    let G : Premises = record {
-      book = book;
-      sound = good-sound book good plain;
-      limit = limit;
-      level = level;
-      levelled = levelled-is book level levelled;
-      inside = inside-is book;
-      room = room;
-      few = let x = good .small .few-clauses in omega arith;
-    } in
-    let p = M.initial (book-of book) in
-    let between : Between G (forest-of book limit 0 [] 0) p =
-    record { goals = []; tables = []; is = refl; agree = start book; ready = initial-ok (setting-of G) } in
-    let r = all-calls G cs (sitting (forest-of book limit 0 [] 0)) p between in
+    let G = premises book limit level room good plain levelled in
+    let r = all-calls G cs (sitting (forest-of book limit 0 [] 0)) (M.initial (book-of book)) (starts G) in
     let most = initial-total (length book) (book-of book) in
     (r .0, (let x = r .1 in omega arith))
 

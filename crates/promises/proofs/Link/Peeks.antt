@@ -146,7 +146,7 @@ module _ (limit k t i : ℕ) (f : Forest) (valid : is-invalid (root-answer limit
   peek-more e r = ap (next-round r limit k t) (skip-at 255) ∙ rw (e, next-round)
 
 -- the searches after one with this ending
-abbrev following : (passes more limit t i : ℕ) → Ending → Forest → List SearchMade
+abbrev pub following : (passes more limit t i : ℕ) → Ending → Forest → List SearchMade
 following passes more limit t i e f = elim e [
   | found a ↦ []
   | fail x ↦ elim x [
