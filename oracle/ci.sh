@@ -45,6 +45,16 @@ for profile in mix plain tiny bytes answers small limits large; do
     echo "$profile: $(wc -l <"$work/script") lines"
 done
 
+say "listings by searches, with the answers that a peek skips"
+for profile in mix answers limits; do
+    "$oracle" gen 11 300 $profile | sed -n 's/^book \(.*\)clock.*/\1/p' | tr -d ' ' >"$work/books"
+    "$oracle" skips <"$work/books" >"$work/skips"
+    sed 's/ skipped [0-9]*$//' "$work/skips" >"$work/out"
+    "$oracle" lists <"$work/books" | cmp - "$work/out"
+    grep -q ' skipped [1-9]' "$work/skips"
+    echo "$profile: $(wc -l <"$work/books") books, $(grep -c ' skipped [1-9]' "$work/skips") lines whose peek skips an answer"
+done
+
 say "damaged books"
 "$oracle" books 11 20000 >"$work/books"
 "$oracle" books 11 20000 | cmp - "$work/books"

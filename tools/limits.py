@@ -34,6 +34,15 @@ def facts(goal, count, first=1):
     return ["goal %d" % goal] + ["%d/%d" % (goal, first + i) for i in range(count)]
 
 
+def ladder(first, goals):
+    """Each goal rests on the next by two clauses, the last one on the first: no search ends by its last turn."""
+    out = []
+    for goal in range(first, first + goals):
+        below = goal + 1 if goal + 1 < first + goals else first
+        out += ["goal %d" % goal, "%d :- %d" % (goal, below), "%d :- %d, %d" % (goal, below, below)]
+    return out
+
+
 def lines(*parts):
     """A book out of lines and lists of lines."""
     return "\n".join(line for part in parts for line in ([part] if isinstance(part, str) else part))

@@ -1,7 +1,7 @@
 #!/usr/bin/env python3
 """Books whose pages stand here by hand, books with long listings, and pages that can't be written.
 
-tools/page_books.py --oracle          whether what the Rust lists of each book is, as pages, what stands here
+tools/page_books.py --oracle          whether what the Rust lists of each book, settled and as pages, is what stands here
 tools/page_books.py --listing [PATH]  whether target/bin/listing, or a program in its place, prints just that, byte by byte, and says so
                                       where a page can't be written: to a full device, to a closed output, and where a page is lost
                                       and later ones are not; and whether at a terminal the goal at hand is told and the pages stay
@@ -22,7 +22,7 @@ import pages
 import papers
 import sides
 import tree
-from limits import P1, facts, hexed, lines
+from limits import P1, P3, facts, hexed, ladder, lines
 
 BLANK = "                          "
 CANT_READ = b"listing: the input can't be read\n"
@@ -58,19 +58,18 @@ def stops(goal):
     return ["goal %d" % goal, "%d :- not %d" % (goal, goal + 1), "goal %d [floundered]" % (goal + 1)]
 
 
-def ladder(first, goals):
-    """Each goal rests on the next by two clauses, the last one on the first: no search ends by its last turn."""
-    out = []
-    for goal in range(first, first + goals):
-        below = goal + 1 if goal + 1 < first + goals else first
-        out += ["goal %d" % goal, "%d :- %d" % (goal, below), "%d :- %d, %d" % (goal, below, below)]
-    return out
+def coinductive_pair(goal):
+    """p3, from a goal on."""
+    return ["%s%d%s" % part for one, other in ((goal, goal + 1), (goal + 1, goal)) for part in (
+        ("goal ", one, " [coinductive]"), ("", one, " :- %d" % other))]
 
 
 def paper(name):
     return papers.files()[name + ".book"].hex().upper()
 
 
+# p3 with a variant, so that goal 1 can have other answers beside the one that is skipped
+SKIPS = ["goal 0 [coinductive]", "0 :- 1", "goal 1 [coinductive]", "1/1 :- 0"]
 SLOW = lines(with_fact(*range(30)), ladder(30, 34))
 # A title, the book, the lines, and how many pages they take; or what is printed of a book that is refused.
 BOOKS = [
@@ -90,10 +89,58 @@ BOOKS = [
     ("negcycle", lines("goal 0", "0 :- not 0"), ["  0     0 negcycle        "], 1),
     ("cut", lines(ladder(0, 20)), ["%3d     0 cut             " % goal for goal in range(20)], 1),
     ("again, and 255 facts", paper("certify-ranges"), ["  0     0 again           "] + numbered(1, 255), 5),
-    ("an index that was skipped", lines("goal 0 [coinductive]", "0 :- 1", "goal 1 [coinductive]", "1 :- 0"), [
+    # behind an answer that was skipped as invalid none is unsettled (change request 5); skips.py has more of these
+    ("p3, unsettled", lines(P3), [
         "  0     0 yes            0",
         "  0     1 none            ",
-        "  1     1 none            "], 1),
+        "  1     1 unsettled       "], 1),
+    ("p4, unsettled before a stop", lines(P3, "goal 2", "2 :- not 1"), [
+        "  0     0 yes            0",
+        "  0     1 none            ",
+        "  1     1 unsettled       ",
+        "  2     0 stop          27"], 1),
+    ("p3, and a goal whose answer was skipped and came back refined", lines(P3, "goal 2 [coinductive]", "2 :- 1"), [
+        "  0     0 yes            0",
+        "  0     1 none            ",
+        "  1     1 unsettled       ",
+        "  2     1 yes            0",
+        "  2     2 unsettled       "], 1),
+    ("a coinductive goal on itself: nothing is skipped", lines("goal 0 [coinductive]", "0 :- 0"), [
+        "  0     0 yes            0",
+        "  0     1 none            "], 1),
+    ("p3, and a goal of its own behind it", lines(P3, "goal 2", "goal 3", "3/5"), [
+        "  0     0 yes            0",
+        "  0     1 none            ",
+        "  1     1 unsettled       ",
+        "  2     0 none            ",
+        "  3     0 yes            5",
+        "  3     1 none            "], 1),
+    ("a skip of an earlier peek, and a goal of its own behind it", lines(SKIPS, "1/3", "1", "goal 2", "goal 3", "3/5"), [
+        "  0     0 yes            0",
+        "  0     1 none            ",
+        "  1     1 yes            3",
+        "  1     2 yes            0",
+        "  1     3 unsettled       ",
+        "  2     0 none            ",
+        "  3     0 yes            5",
+        "  3     1 none            "], 1),
+    ("a skip, and then floundered", lines(SKIPS, "1 [outsized]"), [
+        "  0     0 yes            0",
+        "  0     1 none            ",
+        "  1     1 floundered      "], 1),
+    ("a skip, and then a stop", lines(SKIPS, "1 :- not 1"), [
+        "  0     0 yes            0",
+        "  0     1 none            ",
+        "  1     1 stop          27"], 1),
+    ("a skip, and then cut", lines(SKIPS, "1/2 :- 2", ladder(2, 20)), [
+        "  0     0 yes            0",
+        "  0     1 none            ",
+        "  1     1 cut             "] + ["%3d     0 cut             " % goal for goal in range(2, 22)], 1),
+    ("unsettled in the last line of a page", lines(without(*range(57)), coinductive_pair(57), without(59)), empty(*range(57)) + [
+        " 57     0 yes            0",
+        " 57     1 none            ",
+        " 58     1 unsettled       ",
+        " 59     0 none            "], 2),
     ("the widest variant", lines("goal 0", "0/65535"), ["  0     0 yes        65535", "  0     1 none            "], 1),
     ("the widest variant, maybe", lines("goal 0", "0/65535 [cannot prove]"), [
         "  0     0 maybe      65535",
@@ -159,7 +206,7 @@ def held(who, printed):
 
 def by_the_rust(oracle):
     def printed(data):
-        text = sides.said([oracle, "list"], data)
+        text = sides.listed_by_the_rust(oracle, [data])[0].encode()
         found = pages.paged(text)
         # the way back, by the other half of pages.py
         if pages.fields(found) != text:

@@ -54,7 +54,7 @@ def printed_each(program, books, jobs, printed=printed):
 
 
 def listed(program, data):
-    """The text of document 01 on the pages that `listing` prints of a book."""
+    """The fields on the pages that `listing` prints of a book."""
     run = subprocess.run([program], input=data, capture_output=True)
     if run.returncode != 0 or run.stderr:
         raise Broken("%s ended with %d on %s: %s" % (program, run.returncode, data.hex(), run.stderr.decode(errors="replace")[-2000:]))
@@ -65,10 +65,16 @@ def listed(program, data):
 
 
 def listed_by_the_rust(oracle, books):
-    """The same text of each book by the Rust, which prints no pages."""
-    texts = said([oracle, "lists"], "".join(data.hex() + "\n" for data in books).encode()).decode().split(".\n")[:-1]
+    """The same fields of each book by the Rust, which prints no pages, and the text of document 01. Whatever is held against the listing
+    comes from here."""
+    return [pages.settled(text).decode() for text in of_each(oracle, "lists", books)]
+
+
+def of_each(oracle, command, books):
+    """What a command of the Rust's prints of each book, by lines of hex."""
+    texts = said([oracle, command], "".join(data.hex() + "\n" for data in books).encode()).split(b".\n")[:-1]
     if len(texts) != len(books):
-        raise Broken("%s: %d books, %d listings" % (oracle, len(books), len(texts)))
+        raise Broken("%s %s: %d books, %d texts" % (oracle, command, len(books), len(texts)))
     return texts
 
 

@@ -53,13 +53,13 @@ class Listing:
 
     def holds(self, books):
         """Of each book the goals that hold, and the lines that settle nothing."""
-        held, unsettled = [], []
+        held, left_open = [], []
         for data, lines in zip(books, self.lines(books)):
             if lines[0][0] == "refused":
                 sys.exit("peers: %s refuses by %s the book %s" % (self.name, lines[0][1], data.hex()))
             held.append({int(line[0]) for line in lines if line[2] == "yes"})
-            unsettled.append([line for line in lines if line[2] not in ("yes", "none")])
-        return held, unsettled
+            left_open.append([line for line in lines if line[2] not in ("yes", "none")])
+        return held, left_open
 
 
 def plain_books(oracle, seed, count):

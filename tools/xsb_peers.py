@@ -172,9 +172,9 @@ def told(what, books, says):
 
 def listed(listing, books):
     """A word for each goal; `cut` where a search is not over by its last turn, and settles nothing."""
-    held, unsettled = listing.holds(books)
+    held, left_open = listing.holds(books)
     out = []
-    for data, yes, open_ones in zip(books, held, unsettled):
+    for data, yes, open_ones in zip(books, held, left_open):
         words = {**{int(line[0]): line[2] for line in open_ones}, **dict.fromkeys(yes, "yes")}
         out.append([words.get(goal, "no") for goal in range(len(clauses_of(data)))])
     cut, some = sum(said.count("cut") for said in out), sum("cut" in said for said in out)

@@ -21,6 +21,7 @@ use std::process::ExitCode;
 
 const USAGE: &str = "usage: oracle list [hex] < BOOK
        oracle lists < LINES OF HEX
+       oracle skips < LINES OF HEX
        oracle levels [hex] < BOOK
        oracle levels lines < LINES OF HEX
        oracle levels time RUNS < BOOK
@@ -162,6 +163,7 @@ fn command(words: &[&str]) -> Result<(), String> {
             io::stdout().write_all(text.as_bytes()).map_err(|e| e.to_string())
         }
         ["lists"] => each_book(list::list),
+        ["skips"] => each_book(list::skips),
         ["levels", "lines"] => each_book(|bytes| Ok(levels::text(bytes))),
         ["levels", "time", runs] => {
             print!("{}", levels::timed(&input(&[])?, number(runs)?));

@@ -38,24 +38,11 @@ impl Both {
         }
     }
 
-    /// The searches of a peek: the next index after an invalid answer, the same again after QuantumExceeded.
     fn searches(&mut self, table: u64, at: u64, rounds: u64, turns: u64, out: &mut Vec<u8>) -> Result<Ended, String> {
-        let (mut index, mut exceeded) = (at, 0);
-        loop {
+        let (ended, _) = by_searches(&mut self.searching, table, at, rounds, turns, |index| {
             let _ = writeln!(out, "search {table} {index} {turns}");
-            let reply = self.searching.call(Call::Search { table, index, turns });
-            if let Some(message) = unexpected(&reply) {
-                return Err(format!("UNEXPECTED PANIC: {message}"));
-            }
-            let Reply::Search(ended) = reply else {
-                return Err(format!("a search of a peek was refused: {reply:?}"));
-            };
-            match ended.outcome {
-                Outcome::InvalidAnswer => index += 1,
-                Outcome::QuantumExceeded if exceeded + 1 < rounds => exceeded += 1,
-                _ => return Ok(ended),
-            }
-        }
+        })?;
+        Ok(ended)
     }
 
     fn same(&self, peek: &Ended, last: &Ended) -> Result<(), String> {
@@ -66,6 +53,34 @@ impl Both {
             return Err(format!("a peek is not its searches:\n{peek:?}\n{one}\n{last:?}\n{other}"));
         }
         Ok(())
+    }
+}
+
+/// A peek by the searches that it makes: the next index after an invalid answer, the same again after QuantumExceeded. Its last
+/// search, and how many answers were invalid, so that they were skipped; `before` is told the index of each search.
+pub fn by_searches(
+    bounded: &mut Bounded,
+    table: u64,
+    at: u64,
+    rounds: u64,
+    turns: u64,
+    mut before: impl FnMut(u64),
+) -> Result<(Ended, u64), String> {
+    let (mut index, mut exceeded, mut skipped) = (at, 0, 0);
+    loop {
+        before(index);
+        let reply = bounded.call(Call::Search { table, index, turns });
+        if let Some(message) = unexpected(&reply) {
+            return Err(format!("UNEXPECTED PANIC: {message}"));
+        }
+        let Reply::Search(ended) = reply else {
+            return Err(format!("a search of a peek was refused: {reply:?}"));
+        };
+        match ended.outcome {
+            Outcome::InvalidAnswer => (index, skipped) = (index + 1, skipped + 1),
+            Outcome::QuantumExceeded if exceeded + 1 < rounds => exceeded += 1,
+            _ => return Ok((ended, skipped)),
+        }
     }
 }
 
