@@ -6,9 +6,12 @@ use Rattle.laws.specs.All.{All, end, more}
 use Rattle.definitions.specs.Lists.{any_passes, Each}
 
 module _ {A : Type 0} (P : A → Type 0) where
+  at_one : (a : A) (l : List A) → Each P l → Memᴰ a l → P a
+  at_one a l e (Memᴰ.head k) = subst P (sym k) e.0
+  at_one a l e (Memᴰ.tail {xs = xs} m) = at_one a xs e.1 m
+
   pub each_at : (l : List A) → Each P l → (a : A) → Memᴰ a l → P a
-  each_at l e a (Memᴰ.head k) = subst P (sym k) e.0
-  each_at l e a (Memᴰ.tail {xs = xs} m) = each_at xs e.1 a m
+  each_at l e a m = at_one a l e m
 
   pub each_by : (l : List A) → ((a : A) → Memᴰ a l → P a) → Each P l
   each_by [] h = tt
@@ -46,6 +49,7 @@ module _ {A : Type 0} (test : A → Bool) where
       on false h rest e = rest e
 
   pub some_passes : (a : A) → test a ≡ true → (l : List A) → Memᴰ a l → any_passes test l ≡ true
+  some_passes a e [] m = elim m [ ]
   some_passes a e (b ∷ l) (Memᴰ.head k) = ap (λ (t : Bool). t || any_passes test l) (ap test (sym k) ∙ e)
   some_passes a e (b ∷ l) (Memᴰ.tail m) = or_after (test b) (some_passes a e l m)
     where
