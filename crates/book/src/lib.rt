@@ -1,5 +1,7 @@
 // A rule book (document 01, "A book"): read from bytes into arrays of numbers, looked up by goal, clause and literal, and fitted to
 // answers.
+#![tactic(auto)]
+
 pub mod access;
 mod decode;
 pub mod desk;

@@ -5,6 +5,8 @@
 // goals there 0, 1 and 2 are clean, though 1 is floundered and clauses of 2 are outsized or cannot prove; so is 8, which rests on itself.
 // Goal 3 is coinductive, 4 has a "not" in its second clause and another one in its third. 5 leads to 4 over 6, and to 3 in one step, which
 // is told; 7 is told what 5 is, its first literal; 9 names both, and is told the first.
+#![tactic(auto)]
+
 mod lines;
 
 use intake::input;

@@ -1,5 +1,7 @@
 // logic.rs over the stores: a turn is decided, reading only, and then done, writing only (crate `small_steps`). Files are named after the
 // functions of logic.rs.
+#![tactic(auto)]
+
 pub mod decision; // decision.rt: what a turn with a strand is decided to do
 pub mod ensure_root_answer; // ensure_root_answer.rt: the top of the stack and the strand that it goes on with
 pub mod select_subgoal; // select_subgoal.rt: which literal the strand goes on with

@@ -1,1 +1,2 @@
 // This crate holds theorems about the definitions, in proofs/; there is no code.
+#![tactic(auto)]

@@ -1,5 +1,7 @@
 // forest.rs: what can be called. A forest is made from a book's bytes and holds that book; goals are opened, tables searched and peeked at.
 // Nobody outside this crate can write what a forest has inside, or read it but in a copy (`shown`).
+#![tactic(auto)]
+
 pub mod any_future_answer;
 pub mod make;
 pub mod open;

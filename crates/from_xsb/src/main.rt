@@ -1,6 +1,8 @@
 // Writes the book of XSB text, which is read in pieces, however long it is. Of a text that is refused nothing is written to standard
 // output: its number and sentence go to standard error.
 // No contract can speak of what is read or written: the program's run on its file `stdin`, held to its file `stdout`, guards that.
+#![tactic(auto)]
+
 mod lines;
 
 ghost use Rattle.xsb_import.specs.Importing.{Sized};

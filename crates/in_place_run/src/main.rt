@@ -2,6 +2,8 @@
 // after three turns; where there is none, cases p8 and p1 of document 01. A turn is asked for after each cut too: nothing is on the stack
 // then, and it stops. `tools/turns` holds it against the Rust's searches.
 // No contract can speak of what is written: the program's run, held to its file `stdout`, guards that.
+#![tactic(auto)]
+
 mod begun; // begun.rt: a search before its first turn
 mod words; // words.rt: what is written
 

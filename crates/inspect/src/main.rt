@@ -2,6 +2,8 @@
 // neither entry takes it; behind a refusal by 6 the book as it is read without that test, and the literals that name no goal. Behind a book
 // that the old entry reads and the desk turns down stand the desk's number and the clause that the goal has for the second time.
 // No contract can speak of what is read or written: the program's run on its file `stdin`, held to its file `stdout`, guards that.
+#![tactic(auto)]
+
 mod book_lines;
 mod missing;
 mod words;

@@ -1,5 +1,7 @@
 // Reading standard input into a buffer that the caller lends.
 // No contract can speak of what is read: the programs' runs on their files `stdin`, held to their files `stdout`, guard that.
+#![tactic(auto)]
+
 ghost use Rattle.io.specs.Counts.{IsPrefixLen};
 
 // What was read: whether the input came to its end, or to the buffer's, without an error, and how many bytes there are.

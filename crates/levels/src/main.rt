@@ -4,6 +4,8 @@
 // No contract can speak of what is read or written: the program's run on its file `stdin`, held to its file `stdout`, guards that. The
 // paper there is not levelled. Of its goals 0, 1, 2 and 7 are on a cycle through "not"; 4 only leads to one, 3 is only reached from one; 5
 // and 6 rest on each other without a "not", though a clause of theirs has one.
+#![tactic(auto)]
+
 mod lines;
 
 use intake::input;

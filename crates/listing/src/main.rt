@@ -1,5 +1,7 @@
 // Prints what follows from a paper: a book from standard input, listed goal by goal on pages of 60 lines, or `refused` and the number.
 // No contract can speak of what is read or written: the program's run on its file `stdin`, held to its file `stdout`, guards that.
+#![tactic(auto)]
+
 mod goals;
 mod lines;
 

@@ -3,6 +3,8 @@
 // nothing goes to standard output, and to standard error `refused` and that number.
 // No contract can speak of what is read or written: the program's run on its file `stdin`, held to its file `stdout`, guards that, and
 // tools/mend.py holds both outputs to those of the Rust.
+#![tactic(auto)]
+
 use intake::input;
 use mending::mend::mend;
 use sizes::READ_AHEAD;

@@ -1,5 +1,7 @@
 // The levelled profile (change request 12): whether a paper is plain and levelled, so that what is promised of such books holds of it, and
 // the least level of each of its goals.
+#![tactic(auto)]
+
 mod asks;
 mod closure;
 mod cycles;

@@ -7,6 +7,8 @@
 // No contract can speak of what is written: a `flush` that answers true and writes nothing, or a `byte` that never writes a full buffer
 // out, would meet those below. The programs' runs guard it, whose output is held to their files `stdout`: `reading_tests` says more than
 // its buffer holds, so that `byte` has to write it out, and the last words of every program come by `flush`.
+#![tactic(auto)]
+
 pub mod columns;
 pub mod refusals;
 

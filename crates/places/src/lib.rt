@@ -1,4 +1,6 @@
 // Where a paper is not plain, in words: `goal 3, clause 0, literal 1: a want`.
+#![tactic(auto)]
+
 ghost use Rattle.std.specs.Prelude.{◌≡◌};
 ghost use Rattle.papers.specs.NotPlain.{fault_of, place_of};
 ghost use Rattle.pen.specs.Pen.{pen, put_all};

@@ -2,6 +2,8 @@
 // colon and the bytes in hex; the answer is the name or label with `accepted` and how much is in the book, or `refused` and the number, by
 // the old entry; behind a book that the desk refuses stands `desk 36`.
 // As a test it reads every sample paper and vectors for each refusal and each rule of order; as a tool, any list of books.
+#![tactic(auto)]
+
 mod line;
 
 use line::Line;

@@ -6,6 +6,8 @@
 //   batch  calls are handed over together, and what the forest holds is said after all of them;
 //   lent   opens, searches and peeks go through the functions that are lent a forest by `&mut`.
 // No contract can speak of what is read or written: the program's run on its file `stdin`, held to its file `stdout`, guards that.
+#![tactic(auto)]
+
 mod batches;
 mod calls;
 mod dump;

@@ -2,6 +2,8 @@
 // p, tail[t] the last place of queue t, whose next is the first, and len[t] how many wait. To take one from the middle is to unlink it and
 // to turn the ring, so that the one behind it comes first (table.rs `dequeue_next_strand_that`); a whole queue goes behind another in
 // two writes, whatever their lengths. The free places of a store are such a queue too.
+#![tactic(auto)]
+
 ghost use Rattle.std.specs.Prelude.{◌≡◌, ◌-◌, ◌<◌, get_or, set, ltb};
 ghost use Rattle.rings.specs.Lists.{grown};
 ghost use Rattle.rings.specs.Rings.{ring_of, place_if, has_any, unlinked, shortened};

@@ -1,4 +1,6 @@
 // A search: the loop that owns the strands and the answers, and all that is done before its first turn and after its last.
+#![tactic(auto)]
+
 pub mod course;
 pub mod ensure_root_answer;
 pub mod root_answer;

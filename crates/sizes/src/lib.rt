@@ -1,4 +1,6 @@
 // THE LIMITS, by which arrays are sized, each here and nowhere else; and numbers made wide. `specs/Limits.antt` says what each is of.
+#![tactic(auto)]
+
 ghost use Rattle.std.specs.Prelude.{◌≡◌, ◌<◌};
 ghost use Rattle.sizes.specs.Limits.{the_limits};
 

@@ -1,5 +1,7 @@
 // table.rs, tables.rs and stack.rs: where the Rust has Vec, VecDeque and FxHashMap, arrays of a fixed size. Strands and answers stand at
 // places of a store; a table's queue, its answers and the free places are rings of places (crate `rings`).
+#![tactic(auto)]
+
 pub mod numbers; // numbers.rt: flags, and the first of some numbers
 pub mod places; // places.rt: a store's places
 pub mod queue; // queue.rt: the queues of strands

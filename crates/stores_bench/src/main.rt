@@ -1,5 +1,7 @@
 // Runs one operation of the stores, or the reading of a book, many times, for a clock outside: how many arguments there are names it. With
 // none it only says so.
+#![tactic(auto)]
+
 ghost use Rattle.std.specs.Prelude.{◌<◌};
 
 use book::desk::desk;

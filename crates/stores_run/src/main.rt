@@ -1,4 +1,6 @@
 // Drives the stores by lists of operations at every limit, and writes what they hold.
+#![tactic(auto)]
+
 mod queues; // queues.rt: the strand store
 mod taking; // taking.rt: a strand taken within its queue
 mod kept; // kept.rt: the answers

@@ -1,6 +1,8 @@
 // lib.rs and strand.rs: the small types that the other files share, and a strand as a struct by value. Every function is total: what
 // a sound strand rules out is tested, so that no caller has to show anything, and a contract is an equation with a model of specs/ on
 // every input. What a model means, and that it keeps soundness, are theorems (proofs/*Views).
+#![tactic(auto)]
+
 pub mod times; // times.rt: time stamps, minimums, the answer mode
 pub mod fields; // fields.rt: a strand with one field written, and the copy for the next answer
 pub mod literals; // literals.rt: a strand's literals: how many, which, the last one removed

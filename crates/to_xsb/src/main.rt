@@ -2,6 +2,8 @@
 // `g1.`, a line each. Of a paper that is refused nothing is written to standard output: its number and sentence go to standard error, and
 // with 37 the first place that is not plain.
 // No contract can speak of what is read or written: the program's run on its file `stdin`, held to its file `stdout`, guards that.
+#![tactic(auto)]
+
 use intake::input;
 use sizes::READ_AHEAD;
 use xsb_export::export::export;

@@ -1,4 +1,6 @@
 // Out to a Prolog with tabling (change request 13): the book of a text of XSB's form, read in one pass, in pieces of any length.
+#![tactic(auto)]
+
 pub mod import;
 mod keeping;
 mod numbers;
