@@ -11,7 +11,7 @@ pub const NUMBERS: usize = 1280;
 
 // 0 opens goal a; 1 searches table a at index b by c turns; 2 peeks at table a from index b on, by c rounds and d turns a search; any other
 // kind asks whether table a has, from index b on, or may come to have an answer of variant c.
-#[derive(Drop)]
+#[derive(Clone, Copy)]
 pub struct Call {
     pub kind: u64,
     pub a: u64,
@@ -21,7 +21,7 @@ pub struct Call {
 }
 
 // What a call came to, where that is not its course's ending.
-#[derive(Drop)]
+#[derive(Clone, Copy)]
 pub enum Said {
     Refused(u8),
     Table(u64),
@@ -33,7 +33,7 @@ pub enum Said {
 
 // How far the calls are: the index of the call at hand, whether it was begun, what it came to so far, and the course of its searches,
 // which has the forest's numbers too.
-#[derive(Drop)]
+#[derive(Clone, Copy)]
 pub struct Serving {
     pub at: u64,
     pub busy: bool,
@@ -42,7 +42,7 @@ pub struct Serving {
     pub course: Course,
 }
 
-#[derive(Drop)]
+#[derive(Clone, Copy)]
 pub struct Reply {
     pub word: u64,
     pub value: u64,

@@ -19,7 +19,7 @@ use search::settle::settle;
 use sizes::{BOOK_LITERALS, MOST_CLAUSES, MOST_ENTRIES, MOST_GOALS, MOST_TABLES, PLACES};
 use strands::{Answer, Strand};
 
-#[derive(Drop)]
+#[derive(Clone, Copy)]
 pub struct Served {
     pub serving: Serving,
     pub strands: [Strand; PLACES],

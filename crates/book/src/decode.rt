@@ -9,7 +9,7 @@ use sizes::wide;
 
 // What a command says, whichever of these it has: a literal's kind is as a book keeps it, `number` a clause's variant or a literal's
 // goal, `want` what a literal wants, as a book keeps that, and `next` the place of the next command.
-#[derive(Drop)]
+#[derive(Clone, Copy)]
 pub(crate) struct Operands {
     pub command: u8,
     pub flags: u8,

@@ -18,7 +18,7 @@ use sizes::{BOOK_LITERALS, MOST_CLAUSES, MOST_GOALS};
 // Goals, clauses and literals by number, so that each array can be lent alone. The clauses of goal g are the goal_len[g] clauses
 // from goal_first[g] on, and literal j of clause c stands at 8 * c + j. Flags are as in the bytes; of a literal's kind bit 0 says
 // outsized, bit 1 "not" and bit 2 that it wants a range. What it wants is a variant (0: any), or low + 65536 * high.
-#[derive(Drop)]
+#[derive(Clone, Copy)]
 pub struct Book {
     pub goals: usize,
     pub clauses: usize,
@@ -35,7 +35,7 @@ pub struct Book {
 
 // A literal by value, in six bytes, so that a strand with its literals stays small. A book's goals are below 64. `want` is the variant
 // that it wants (0: any), or the low end of a range, and `high` the range's high end.
-#[derive(Drop)]
+#[derive(Clone, Copy)]
 pub struct Literal {
     pub goal: u8,
     pub kind: u8,
@@ -44,7 +44,7 @@ pub struct Literal {
 }
 
 // What reading gives: number 0 and the book, or the number of a refusal and a blank book.
-#[derive(Drop)]
+#[derive(Clone, Copy)]
 pub struct Reading {
     pub number: u8,
     pub book: Book,
@@ -52,7 +52,7 @@ pub struct Reading {
 
 // A clause that is the same as an earlier one of its goal: the two by their numbers among the goal's clauses. Where none was found all
 // are 0.
-#[derive(Drop)]
+#[derive(Clone, Copy)]
 pub struct Repeat {
     pub found: bool,
     pub goal: usize,
@@ -61,14 +61,14 @@ pub struct Repeat {
 }
 
 // What the desk sees: the reading of the old entry, and the book's first repeat.
-#[derive(Drop)]
+#[derive(Clone, Copy)]
 pub struct Looked {
     pub reading: Reading,
     pub repeat: Repeat,
 }
 
 // A strand's substitution: the variant that it stands for, and whether that answer is too large to keep.
-#[derive(Drop)]
+#[derive(Clone, Copy)]
 pub struct Subst {
     pub variant: u16,
     pub outsized: bool,

@@ -12,7 +12,7 @@ use sizes::{BOOK_LITERALS, MOST_CLAUSES, MOST_GOALS, MOST_LITERALS};
 
 // What is read without the test for 6; and `named` is the least count of goals that holds every goal named, so that nobody has to look
 // at the literals again.
-#[derive(Drop)]
+#[derive(Clone, Copy)]
 struct Named {
     reading: Reading,
     named: usize,

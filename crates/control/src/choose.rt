@@ -21,7 +21,7 @@ use strands::{Answer, Selected, Strand};
 
 // What the turn sees for its strand: nothing where the choice is a stop; what the selected table holds; the answer that the strand gives,
 // stored at this place; or that this answer is new.
-#[derive(Drop)]
+#[derive(Clone, Copy)]
 pub enum Sight {
     Nothing,
     Looks(Look),
@@ -31,7 +31,7 @@ pub enum Sight {
 
 // The choice, the answer that the strand gives if it has no literal left, what the turn sees, and where the answer stands that it looks
 // at; place 0 where it looks at none.
-#[derive(Drop)]
+#[derive(Clone, Copy)]
 pub struct Chosen {
     pub selection: Selection,
     pub live: u16,

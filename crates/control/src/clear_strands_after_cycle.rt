@@ -7,7 +7,7 @@ use rings::ring_move;
 use sizes::{PLACES, wide};
 
 // The rings as clearing leaves them; of no use where a strand with nothing selected was met (29).
-#[derive(Drop)]
+#[derive(Clone, Copy)]
 pub struct Cleared {
     pub met_29: bool,
     pub next: [u8; PLACES],

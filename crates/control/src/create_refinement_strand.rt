@@ -7,7 +7,7 @@ use strands::making::create_refinement_strand;
 use strands::{Answer, Strand};
 
 // What stands at the strand's place from now on, and when that was last pursued; whether it is a refinement strand.
-#[derive(Drop)]
+#[derive(Clone, Copy)]
 pub struct Left {
     pub strand: Strand,
     pub time: u64,

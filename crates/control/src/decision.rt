@@ -6,7 +6,7 @@ use strands::{Answer, Strand};
 
 // The acts of logic.rs with a strand (crate `small_steps`, `Deed`). A cycle names the entry's height, a push its table; an answer says
 // whether it empties the queue.
-#[derive(Drop)]
+#[derive(Clone, Copy)]
 pub enum Deed {
     Stop(u8),
     GoesOn,
@@ -19,7 +19,7 @@ pub enum Deed {
 }
 
 // The strand as it then is; the copy for the next answer, where there is one; and the answer that is stored.
-#[derive(Drop)]
+#[derive(Clone, Copy)]
 pub struct Decision {
     pub deed: Deed,
     pub copies: bool,

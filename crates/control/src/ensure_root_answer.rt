@@ -12,7 +12,7 @@ use strands::Strand;
 use strands::making::{blank, initial_strand};
 
 // The topmost entry, with the answer mode of its table. `active` is a place, or none where the entry has no active strand.
-#[derive(Drop)]
+#[derive(Clone, Copy)]
 pub struct Top {
     pub depth: usize,
     pub table: u8,
@@ -22,7 +22,7 @@ pub struct Top {
 }
 
 // The place of the strand that the top goes on with, and whether it waits in the queue, behind the place `before`.
-#[derive(Drop)]
+#[derive(Clone, Copy)]
 pub struct Next {
     pub found: bool,
     pub queued: bool,

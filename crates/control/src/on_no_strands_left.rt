@@ -12,7 +12,7 @@ use strands::times::TimeStamp;
 
 // The acts of logic.rs with no strand (crate `small_steps`, `Act`), and none where there is a strand. That a strand of a cycle has nothing
 // selected (29) is found where the cycle's tables are cleared.
-#[derive(Drop)]
+#[derive(Clone, Copy)]
 pub enum Idle {
     Nothing,
     Finishes,

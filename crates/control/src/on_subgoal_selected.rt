@@ -17,7 +17,7 @@ use strands::{Answer, Strand};
 
 // What the selected table holds for the strand: the answer that it wants, by its place; a cycle of coinductive tables alone; the table is
 // on the stack at this height; or none of these, and it is pushed.
-#[derive(Drop)]
+#[derive(Clone, Copy)]
 pub enum Look {
     Answer(u8),
     Coinductive,

@@ -63,7 +63,7 @@ pub fn give_up(
 }
 
 // What a push leaves.
-#[derive(Drop)]
+#[derive(Clone, Copy)]
 pub struct Pushed {
     pub depth: usize,
     pub clock: u64,
@@ -159,7 +159,7 @@ fn flounder_table(
 }
 
 // Where a new answer stands, and what that leaves of the places that were never used.
-#[derive(Drop)]
+#[derive(Clone, Copy)]
 pub struct Kept {
     pub place: u8,
     pub used: u16,
@@ -228,7 +228,7 @@ fn flow_of_answer(depth: usize) -> Flow
 }
 
 // How a deed ends: the flow, the stack's depth and the clock, where the answer that is written stands, and the answers' places in use.
-#[derive(Drop)]
+#[derive(Clone, Copy)]
 pub struct Done {
     pub flow: Flow,
     pub depth: usize,

@@ -142,7 +142,7 @@ pub fn rejoin_cycle(
 }
 
 // How an act without a strand ends: the flow, the stack's depth, and the caller's strand as it then is.
-#[derive(Drop)]
+#[derive(Clone, Copy)]
 pub struct Idled {
     pub flow: Flow,
     pub depth: usize,

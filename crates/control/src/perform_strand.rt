@@ -126,7 +126,7 @@ fn store_copy(
 }
 
 // What settling leaves: the copy's place, and what stands at the strand's own.
-#[derive(Drop)]
+#[derive(Clone, Copy)]
 pub struct Settled {
     pub copy_place: u8,
     pub strand: Strand,

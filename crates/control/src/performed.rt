@@ -2,7 +2,7 @@
 use strands::{Answer, Strand};
 
 // How the turn ends (definitions, `Flow`), or the number of its stop.
-#[derive(Drop)]
+#[derive(Clone, Copy)]
 pub enum Flow {
     Continue,
     ReturnOk,
@@ -14,7 +14,7 @@ pub enum Flow {
 
 // The numbers that the loop carries from turn to turn: how many tables there are, the stack's depth, the clock, and where the places of
 // strands and of answers begin that were never used.
-#[derive(Drop)]
+#[derive(Clone, Copy)]
 pub struct Carried {
     pub count: usize,
     pub depth: usize,
@@ -25,7 +25,7 @@ pub struct Carried {
 
 // What a turn leaves. The owner writes the copy, then the strand, and the answer, each at its place; where one is not to be written, it is
 // what was read there, or what is written there next.
-#[derive(Drop)]
+#[derive(Clone, Copy)]
 pub struct Performed {
     pub flow: Flow,
     pub copy_place: u8,

@@ -19,14 +19,14 @@ use strands::literals::{
 use strands::{Selected, Strand, within};
 
 // The goals that tables are to be made for, in the order of making: each literal of a strand makes at most one.
-#[derive(Drop)]
+#[derive(Clone, Copy)]
 pub struct Made {
     pub count: u8,
     pub goals: [u8; MOST_LITERALS],
 }
 
 // How a pass ended: there is another one, or the loop's outcome.
-#[derive(Drop)]
+#[derive(Clone, Copy)]
 pub enum Selection {
     Again,
     Selected,
@@ -35,7 +35,7 @@ pub enum Selection {
 }
 
 // What a pass, or the whole loop, leaves: the live strands once the tables are made, the goals noted, and the strand.
-#[derive(Drop)]
+#[derive(Clone, Copy)]
 pub struct Choice {
     pub selection: Selection,
     pub live: u16,

@@ -5,7 +5,7 @@ use crate::Forest;
 use stores::queue::any_strand;
 use stores::table::any_answer;
 
-#[derive(Drop)]
+#[derive(Clone, Copy)]
 pub enum Future {
     Refused(u8),
     Found(bool),

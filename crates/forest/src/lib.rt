@@ -14,7 +14,7 @@ use strands::{Answer, Strand};
 
 // The book, by its arrays; the tables; the strands and the numbers beside them, by place; the answers likewise; the clock's limit, the
 // number that marks a stopped forest, and the clock. No search is under way between two calls, so that there is no stack.
-#[derive(Drop)]
+#[derive(Clone, Copy)]
 pub struct Forest {
     goals: usize,
     clauses: usize,

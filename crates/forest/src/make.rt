@@ -12,14 +12,14 @@ use stores::table::blank_answers;
 use stores::tables::blank_tables;
 use strands::times::TimeStamp;
 
-#[derive(Drop)]
+#[derive(Clone, Copy)]
 pub enum Making {
     Refused(u8),
     Made,
 }
 
 // With a refusal the forest holds a book without goals, and is marked.
-#[derive(Drop)]
+#[derive(Clone, Copy)]
 pub struct Made {
     pub making: Making,
     pub forest: Forest,

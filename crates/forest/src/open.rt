@@ -7,14 +7,14 @@ use crate::serve_calls::first_serving;
 use batch::calls::Said;
 use batch::serve::serve_open;
 
-#[derive(Drop)]
+#[derive(Clone, Copy)]
 pub enum Opening {
     Refused(u8),
     Table(u64),
     Stopped(u8),
 }
 
-#[derive(Drop)]
+#[derive(Clone, Copy)]
 pub struct Opened {
     pub opening: Opening,
     pub forest: Forest,

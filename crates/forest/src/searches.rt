@@ -14,7 +14,7 @@ use stores::stack::push_entry;
 use strands::times::TimeStamp;
 
 // The listed results of a search or a peek.
-#[derive(Drop)]
+#[derive(Clone, Copy)]
 pub enum Outcome {
     Refused(u8),
     Found(u16, bool),
@@ -28,7 +28,7 @@ pub enum Outcome {
 }
 
 // `turns` are those of the search.
-#[derive(Drop)]
+#[derive(Clone, Copy)]
 pub struct Searched {
     pub outcome: Outcome,
     pub turns: u64,
@@ -36,7 +36,7 @@ pub struct Searched {
 }
 
 // The index at which the peek ended, the turns of its last search, and how many of its searches ended in QuantumExceeded.
-#[derive(Drop)]
+#[derive(Clone, Copy)]
 pub struct Peeked {
     pub outcome: Outcome,
     pub index: u64,
@@ -46,7 +46,7 @@ pub struct Peeked {
 }
 
 // What was run, and the forest that it leaves.
-#[derive(Drop)]
+#[derive(Clone, Copy)]
 pub struct Ran {
     pub course: Course,
     pub forest: Forest,

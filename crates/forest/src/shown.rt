@@ -9,7 +9,7 @@ use strands::{Answer, Strand};
 
 // The clock, the mark, the tables with their queues of strands and of answers, by place; and of the book what is needed to tell a strand
 // that still stands for its clause. The field `literal_want` and its like are a book's arrays (`book::Book`).
-#[derive(Drop)]
+#[derive(Clone, Copy)]
 pub struct Shown {
     pub clock: u64,
     pub mark: u8,

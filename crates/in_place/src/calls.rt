@@ -9,14 +9,14 @@ use forest::open::{Opened, Opening};
 use forest::searches::{Outcome, Peeked, Searched};
 
 // What a search tells beside the forest.
-#[derive(Drop)]
+#[derive(Clone, Copy)]
 pub struct SearchReply {
     pub outcome: Outcome,
     pub turns: u64,
 }
 
 // What a peek tells beside the forest.
-#[derive(Drop)]
+#[derive(Clone, Copy)]
 pub struct PeekReply {
     pub outcome: Outcome,
     pub index: u64,

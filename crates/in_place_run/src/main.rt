@@ -19,7 +19,7 @@ const MOST_TURNS: u64 = 1000;
 
 // Between two steps: how much of the output's buffer is in use, how many turns the search may still have, whether it is put back next,
 // and whether all is over.
-#[derive(Drop)]
+#[derive(Clone, Copy)]
 struct Progress {
     at: usize,
     turns: u64,
@@ -52,7 +52,7 @@ fn turned(out: &mut [u8], p: Progress, flow: Flow, depth: usize, clock: u64) -> 
 }
 
 // A search that is begun again.
-#[derive(Drop)]
+#[derive(Clone, Copy)]
 struct Again {
     progress: Progress,
     search: Search,

@@ -5,7 +5,7 @@
 ghost use Rattle.io.specs.Counts.{IsPrefixLen};
 
 // What was read: whether the input came to its end, or to the buffer's, without an error, and how many bytes there are.
-#[derive(Drop)]
+#[derive(Clone, Copy)]
 pub struct Got {
     pub whole: bool,
     pub count: usize,

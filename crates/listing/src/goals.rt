@@ -21,7 +21,7 @@ const TURNS: u64 = 10000;
 
 // Where the listing is: how much of the buffer is in use and how many lines are on the page, whether an answer of the goal was skipped,
 // whether the last line is written, whether the goal is to be opened, and if not, which table is to be peeked at and from which index on.
-#[derive(Drop)]
+#[derive(Clone, Copy)]
 struct Place {
     used: usize,
     lines: usize,

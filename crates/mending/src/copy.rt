@@ -12,7 +12,7 @@ use sizes::MOST_CLAUSES;
 
 // Where the copy stands: how many operands of the command at hand are to come; whether it stays; whether the last clause does; and how
 // many clauses there were, of which no paper has more than 256.
-#[derive(Drop)]
+#[derive(Clone, Copy)]
 struct Copying {
     skip: u8,
     stays: bool,

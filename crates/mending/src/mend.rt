@@ -12,7 +12,7 @@ use pen::refusals::refusal_line;
 
 // What mending comes to: number 0, and how much is in use of the buffer for the book, and of that for the lines; or the number of a
 // refusal, and its line.
-#[derive(Drop)]
+#[derive(Clone, Copy)]
 pub struct Mended {
     pub number: u8,
     pub used: usize,

@@ -26,7 +26,7 @@ use stores::numbers::{WAITS_NOT, flag_at};
 use stores::stack::pop;
 
 // What the numbers settle: nothing, a push of a table, a cycle with the entry at a height, or that the top is part of a cycle.
-#[derive(Drop)]
+#[derive(Clone, Copy)]
 pub enum Move {
     Nothing,
     Pushes(u8),
@@ -147,7 +147,7 @@ fn move_for(
 }
 
 // Whether the turn is done, and the stack's depth and the clock then.
-#[derive(Drop)]
+#[derive(Clone, Copy)]
 pub struct Numbered {
     pub settled: bool,
     pub depth: usize,

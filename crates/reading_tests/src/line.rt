@@ -3,7 +3,7 @@ use book::Looked;
 
 // What is known of the line so far: whether its label is over, the high half of a byte (16: none), how many characters of a name or
 // bytes of a book are there, and how much of the output's buffer is in use. `over` is set at the end of the input.
-#[derive(Drop)]
+#[derive(Clone, Copy)]
 pub(crate) struct Line {
     pub hex: bool,
     pub over: bool,

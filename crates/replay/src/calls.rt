@@ -7,7 +7,7 @@ use forest::make::{Made, make, make_at_desk};
 use forest::open::{Opened, open};
 use forest::searches::{Peeked, Searched, peek, search};
 
-#[derive(Drop)]
+#[derive(Clone, Copy)]
 pub(crate) struct Called {
     pub reply: Reply,
     pub forest: Forest,

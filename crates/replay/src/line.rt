@@ -8,7 +8,7 @@ use crate::utf8;
 // is how many numbers it has so far, and a, b, c, d those.
 // Of the word so far: its first characters in base 256 behind a 1, so that 1 is no word and no longer word has the number of a name; its
 // value, if it is a decimal number; whether a book's bytes are all hex digits, and the high half of a byte (16: none).
-#[derive(Drop)]
+#[derive(Clone, Copy)]
 pub(crate) struct Line {
     pub number: u64,
     pub empty: bool,
@@ -225,7 +225,7 @@ fn lengthened(l: Line, c: u8) -> Line {
 }
 
 // A number, or none.
-#[derive(Drop)]
+#[derive(Clone, Copy)]
 struct Decimal {
     is: bool,
     value: u64,

@@ -1,7 +1,7 @@
 // How a script is run: the words among the program's arguments.
 use sizes::wide64;
 
-#[derive(Drop)]
+#[derive(Clone, Copy)]
 pub(crate) struct Manner {
     pub quiet: bool,
     pub batch: bool,

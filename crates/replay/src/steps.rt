@@ -11,7 +11,7 @@ use forest::make::Making;
 
 // What comes next: more of the input is read; its characters are looked at, up to a line's end; a whole line is looked at. Then the steps
 // that need a forest: a book, a call by itself, the calls that wait, and what the forest holds.
-#[derive(Drop)]
+#[derive(Clone, Copy)]
 pub(crate) enum Step {
     Read,
     Scan,
@@ -25,7 +25,7 @@ pub(crate) enum Step {
 // Between two steps: how the script is run; how much of the output's buffer is in use; how much of the input's buffer was read, and from
 // where on it was not looked at; whether the input is at its end, and all is done; the line so far; whether there was a book, so that
 // there is a forest, and how many calls wait for it.
-#[derive(Drop)]
+#[derive(Clone, Copy)]
 pub(crate) struct Midst {
     pub step: Step,
     pub manner: Manner,

@@ -5,7 +5,7 @@ use forest::open::Opening;
 use forest::searches::Outcome;
 
 // `Searched` has the turns, `Peeked` the index at which it ended and the turns of its last search.
-#[derive(Drop)]
+#[derive(Clone, Copy)]
 pub(crate) enum Reply {
     NoForest,
     Booked(Making),

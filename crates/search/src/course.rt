@@ -6,7 +6,7 @@ use control::performed::{Carried, Flow};
 
 // How a search ends (definitions, `Ending`): an answer by its variant and whether it is ambiguous, a failure of the Rust, the turns used
 // up, or a stop by its number.
-#[derive(Drop)]
+#[derive(Clone, Copy)]
 pub enum Ending {
     Found(u16, bool),
     NoMoreSolutions,
@@ -19,14 +19,14 @@ pub enum Ending {
 }
 
 // One turn of a search that stands, a search, or the searches of a peek one after the other.
-#[derive(Drop)]
+#[derive(Clone, Copy)]
 pub enum Mode {
     Turn,
     Search,
     Peek,
 }
 
-#[derive(Drop)]
+#[derive(Clone, Copy)]
 pub struct Asked {
     pub mode: Mode,
     pub table: u8,
@@ -36,7 +36,7 @@ pub struct Asked {
 
 // Whether all is over, and then how the last search ended; how its last turn ended; the index of the search that stands or was last, the
 // rounds after it and how many searches ended in QuantumExceeded; its turns. Then the forest's mark, and the numbers that a turn carries.
-#[derive(Drop)]
+#[derive(Clone, Copy)]
 pub struct Course {
     pub over: bool,
     pub ending: Ending,

@@ -28,7 +28,7 @@ use strands::{Answer, Strand};
 
 // The top, the strand that it goes on with or what is done with none, and the place of the strand that the turn reads, with the numbers
 // beside it that tell whether it is fresh.
-#[derive(Drop)]
+#[derive(Clone, Copy)]
 pub struct Looked {
     pub top: Top,
     pub next: Next,
@@ -39,7 +39,7 @@ pub struct Looked {
 }
 
 // The strand in hand, and what is chosen for it.
-#[derive(Drop)]
+#[derive(Clone, Copy)]
 pub struct Picked {
     pub hand: Strand,
     pub chosen: Chosen,
@@ -246,7 +246,7 @@ pub fn conclude<'a>(
 }
 
 // What a pass leaves: the owner writes the copy, then the strand, and the answer.
-#[derive(Drop)]
+#[derive(Clone, Copy)]
 pub struct Passed {
     pub course: Course,
     pub copy_place: u8,
@@ -403,7 +403,7 @@ pub fn pass(
 }
 
 // What the loop leaves beside what was lent.
-#[derive(Drop)]
+#[derive(Clone, Copy)]
 pub struct Ran {
     pub course: Course,
     pub strands: [Strand; PLACES],

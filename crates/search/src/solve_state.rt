@@ -14,7 +14,7 @@ use strands::{Answer, Strand};
 // The forest: the book, by its arrays; the tables; the strands and the numbers beside them, by place; the answers likewise; the clock's
 // limit, the mark and the clock. Then the stack's entries; and which answer of which table is searched for, and the turns that the search
 // may do and has done.
-#[derive(Drop)]
+#[derive(Clone, Copy)]
 pub struct Search {
     pub goals: usize,
     pub clauses: usize,
@@ -66,7 +66,7 @@ pub struct Search {
 }
 
 // How the turn ended, and the search that it leaves.
-#[derive(Drop)]
+#[derive(Clone, Copy)]
 pub struct Turned {
     pub flow: Flow,
     pub search: Search,

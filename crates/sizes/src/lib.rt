@@ -21,7 +21,7 @@ pub const MOST_ENTRIES: usize = MOST_TABLES;
 pub const PLACES: usize = 256;
 
 // All of them, so that they can be held to the definitions'.
-#[derive(Drop)]
+#[derive(Clone, Copy)]
 pub struct Sizes {
     pub goals: usize,
     pub clauses: usize,

@@ -11,7 +11,7 @@ use sizes::{PLACES, wide};
 
 // Rings of the places of a store: ring t is that of table t, ring 64 that of the places that were used and are free again. The places
 // from `top` on were never used.
-#[derive(Drop)]
+#[derive(Clone, Copy)]
 pub struct Places {
     pub next: [u8; PLACES],
     pub tail: [u8; PLACES],

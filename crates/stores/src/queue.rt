@@ -21,7 +21,7 @@ use strands::{Selected, Strand};
 // The strands by place, and the numbers beside them: `time` is when a strand was last pursued, which stands nowhere else, `waits` what it
 // waits on and `wants` the answer index that it wants. A fresh place, whose strand is not written yet, has 254 in `waits` and the number of
 // the strand's clause in `wants`.
-#[derive(Drop)]
+#[derive(Clone, Copy)]
 pub struct Strands {
     pub strands: [Strand; PLACES],
     pub time: [u64; PLACES],
@@ -247,7 +247,7 @@ pub fn fresh_places(
 }
 
 // Where looking along a queue came to: whether a strand is eligible, its place, and the place before it in the ring.
-#[derive(Drop)]
+#[derive(Clone, Copy)]
 pub struct Spot {
     pub found: bool,
     pub before: u8,

@@ -10,7 +10,7 @@ use crate::numbers::{NO_PLACE, flag_at, upto};
 use sizes::{MOST_ENTRIES, MOST_TABLES};
 
 // Entry 0 is the root; an active strand is a place, and 256 where there is none.
-#[derive(Drop)]
+#[derive(Clone, Copy)]
 pub struct Stack {
     pub depth: usize,
     pub table: [u8; MOST_ENTRIES],

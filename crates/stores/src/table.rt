@@ -16,7 +16,7 @@ use sizes::{MOST_LITERALS, MOST_TABLES, PLACES};
 use strands::{Answer, within};
 
 // The answers by place, and the numbers beside them: `key` is a number for the list of delayed goals.
-#[derive(Drop)]
+#[derive(Clone, Copy)]
 pub struct Answers {
     pub answers: [Answer; PLACES],
     pub variant: [u16; PLACES],
@@ -120,7 +120,7 @@ pub fn find_answer(
 }
 
 // What `push_answer` comes to: the answer is there already, the search stops by a number, or the answer is new and goes to a place.
-#[derive(Drop)]
+#[derive(Clone, Copy)]
 pub enum PushAnswer {
     Repeat,
     Stop(u8),

@@ -7,7 +7,7 @@ use crate::numbers::{first_of, flag_of};
 use sizes::MOST_TABLES;
 
 // The tables' own numbers; a flag is 0 or 1. `complete` is the answer mode.
-#[derive(Drop)]
+#[derive(Clone, Copy)]
 pub struct Tables {
     pub count: usize,
     pub goal: [u8; MOST_TABLES],

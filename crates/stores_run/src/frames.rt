@@ -12,7 +12,7 @@ use strands::Strand;
 use strands::delaying::delay_goal;
 use strands::making::blank;
 
-#[derive(Drop)]
+#[derive(Clone, Copy)]
 struct Over {
     over: usize,
     strand: Strand,

@@ -13,7 +13,7 @@ use strands::Answer;
 use strands::answers::blank_answer;
 
 // What a push came to: 0 for a repeat, the number of a stop, or 100 for a new answer.
-#[derive(Drop)]
+#[derive(Clone, Copy)]
 struct Kept {
     what: u8,
     answers: Answers,
@@ -140,7 +140,7 @@ fn is_new(what: u8) -> usize
     if what == 100 { 1 } else { 0 }
 }
 
-#[derive(Drop)]
+#[derive(Clone, Copy)]
 struct Filled {
     count: usize,
     last: u8,

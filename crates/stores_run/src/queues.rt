@@ -11,13 +11,13 @@ use stores::queue::{Strands, blank_strands, fresh_places, number_strand, take_st
 use strands::Strand;
 use strands::making::blank;
 
-#[derive(Drop)]
+#[derive(Clone, Copy)]
 pub(crate) struct Placed {
     pub done: bool,
     pub strands: Strands,
 }
 
-#[derive(Drop)]
+#[derive(Clone, Copy)]
 pub(crate) struct Took {
     pub place: usize,
     pub strands: Strands,
@@ -185,7 +185,7 @@ pub(crate) fn rotation() {
     line(b"in use", used(e.strands));
 }
 
-#[derive(Drop)]
+#[derive(Clone, Copy)]
 struct Filled {
     count: usize,
     strands: Strands,

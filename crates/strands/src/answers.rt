@@ -8,7 +8,7 @@ use crate::{Answer, Strand, within};
 use sizes::MOST_LITERALS;
 
 // The first `count` of the goals.
-#[derive(Drop)]
+#[derive(Clone, Copy)]
 struct Goals {
     count: usize,
     goals: [u8; MOST_LITERALS],

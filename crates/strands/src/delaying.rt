@@ -8,7 +8,7 @@ use crate::{Answer, Strand, within};
 use sizes::MOST_LITERALS;
 
 // A strand with goals delayed, or over: the ninth is stopped by 24, and the strand is as it was.
-#[derive(Drop)]
+#[derive(Clone, Copy)]
 pub struct Delayed {
     pub over: bool,
     pub strand: Strand,

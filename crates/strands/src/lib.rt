@@ -18,7 +18,7 @@ use book::Literal;
 use sizes::MOST_LITERALS;
 
 // `SelectedSubgoal`, or nothing selected: 6 bytes.
-#[derive(Drop)]
+#[derive(Clone, Copy)]
 pub enum Selected {
     Nothing,
     Subgoal { index: u8, table: u8, answer: u16 },
@@ -28,7 +28,7 @@ pub enum Selected {
 // their times, 8 of delayed goals and 6 of what is selected. A `FlounderedSubgoal` is a literal and, at the same index, its time: a struct
 // of the two would have a byte more that aligns it, and a strand 134. The last pursued time stands beside the strands, by place, where it
 // can be read without the strand. Reading and writing back an element of an array costs twice as much above 128 bytes.
-#[derive(Drop)]
+#[derive(Clone, Copy)]
 pub struct Strand {
     pub variant: u16,
     pub outsized: bool,
@@ -45,7 +45,7 @@ pub struct Strand {
 }
 
 // `Answer`: a variant, and the goals that are still to be proved for it. 12 bytes.
-#[derive(Drop)]
+#[derive(Clone, Copy)]
 pub struct Answer {
     pub variant: u16,
     pub ambiguous: bool,

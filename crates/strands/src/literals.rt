@@ -12,7 +12,7 @@ use crate::{Strand, within};
 use book::Literal;
 
 // What stands at an index.
-#[derive(Drop)]
+#[derive(Clone, Copy)]
 pub enum Found {
     Nothing,
     There(Literal),

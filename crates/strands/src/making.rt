@@ -7,7 +7,7 @@ use book::Literal;
 use sizes::MOST_LITERALS;
 
 // The refinement strand of an answer, if it has one.
-#[derive(Drop)]
+#[derive(Clone, Copy)]
 pub struct Refinement {
     pub made: bool,
     pub strand: Strand,

@@ -3,18 +3,18 @@ ghost use Rattle.std.specs.Prelude.{◌≡◌, min};
 ghost use Rattle.definitions.specs.{minimums_MAX, take_minimums, minimum_of_pos_and_neg, is_complete};
 ghost use Rattle.strands.specs.Times.{incremented, minimums, mode};
 
-#[derive(Drop)]
+#[derive(Clone, Copy)]
 pub struct TimeStamp {
     pub clock: u64,
 }
 
-#[derive(Drop)]
+#[derive(Clone, Copy)]
 pub struct Minimums {
     pub positive: TimeStamp,
     pub negative: TimeStamp,
 }
 
-#[derive(Drop)]
+#[derive(Clone, Copy)]
 pub enum AnswerMode {
     Complete,
     Ambiguous,

@@ -17,7 +17,7 @@ use places::place;
 
 // What an export comes to: number 0, and how much is in use of the buffer for the text; or the number of a refusal, and how much is in use
 // of that for its lines. Of the other buffer nothing is.
-#[derive(Drop)]
+#[derive(Clone, Copy)]
 pub struct Exported {
     pub number: u8,
     pub used: usize,

@@ -13,7 +13,7 @@ use sizes::{BOOK_LITERALS, MOST_CLAUSES, MOST_GOALS};
 // read, if a digit of it was, or the one that was read last; `head` is that of the last rule that was begun; `told` is what the last byte
 // ended: 1 a rule's head, 2 a positive literal, 3 a negative one, and 0 none of them. A text that is `broken` is not of the form, whatever
 // follows.
-#[derive(Drop)]
+#[derive(Clone, Copy)]
 pub struct Spot {
     place: u8,
     digits: bool,
@@ -27,7 +27,7 @@ pub struct Spot {
 
 // What is known of the bytes of the book so far: how many goals are written, how many clauses, how many literals of the last clause, and
 // how many bytes. Of a text that is `over` a limit nothing more is written.
-#[derive(Drop)]
+#[derive(Clone, Copy)]
 pub struct Kept {
     goals: u64,
     clauses: u64,
@@ -41,7 +41,7 @@ pub const PLAIN_BYTES: usize = 2 * MOST_GOALS + 4 * MOST_CLAUSES + 6 * BOOK_LITE
 
 // A text that is being read: its state has a fixed size, whatever the text's length. Nobody outside this crate can read or write what a
 // reader has inside.
-#[derive(Drop)]
+#[derive(Clone, Copy)]
 pub struct Reader {
     spot: Spot,
     kept: Kept,
@@ -49,7 +49,7 @@ pub struct Reader {
 }
 
 // Number 0: the book of the text is the first `used` bytes. Another number: the text is refused by it, and there is no book.
-#[derive(Drop)]
+#[derive(Clone, Copy)]
 pub struct Imported {
     pub number: u8,
     pub used: usize,
