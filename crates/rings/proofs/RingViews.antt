@@ -207,8 +207,12 @@ module _ (next tail len : List ℕ) (top : ℕ) (sound : RingSound next tail len
         go false e (x ∷ l) i =
             let c : Chain next (get_or tail t 0) (x ∷ l) (get_or tail t 0) = rw i at (sound.closed t) in
             let h : 1 ≤ times (get_or tail t 0) (q t) = rw i (chain_last next (get_or tail t 0) x l (get_or tail t 0) c) in
-            rw (i, e) (ring_append next (get_or tail t 0) p x l c (rw i at (fresh t)) (rw i at (sound.once t (get_or tail t 0)))
-            (omega (arith, sound.long_next, sound.room)) (omega (arith, sound.long_next, below t (get_or tail t 0) h)))
+            let is : next_e ≡ set (set next p (get_or next (get_or tail t 0) 0)) (get_or tail t 0) p =
+            ap (λ (b : Bool). linked_at b next (get_or tail t 0) p) e in
+            subst (λ (n : List ℕ). Chain n p (q t ++ (p ∷ [])) p) (sym is)
+            (subst (λ (k : List ℕ). Chain (set (set next p (get_or next (get_or tail t 0) 0)) (get_or tail t 0) p) p (k ++ (p ∷ [])) p) (sym i)
+            (ring_append next (get_or tail t 0) p x l c (rw i at (fresh t)) (rw i at (sound.once t (get_or tail t 0)))
+            (omega (arith, sound.long_next, sound.room)) (omega (arith, sound.long_next, below t (get_or tail t 0) h))))
 
     tail_e_t : get_or tail_e t 0 ≡ p
     tail_e_t = get_or-set_same tail t p 0 (omega (arith, sound.long_tail))
