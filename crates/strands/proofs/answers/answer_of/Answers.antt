@@ -2,7 +2,6 @@
 use native.Mathlib.Omega.{arith}
 use mathlib.Core.Path.{ap}
 use lib.ListN.{take, length-take}
-use borrow.Author.Rules.{rules}
 use Rattle.definitions.proofs.Lists.{length_other_than}
 use Rattle.strands.specs.declared.answers.Goals.{Goals}
 use Rattle.strands.proofs.answers.answer_of.Goals as goal

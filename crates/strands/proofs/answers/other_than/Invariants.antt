@@ -1,12 +1,9 @@
 -- The loop of `other_than`: what is kept so far is what the definition keeps of the goals passed.
 use Prim.Native.Nat.{◌-◌, ◌≤◌}
-use native.Mathlib.Omega.{arith}
-use mathlib.Core.Path.{◌≡◌, ◌∙◌}
-use lib.ListN.{length, take, get_or, length-set}
-use borrow.Author.Rules.{rules}
+use mathlib.Core.Path.{◌≡◌}
+use lib.ListN.{length, take}
 use Rattle.definitions.specs.Turn.{other_than}
 use Rattle.strands.specs.Answers.{goals_of}
-use Rattle.strands.proofs.AnswerCases.{turn_kept, turn_dropped}
 use Rattle.strands.proofs.answers.other_than.Given as goal
 
 abbrev pub invariant-loop-i : goal.invariant-loop-i

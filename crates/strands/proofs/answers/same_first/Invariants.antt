@@ -1,11 +1,8 @@
 -- The loop of `same_first`: whether the first n are the same is whether those left are.
 use Prim.Native.Nat.{◌-◌, ◌≤◌}
-use native.Mathlib.Omega.{arith}
-use mathlib.Core.Path.{◌≡◌, sym, ◌∙◌}
-use lib.ListN.{length, take, drop}
-use borrow.Author.Rules.{rules}
+use mathlib.Core.Path.{◌≡◌}
+use lib.ListN.{take, drop}
 use Rattle.definitions.specs.Lists.{same}
-use Rattle.strands.proofs.AnswerCases.{turn_differs, turn_same, same_end}
 use Rattle.strands.proofs.answers.same_first.Given as goal
 
 abbrev pub invariant-loop-i : goal.invariant-loop-i

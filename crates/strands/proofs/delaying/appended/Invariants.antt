@@ -1,11 +1,8 @@
 -- The loop of `appended`: the first i of the other array are written.
-use Prim.Native.Nat.{◌+◌, ◌-◌, ◌≤◌}
-use native.Mathlib.Omega.{arith}
-use mathlib.Core.Path.{◌≡◌, refl, ◌∙◌}
-use lib.ListN.{length, take, get_or, length-set}
+use Prim.Native.Nat.{◌-◌, ◌≤◌}
+use mathlib.Core.Path.{◌≡◌}
+use lib.ListN.{length, take}
 use lib.Seq.{sets}
-use borrow.Author.Rules.{rules}
-use Rattle.laws.proofs.Takes.{sets_next}
 use Rattle.strands.proofs.delaying.appended.Given as goal
 
 abbrev pub invariant-loop-i : goal.invariant-loop-i

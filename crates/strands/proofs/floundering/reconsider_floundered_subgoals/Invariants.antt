@@ -1,10 +1,6 @@
 -- The loop from the end: what is left to do for the strand in hand is what there was to do for the one at the start.
-use mathlib.Core.Path.{◌≡◌, ap, ◌∙◌}
-use Prim.Native.Nat.{ℕ, ◌-◌}
-use borrow.Author.Rules.{rules}
-use Rattle.strands.specs.declared.Strand.{Strand}
+use mathlib.Core.Path.{◌≡◌}
 use Rattle.strands.specs.Floundering.{reconsider_down}
-use Rattle.strands.proofs.FlounderCases.{reconsider_turn, reconsider_ended}
 use Rattle.strands.proofs.floundering.reconsider_floundered_subgoals.Given as goal
 
 abbrev pub invariant-loop-left : goal.invariant-loop-left

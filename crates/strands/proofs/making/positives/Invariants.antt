@@ -1,11 +1,8 @@
 -- The loop of `positives`: the literals made so far are those of the goals passed.
 use Prim.Native.Nat.{◌-◌, ◌≤◌}
-use native.Mathlib.Omega.{arith}
-use mathlib.Core.Path.{◌≡◌, ◌∙◌}
-use lib.ListN.{length, take, get_or, length-set}
-use borrow.Author.Rules.{rules}
-use Rattle.strands.specs.Making.{wants_any, positives}
-use Rattle.strands.proofs.MakeCases.{positives_next}
+use mathlib.Core.Path.{◌≡◌}
+use lib.ListN.{length, take}
+use Rattle.strands.specs.Making.{positives}
 use Rattle.strands.proofs.making.positives.Given as goal
 
 abbrev pub invariant-loop-i : goal.invariant-loop-i
