@@ -8,16 +8,12 @@ use Rattle.laws.proofs.Maps.{length_mapped}
 use Rattle.laws.proofs.Pairs.{length_paired}
 use Rattle.strands.specs.View.{floundered}
 use Rattle.strands.proofs.Lists.{view_empty}
-use Rattle.strands.proofs.literals.no_floundered.Statement.{statement}
-use Rattle.strands.proofs.literals.no_floundered.Tie as tie
+use Rattle.strands.proofs.literals.no_floundered.Goals as goal
 
-returns : tie.Need-returns
+pub returns : goal.returns
 returns c =
-    let s = c.before.args.s in
+    let s = c.args.s in
     let e : length s.floundered ≡ 8 = search (length_mapped, rules) in
     let f : length s.floundered_time ≡ 8 = search rules in
     let long = length_paired 8 s.floundered s.floundered_time e f in
     view_empty floundered s.floundered_count (paired s.floundered s.floundered_time) (omega arith)
-
-pub no-floundered-spec : {M : Type 1} → statement M
-no-floundered-spec = tie.close (tie.spec returns)
