@@ -14,7 +14,7 @@ use borrow.Author.Rules.{rules}
 use Rattle.control.proofs.select_subgoal.first_noted.Given as goal
 
 abbrev pub invariant-loop-i : goal.invariant-loop-i
-invariant-loop-i l = (l.i ≤ l.n) × (l.n ≤ 8) × (first_at (test l.goals l.g) l.i (l.n - l.i) ≡ first_at (test l.goals l.g) 0 l.n)
+invariant-loop-i l = (l.i ≤ l.n) × (l.n ≤ 8) × (first_at (λ j. eqb (get_or l.goals j 0) l.g) l.i (l.n - l.i) ≡ first_at (λ j. eqb (get_or l.goals j 0) l.g) 0 l.n)
 
 abbrev pub decreases-loop-i : goal.decreases-loop-i
 decreases-loop-i l = l.n - l.i
