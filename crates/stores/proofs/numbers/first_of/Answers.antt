@@ -1,15 +1,12 @@
-use Prim.Native.Nat.{◌≤◌, ◌-◌, ℕ}
-use mathlib.Core.Path.{◌≡◌, ◌∙◌, sym, ap}
-use native.Mathlib.Nat.{sub-zero}
-use native.Mathlib.Omega.{arith}
+use Prim.Native.Nat.{ℕ}
+use mathlib.Core.Path.{◌∙◌, sym}
 use mathlib.Core.Bool.{Bool}
 use mathlib.Core.List.{List}
-use borrow.Author.Tests.{eq-eqb, ne_eqb}
+use borrow.Author.Tests.{ne_eqb}
 use lib.ListN.{get_or}
 use lib.Dec.{eqb}
 use borrow.Author.Rules.{rules}
-use Rattle.stores.specs.Numbers.{first_at, within}
-use Rattle.stores.proofs.NumbersCases.{first_here, first_next, first_over}
+use Rattle.stores.proofs.NumbersCases.{first_next}
 use Rattle.stores.proofs.numbers.first_of.Goals as goal
 
 abbrev test : List ℕ → ℕ → ℕ → Bool

@@ -1,16 +1,9 @@
 -- `first_of` meets its contract: the search from i on is what is left of the whole search.
-use Prim.Native.Nat.{◌≤◌, ◌-◌, ℕ}
-use mathlib.Core.Path.{◌≡◌, ◌∙◌, sym, ap}
-use native.Mathlib.Nat.{sub-zero}
-use native.Mathlib.Omega.{arith}
-use mathlib.Core.Bool.{Bool}
-use mathlib.Core.List.{List}
-use borrow.Author.Tests.{eq-eqb, ne_eqb}
+use Prim.Native.Nat.{◌≤◌, ◌-◌}
+use mathlib.Core.Path.{◌≡◌}
 use lib.ListN.{get_or}
 use lib.Dec.{eqb}
-use borrow.Author.Rules.{rules}
 use Rattle.stores.specs.Numbers.{first_at, within}
-use Rattle.stores.proofs.NumbersCases.{first_here, first_next, first_over}
 use Rattle.stores.proofs.numbers.first_of.Given as goal
 
 abbrev pub invariant-loop-i : goal.invariant-loop-i

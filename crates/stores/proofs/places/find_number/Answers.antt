@@ -1,11 +1,10 @@
 use Prim.Native.Nat.{ℕ}
-use mathlib.Core.Path.{◌≡◌, refl, sym, ap, ◌∙◌}
-use mathlib.Core.Bool.{Bool, true, false, ◌&&◌}
-use lib.ListN.{drop, get_or}
+use mathlib.Core.Path.{◌≡◌, sym, ◌∙◌}
+use mathlib.Core.Bool.{Bool, false, ◌&&◌}
+use lib.ListN.{get_or}
 use lib.Dec.{eqb}
-use Rattle.rings.specs.Rings.{walk, ring_of}
-use Rattle.stores.specs.Places.{numbered, found_in}
-use Rattle.stores.proofs.PlacesSearch.{found_here, found_next, found_over}
+use Rattle.stores.specs.Places.{numbered}
+use Rattle.stores.proofs.PlacesSearch.{found_next}
 use borrow.Author.Rules.{rules}
 use Rattle.stores.proofs.places.find_number.Goals as goal
 

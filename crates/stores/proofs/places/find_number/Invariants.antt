@@ -1,13 +1,8 @@
 -- `find_number` meets its contract: what is found in what is left of the ring is what is found in the whole.
-use Prim.Native.Nat.{ℕ}
-use mathlib.Core.Path.{◌≡◌, refl, sym, ap, ◌∙◌}
-use mathlib.Core.Bool.{Bool, true, false, ◌&&◌}
-use lib.ListN.{drop, get_or}
-use lib.Dec.{eqb}
+use mathlib.Core.Path.{◌≡◌}
+use lib.ListN.{drop}
 use Rattle.rings.specs.Rings.{walk, ring_of}
 use Rattle.stores.specs.Places.{numbered, found_in}
-use Rattle.stores.proofs.PlacesSearch.{found_here, found_next, found_over}
-use borrow.Author.Rules.{rules}
 use Rattle.stores.proofs.places.find_number.Given as goal
 
 abbrev pub invariant-loop-left : goal.invariant-loop-left

@@ -1,5 +1,5 @@
 -- `take_place` meets its contract: each way out cites its case.
-use Rattle.stores.proofs.PlacesCases.{took_free, took_begun, took_none}
+use Rattle.stores.proofs.PlacesCases.{took_free}
 use borrow.Author.Rules.{rules}
 use Rattle.stores.proofs.places.take_place.Goals as goal
 

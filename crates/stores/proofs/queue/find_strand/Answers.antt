@@ -1,10 +1,9 @@
 use Prim.Native.Nat.{ℕ}
-use mathlib.Core.Path.{◌≡◌, refl, sym, ◌∙◌}
-use mathlib.Core.Bool.{Bool, true, false}
+use mathlib.Core.Path.{◌≡◌, sym, ◌∙◌}
+use mathlib.Core.Bool.{Bool, false}
 use lib.ListN.{get_or}
-use Rattle.rings.specs.Rings.{walk, ring_of}
-use Rattle.stores.specs.Queue.{eligible, spot_from}
-use Rattle.stores.proofs.QueueCases.{spot_here, spot_next, spot_over}
+use Rattle.stores.specs.Queue.{eligible}
+use Rattle.stores.proofs.QueueCases.{spot_next}
 use borrow.Author.Rules.{rules}
 use Rattle.stores.proofs.queue.find_strand.Goals as goal
 

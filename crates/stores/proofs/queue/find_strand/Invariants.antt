@@ -1,12 +1,8 @@
 -- `find_strand` meets its contract: what is found in what is left of the queue is what is found in the whole.
-use Prim.Native.Nat.{ℕ}
-use mathlib.Core.Path.{◌≡◌, refl, sym, ◌∙◌}
-use mathlib.Core.Bool.{Bool, true, false}
+use mathlib.Core.Path.{◌≡◌}
 use lib.ListN.{get_or}
 use Rattle.rings.specs.Rings.{walk, ring_of}
 use Rattle.stores.specs.Queue.{eligible, spot_from}
-use Rattle.stores.proofs.QueueCases.{spot_here, spot_next, spot_over}
-use borrow.Author.Rules.{rules}
 use Rattle.stores.proofs.queue.find_strand.Given as goal
 
 abbrev pub invariant-loop-left : goal.invariant-loop-left

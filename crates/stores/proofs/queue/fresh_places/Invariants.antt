@@ -1,14 +1,11 @@
 -- `fresh_places` meets its contract: from the counter on there is to be done what was to be done from the first clause on.
-use Prim.Native.Nat.{ℕ, ◌-◌, ◌≤◌}
-use native.Mathlib.Omega.{arith}
+use Prim.Native.Nat.{◌-◌, ◌≤◌}
 use mathlib.Core.List.{List}
-use mathlib.Core.Path.{◌≡◌, sym, ap, ◌∙◌}
-use borrow.Author.Rules.{rules}
+use mathlib.Core.Path.{◌≡◌}
 use Rattle.strands.specs.declared.Strand.{Strand}
 use Rattle.sizes.specs.Limits.{most_clauses}
 use Rattle.stores.specs.Places.{places}
 use Rattle.stores.specs.Queue.{clauses_from, fresh_each, store}
-use Rattle.stores.proofs.QueueCases.{fresh_step, fresh_over}
 use Rattle.stores.proofs.queue.fresh_places.Given as goal
 
 abbrev pub invariant-loop-left : goal.invariant-loop-left

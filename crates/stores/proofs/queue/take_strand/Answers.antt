@@ -3,7 +3,6 @@ use Prim.Native.Nat.{ℕ}
 use mathlib.Core.Bool.{Bool}
 use Rattle.stores.specs.Queue.{eligible}
 use Rattle.stores.proofs.QueueCases.{strand_taken, strand_none}
-use borrow.Author.Rules.{rules}
 use Rattle.stores.proofs.queue.take_strand.Goals as goal
 
 pub returns-then-s : goal.returns-then-s

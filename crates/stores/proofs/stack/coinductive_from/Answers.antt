@@ -1,10 +1,8 @@
-use Prim.Native.Nat.{◌≤◌, ◌-◌, ℕ}
-use mathlib.Core.Path.{◌≡◌, ◌∙◌, sym, ap}
-use native.Mathlib.Omega.{arith}
+use Prim.Native.Nat.{ℕ}
+use mathlib.Core.Path.{◌∙◌, sym}
 use borrow.Author.Rules.{rules}
-use Rattle.stores.specs.Numbers.{all_from, within}
 use Rattle.stores.specs.Stack.{coinductive_at}
-use Rattle.stores.proofs.NumbersCases.{all_here, all_next, all_over}
+use Rattle.stores.proofs.NumbersCases.{all_next}
 use Rattle.stores.proofs.stack.coinductive_from.Goals as goal
 
 pub loop-i-preserved : goal.loop-i-preserved

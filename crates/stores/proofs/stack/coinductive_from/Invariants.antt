@@ -1,11 +1,8 @@
 -- `coinductive_from` meets its contract: the test from i on is what is left of the whole test.
-use Prim.Native.Nat.{◌≤◌, ◌-◌, ℕ}
-use mathlib.Core.Path.{◌≡◌, ◌∙◌, sym, ap}
-use native.Mathlib.Omega.{arith}
-use borrow.Author.Rules.{rules}
+use Prim.Native.Nat.{◌≤◌, ◌-◌}
+use mathlib.Core.Path.{◌≡◌}
 use Rattle.stores.specs.Numbers.{all_from, within}
 use Rattle.stores.specs.Stack.{coinductive_at}
-use Rattle.stores.proofs.NumbersCases.{all_here, all_next, all_over}
 use Rattle.stores.proofs.stack.coinductive_from.Given as goal
 
 abbrev pub invariant-loop-i : goal.invariant-loop-i

@@ -1,10 +1,9 @@
 use borrow.Author.Rules.{rules}
-use Prim.Native.Nat.{ℕ, ◌≤◌}
+use Prim.Native.Nat.{◌≤◌}
 use native.Mathlib.Omega.{arith}
-use mathlib.Core.Path.{◌≡◌, ap, ◌∙◌}
-use lib.ListN.{length, take, drop}
-use Rattle.stores.specs.Table.{key_of}
-use Rattle.stores.proofs.TableKeys.{key_start, key_step, key_fits, key_end}
+use mathlib.Core.Path.{◌≡◌}
+use lib.ListN.{length}
+use Rattle.stores.proofs.TableKeys.{key_fits}
 use Rattle.stores.proofs.table.key_of.Goals as goal
 
 pub overflow_mul-k : goal.overflow_mul-k
