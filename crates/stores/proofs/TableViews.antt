@@ -1,6 +1,6 @@
 -- What the operations on the answers do to the view, each as the definition does, and that `SoundAnswers` is kept: lookup, count, a new
 -- answer, freeing them all, and `mark_floundered`, which frees answers and strands. From the theorems on places and the laws of spans.
-use Prim.Native.Nat.{ℕ, suc, ◌+◌, ◌≤◌, ◌<◌}
+use Prim.Native.Nat.{ℕ, suc, ◌≤◌, ◌<◌}
 use native.Mathlib.Omega.{arith}
 use mathlib.Core.Path.{◌≡◌, refl, sym, ap, ap₂, subst, ◌∙◌}
 use mathlib.Core.Bool.{Bool, true, false}

@@ -1,5 +1,5 @@
 -- What the operations on places do, as functions on the record. Crate `rings` has the code, but for `take_place`.
-use Rattle.std.specs.Prelude.{ℕ, ◌+◌, ◌-◌, ◌≡◌, Bool, true, false, ◌&&◌, List, [], ◌∷◌, length, take, get_or, set, replicate, eqb, ltb}
+use Rattle.std.specs.Prelude.{ℕ, ◌+◌, ◌≡◌, Bool, true, false, ◌&&◌, List, [], ◌∷◌, length, take, get_or, set, replicate, eqb, ltb}
 use Rattle.rings.specs.Lists.{first_index}
 use Rattle.sizes.specs.Limits.{most_places}
 use Rattle.rings.specs.Rings.{ring_of, end, linked, lengthened, moved_next, moved_tail, joined, place_if, unlinked, shortened}
