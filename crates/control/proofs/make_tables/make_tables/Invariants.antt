@@ -13,6 +13,12 @@ use Rattle.control.specs.MakeTables.{tables_of, Tabling, tabling, tables_from}
 use Rattle.control.proofs.MakeTablesCases.{tables_step, tables_over}
 use Rattle.control.proofs.make_tables.make_tables.Given as goal
 
+abbrev pub state : (goal coinductive floundered complete next tail len : List ℕ) → (used : ℕ) → (time ambiguous variant waits wants : List ℕ)
+    → (tables : ℕ) → List Strand → Tabling
+state goal coinductive floundered complete next tail len used time ambiguous variant waits wants tables strands =
+    tabling (tables_of tables goal coinductive floundered complete)
+    (store strands time ambiguous variant waits wants (places next tail len used))
+
 abbrev pub invariant-loop-left : goal.invariant-loop-left
 invariant-loop-left l = (l.i + l.left ≤ 8)
     × ((strands : List Strand) → tables_from l.goal_flags l.goal_first l.goal_len l.clause_variant l.clause_flags l.goals l.left l.i
