@@ -6,7 +6,7 @@ use Rattle.pen.proofs.text.Goals as goal
 
 pub loop-i-init : goal.loop-i-init
 unfolding put_all
-loop-i-init c = record { within = omega arith; put_so_far = refl; }
+loop-i-init c = record { within = omega arith; put_so_far = refl }
 
 pub loop-i-preserved : goal.loop-i-preserved
 loop-i-preserved c = record {
