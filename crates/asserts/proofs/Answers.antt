@@ -40,7 +40,7 @@ record Longer (n : ℕ) (ts : Tables) (a : Answer) (t t' : Table) : Type 0 where
   steady : Steady t t'
   same-goal : SameGoal t t'
   fewer : length t'.strands ≤ length t.strands
-  one-more : length t'.answers ≡ suc (length t.answers)
+  one_more : length t'.answers ≡ suc (length t.answers)
   there : get_elem? t'.answers (length t.answers) ≡ some a
 
 longer : {n : ℕ} {ts : Tables} {t : Table} → SoundTable n ts t → t.floundered ≡ false → (a : Answer) → SoundAnswer n a
@@ -57,7 +57,7 @@ longer {n} {ts} {t} s u a g =
       same-goal = (refl, refl);
       fewer = omega arith;
       steady = record { same_floundered = refl; more_answers = omega arith };
-      one-more = omega arith;
+      one_more = omega arith;
       there = last_one t.answers a;
     }
 
@@ -72,7 +72,7 @@ emptied x = record {
   same-goal = x.same-goal;
   fewer = omega arith;
   steady = record { same_floundered = x.steady.same_floundered; more_answers = x.steady.more_answers };
-  one-more = x.one-more;
+  one_more = x.one_more;
   there = x.there;
 }
 
@@ -91,11 +91,11 @@ module _ (n root index first : ℕ) (f : Forest) (e : StackEntry) (es : Stack) (
     pub kept : Kept n f f'
     pub fewer : queued f' ≤ queued f
     pub after_table : Table
-    pub is-made : get_elem? f'.tables e.table ≡ some after_table
+    pub is_made : get_elem? f'.tables e.table ≡ some after_table
     pub unfloundered : after_table.floundered ≡ false
     pub the_answer : Answer
     pub there : get_elem? after_table.answers i ≡ some the_answer
-    pub one-more : length after_table.answers ≡ suc (length x.0.standing.own.answers)
+    pub one_more : length after_table.answers ≡ suc (length x.0.standing.own.answers)
 
   abbrev pub Pursued : Option ℕ → Forest → Type 0
   Pursued none f' = Ended n root index f' × (queued f' + active es ≤ 256) × All (Waits n f'.tables) es
@@ -106,7 +106,7 @@ module _ (n root index first : ℕ) (f : Forest) (e : StackEntry) (es : Stack) (
 
   marked : Pursued none (with_tables f (set f.tables e.table (mark_floundered x.0.standing.own)))
   marked =
-      let k = x.0.standing.is-made in
+      let k = x.0.standing.is_made in
       let few = x.0.forest.few_answers in
       let places = x.2 in
       let less = total_set (λ u. length u.strands) f.tables e.table x.0.standing.own (mark_floundered x.0.standing.own)
@@ -119,11 +119,11 @@ module _ (n root index first : ℕ) (f : Forest) (e : StackEntry) (es : Stack) (
         sound_answers = end;
         floundered_empty = λ q. (refl, refl);
       }) (omega arith) (omega arith) in
-      let t = g.grown root x.0.rooted.own x.0.rooted.is-made in (
+      let t = g.grown root x.0.rooted.own x.0.rooted.is_made in (
         record {
           sound = s;
           own = t.after;
-          is-made = t.is-made;
+          is_made = t.is_made;
           reached = t.related index (inr x.0.rooted.enough);
         },
         (omega arith),
@@ -132,15 +132,15 @@ module _ (n root index first : ℕ) (f : Forest) (e : StackEntry) (es : Stack) (
     where
       floundered-now : Grows Above f.tables (set f.tables e.table (mark_floundered x.0.standing.own))
       floundered-now = grows_set {R = Above} above_same f.tables e.table x.0.standing.own (mark_floundered x.0.standing.own)
-          x.0.standing.is-made (λ j y. inl refl)
+          x.0.standing.is_made (λ j y. inl refl)
 
       still : {cs : Stack} → All (Waits n f.tables) cs → Off e.table cs
           → All (Waits n (set f.tables e.table (mark_floundered x.0.standing.own))) cs
       still end o = end
       still (more {a = c} w ws) o = more (record {
         own = w.own;
-        is-made = set_other f.tables e.table c.table (mark_floundered x.0.standing.own) (λ q. all_first o (sym q))
-            ∙ w.is-made;
+        is_made = set_other f.tables e.table c.table (mark_floundered x.0.standing.own) (λ q. all_first o (sym q))
+            ∙ w.is_made;
         unfloundered = w.unfloundered;
         awaited = w.awaited;
         calls = calls_grow floundered-now w.calls;
@@ -152,8 +152,8 @@ module _ (n root index first : ℕ) (f : Forest) (e : StackEntry) (es : Stack) (
     stored : {a : Answer} (t' : Table) → held f < 256 → Longer n f.tables a x.0.standing.own t'
         → Answered (length x.0.standing.own.answers) (with_tables f (set f.tables e.table t'))
     stored {a} t' h l =
-        let k = x.0.standing.is-made in
-        let one = l.one-more in
+        let k = x.0.standing.is_made in
+        let one = l.one_more in
         let shorter = l.fewer in
         let places = x.2 in
         let less = total_set (λ u. length u.strands) f.tables e.table x.0.standing.own t' k in
@@ -161,31 +161,31 @@ module _ (n root index first : ℕ) (f : Forest) (e : StackEntry) (es : Stack) (
           kept = set_kept x.0.forest e.table k t' l.same-goal l.steady l.sound (omega arith) (omega arith);
           fewer = omega arith;
           after_table = t';
-          is-made = set_here f.tables e.table x.0.standing.own t' k;
+          is_made = set_here f.tables e.table x.0.standing.own t' k;
           unfloundered = l.steady.same_floundered ∙ x.0.standing.unfloundered;
           the_answer = a;
           there = l.there;
-          one-more = l.one-more;
+          one_more = l.one_more;
         }
 
     pub pursues : Safe (λ r. Pursued r.0 r.1) (pursue_answer f e.table strand)
     pursues =
         let c = strand.ex_clause in
         let t = x.0.standing.own in
-        let k = x.0.standing.is-made in
+        let k = x.0.standing.is_made in
         guard (not (is_empty c.subgoals)) 25 tt (λ b.
-        asserted (not (is_empty c.floundered-subgoals) && not c.ambiguous) 0 (nothing_left (not-false (is_empty c.subgoals) b))
+        asserted (not (is_empty c.floundered_subgoals) && not c.ambiguous) 0 (nothing_left (not-false (is_empty c.subgoals) b))
         (by_bool (is_outsized c.subst)
         (λ q. known _ (change_is f e.table t mark_floundered k)
         (goes {a = (none, with_tables f (set f.tables e.table (mark_floundered t)))} marked))
         (λ q. known _ (table_is f e.table t k)
         (after (pushes (table_sound x.0.forest e.table k) x.0.standing.unfloundered (held f) (record {
           variant = c.subst.variant;
-          delayed_subgoals = other_than t.table_goal c.delayed-subgoals;
+          delayed_subgoals = other_than t.table_goal c.delayed_subgoals;
           ambiguous = c.ambiguous;
         }) (
           other-goals t.table_goal y.delayed_named,
-          (let o = y.few_delayed in let p = length_other_than t.table_goal c.delayed-subgoals in omega arith),
+          (let o = y.few_delayed in let p = length_other_than t.table_goal c.delayed_subgoals in omega arith),
         )) (λ r p. by_option r.0
         (λ w. goes {a = (none, f)} unchanged)
         (λ i w.
@@ -193,7 +193,7 @@ module _ (n root index first : ℕ) (f : Forest) (e : StackEntry) (es : Stack) (
         let t' : Table = elim (not c.ambiguous && is_trivial c.subst.variant) [ true ↦ take_strands r.1 | false ↦ r.1 ] in
         let l = case_bool (Longer n f.tables (record {
           variant = c.subst.variant;
-          delayed_subgoals = other_than t.table_goal c.delayed-subgoals;
+          delayed_subgoals = other_than t.table_goal c.delayed_subgoals;
           ambiguous = c.ambiguous;
         }) t) (not c.ambiguous && is_trivial c.subst.variant) (λ v. emptied z.2) (λ v. z.2) in
         known _ (change_is f e.table t (λ _. t') k)

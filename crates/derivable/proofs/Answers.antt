@@ -92,7 +92,7 @@ module _ {book : Book} {P : List ℕ → ℕ → Strand → Type 0} {Q : ℕ →
     pub pops-taking : (es : Stack) → All Entry es → Fine Pops (pop_and_take_caller_strand es)
     pops-taking [] end = goes {a = no_caller} tt
     pops-taking (e ∷ []) x = goes {a = no_caller} tt
-    pops-taking (e ∷ c ∷ es) (more x (more y ys)) = unwrapping c.active-strand (λ s q. goes {a = caller s (with_active c none ∷ es)} (
+    pops-taking (e ∷ c ∷ es) (more x (more y ys)) = unwrapping c.active_strand (λ s q. goes {a = caller s (with_active c none ∷ es)} (
       with_active c none,
       es,
       refl,
@@ -104,7 +104,7 @@ module _ {book : Book} {P : List ℕ → ℕ → Strand → Type 0} {Q : ℕ →
     pub pops-borrowing : (es : Stack) → All Entry es → Fine Pops (pop_and_borrow_caller_strand es)
     pops-borrowing [] end = goes {a = no_caller} tt
     pops-borrowing (e ∷ []) x = goes {a = no_caller} tt
-    pops-borrowing (e ∷ c ∷ es) (more x (more y ys)) = unwrapping c.active-strand (λ s q. goes {a = caller s (c ∷ es)} (
+    pops-borrowing (e ∷ c ∷ es) (more x (more y ys)) = unwrapping c.active_strand (λ s q. goes {a = caller s (c ∷ es)} (
       c,
       es,
       refl,

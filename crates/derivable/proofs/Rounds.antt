@@ -102,6 +102,7 @@ rounds_sound book n goal variant m = each_at (DerivablePair book) (after n book)
 module _ (d : Pairs) where
   clause_there : (goal : ℕ) (c : Clause) → clause_derived d c ≡ true → (cs : List Clause) → Memᴰ c cs
       → Has (clauses_derived d goal cs) goal c.variant
+  clause_there goal c e [] m = elim m [ ]
   clause_there goal c e (k ∷ cs) (Memᴰ.head q) =
       subst (λ (b : Bool). Has (elim b [ true ↦ (goal, k.variant) ∷ clauses_derived d goal cs | false ↦ clauses_derived d goal cs ]) goal
       c.variant)

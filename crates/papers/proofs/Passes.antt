@@ -22,7 +22,7 @@ pub clause_inside : (book : Book) (g : ℕ) (c : Clause) → Memᴰ c (clauses_o
 clause_inside book g c m = on (get_elem? book g) refl m
   where
     on : (o : Option Goal) → get_elem? book g ≡ o → Memᴰ c (elim o [ none ↦ [] | some h ↦ h.clauses ]) → g < length book
-    on none e x = absurd (Memᴰ.not_nil x)
+    on none e x = absurd (Memᴰ.not-nil x)
     on (some h) e x = place_under book g h e
 
 -- The larger of two.
@@ -64,7 +64,7 @@ asks ls (Negative g o) = omega arith
 
 module _ (ls : List ℕ) where
   pub literal_asks_less : (rest : List Literal) (l : Literal) → Memᴰ l rest → literal_asks ls l ≤ literals_ask ls rest
-  literal_asks_less [] l m = absurd (Memᴰ.not_nil m)
+  literal_asks_less [] l m = absurd (Memᴰ.not-nil m)
   literal_asks_less (y ∷ xs) l (Memᴰ.head e) =
       let x = larger_left (literal_asks ls y) (literals_ask ls xs) in
       let z = ap (literal_asks ls) e in
@@ -75,7 +75,7 @@ module _ (ls : List ℕ) where
       omega arith
 
   pub clause_asks_less : (cs : List Clause) (c : Clause) → Memᴰ c cs → literals_ask ls c.literals ≤ clauses_ask ls cs
-  clause_asks_less [] c m = absurd (Memᴰ.not_nil m)
+  clause_asks_less [] c m = absurd (Memᴰ.not-nil m)
   clause_asks_less (y ∷ xs) c (Memᴰ.head e) =
       let x = larger_left (literals_ask ls y.literals) (clauses_ask ls xs) in
       let z = ap (λ (d : Clause). literals_ask ls d.literals) e in

@@ -70,7 +70,7 @@ pub first_levelled : Levelled first_book first_level
 first_levelled zero c m = only_clause 1 (rule 0 (pos 1 ∷ neg 2 ∷ [])) c (omega arith, (omega arith, tt)) m
 first_levelled (suc zero) c m = only_clause 0 (fact 0) c tt m
 first_levelled (suc (suc zero)) c m = only_clause 0 (one_rule (pos 2)) c (omega arith, tt) m
-first_levelled (suc (suc (suc g))) c m = absurd (Memᴰ.not_nil m)
+first_levelled (suc (suc (suc g))) c m = absurd (Memᴰ.not-nil m)
 
 -- opened, cut, searched again, peeked at; then goal 2, and calls with bad arguments
 abbrev pub first_calls : List Call

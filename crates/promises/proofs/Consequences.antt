@@ -100,7 +100,7 @@ levelled (suc (suc zero)) c m = one_clause 0 (record {
   outsized = false;
   literals = Positive 2 any false ∷ [];
 }) c (omega arith, tt) m
-levelled (suc (suc (suc g))) c m = absurd (Memᴰ.not_nil m)
+levelled (suc (suc (suc g))) c m = absurd (Memᴰ.not-nil m)
 
 -- open goal 0, whose table is number 0; peek there; open goal 2, whose table is number 1; peek there
 abbrev asked : List Call

@@ -68,7 +68,7 @@ module _ (f : Forest) (e : StackEntry) (t : Table) (k : get_elem? f.tables e.tab
       → Goes (answered a (state f e es)) (on_answer (state f e es) e.table i)
   answers_at [] a i q = goes_after _ (known (table_is f e.table t k))
       (goes_after _ (known (unwraps (answer t i) a q)) (refines (create_refinement_strand a)))
-  answers_at (c ∷ es) a i q = on c.active-strand
+  answers_at (c ∷ es) a i q = on c.active_strand
     where
       on : (o : Option Strand) → Goes (continue (state f (with_active c o) es))
           ((unwrap o >>= λ x. go (caller x (with_active c none ∷ es))) >>= λ popped. elim popped [

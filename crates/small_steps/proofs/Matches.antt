@@ -46,7 +46,7 @@ module _ {A C D : Type 0} {Q : C → D → Type 0} where
   after_same (go a) h = h a
 
   -- a step of the turn that was not decided upon
-  pub sure : {r : Stops A} {a : A} (k : A → Stops C) {d : Stops D} → Goes a r → Matches Q (k a) d → Matches Q (r >>= k) d
+  pub sure : {a : A} {r : Stops A} (k : A → Stops C) {d : Stops D} → Goes a r → Matches Q (k a) d → Matches Q (r >>= k) d
   sure k asserting h = asserts
   sure k going h = h
 

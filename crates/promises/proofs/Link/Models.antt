@@ -32,7 +32,7 @@ mem_bodies cs c (Memᴰ.head e) = Memᴰ.head (ap (λ (z : Clause). body_of z.li
 mem_bodies cs c (Memᴰ.tail {xs = xs} m) = Memᴰ.tail (mem_bodies xs c m)
 
 bodies_mem : (cs : List Clause) (b : Body) → Memᴰ b (bodies cs) → (c : Clause) × Memᴰ c cs × (b ≡ body_of c.literals)
-bodies_mem [] b m = absurd (Memᴰ.not_nil m)
+bodies_mem [] b m = absurd (Memᴰ.not-nil m)
 bodies_mem (c ∷ cs) b m = either (λ e. (c, Memᴰ.head refl, e)) (λ x. let r = bodies_mem cs b x in (r.0, Memᴰ.tail r.1, r.2))
     (Memᴰ.cases_cons m)
 
@@ -44,7 +44,7 @@ pub plain_clause : (book : Book) → PlainAt book → (g : ℕ) (c : Clause) →
 plain_clause book plain g c m = go (get_elem? book g) refl m
   where
     go : (o : Option Goal) → get_elem? book g ≡ o → Memᴰ c (elim o [ none ↦ [] | some G ↦ G.clauses ]) → PlainClause c
-    go none e x = absurd (Memᴰ.not_nil x)
+    go none e x = absurd (Memᴰ.not-nil x)
     go (some G) e x = each_at PlainClause G.clauses (plain g G e).clauses_plain c x
 
 -- Levels.

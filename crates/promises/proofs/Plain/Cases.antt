@@ -208,8 +208,8 @@ module _ (S : Setting) (ans : ℕ → Bool) (q : Queues) (k : ℕ) (e : Entry) (
             pending = n;
             timed = λ x y. let z = inv.fine.timely (literal_goal l) x (inl y) in omega arith;
             parked = λ x y z. absurd (let o = inv.fine.timely (literal_goal l) x (inl y) in omega arith);
-            open_others = λ u m. absurd (Memᴰ.not_nil m);
-            others = λ u m. absurd (Memᴰ.not_nil m);
+            open_others = λ u m. absurd (Memᴰ.not-nil m);
+            others = λ u m. absurd (Memᴰ.not-nil m);
             low = λ o. absurd (omega arith);
             plain = refl;
             new = λ o. not_on (literal_goal l) (e ∷ es) at o;

@@ -44,7 +44,7 @@ module _ (S : Setting) (U : ℕ → Type 0) (out : (u : ℕ) → U u → S.I u �
   -- a queue of U is emptied
   pub less_put : (q : Queues) (u : ℕ) → ((s : Strand) → Memᴰ s (q u) → Stuck U s) → Less S q (put q u [])
   less_put q u stuck = record {
-    less = λ v t m. either (λ p. absurd (Memᴰ.not_nil p.1)) (λ p. p.1) (at_put q u v [] t (ℕ_discrete u v) m);
+    less = λ v t m. either (λ p. absurd (Memᴰ.not-nil p.1)) (λ p. p.1) (at_put q u v [] t (ℕ_discrete u v) m);
     most = λ v t m. most v t (ℕ_discrete u v) m;
     size = λ v. size v (ℕ_discrete u v);
   }

@@ -133,8 +133,8 @@ hit_false I U (pos h) f = inl f
 hit_false I U (neg h) f = f
 
 blocked_nil : {I U : ℕ → Type 0} → Blocked I U [] → ⊥
-blocked_nil (inl (l, m, f)) = Memᴰ.not_nil m
-blocked_nil (inr (h, m, u)) = Memᴰ.not_nil m
+blocked_nil (inl (l, m, f)) = Memᴰ.not-nil m
+blocked_nil (inr (h, m, u)) = Memᴰ.not-nil m
 
 blocked_cons : {I U : ℕ → Type 0} {l : Lit} {b : Body} → Blocked I U (l ∷ b) → HitLit I U l ⊎ Blocked I U b
 blocked_cons {I} {U} (inl (l, Memᴰ.head e, f)) = inl (subst (HitLit I U) e (hit_false I U l f))

@@ -46,7 +46,7 @@ fine_answered S ans q k e es fine true-goal off = record {
 }
   where
     less : (u : ℕ) (t : Strand) → Holds (put q e.goal []) es u t → Holds q (e ∷ es) u t
-    less u t (inl m) = either (λ p. absurd (Memᴰ.not_nil p.1)) (λ p. inl p.1)
+    less u t (inl m) = either (λ p. absurd (Memᴰ.not-nil p.1)) (λ p. inl p.1)
         (at_put q e.goal u [] t (ℕ_discrete e.goal u) m)
     less u t (inr x) = inr (inr x)
 
@@ -55,7 +55,7 @@ fine_answered S ans q k e es fine true-goal off = record {
     proved g (no n) a = fine.proved g a
 
     quiet : (g : ℕ) (d : Dec (e.goal ≡ g)) → pick d true (ans g) ≡ true → (s : Strand) → Memᴰ s (pick d [] (q g)) ⊎ Act es g s → ⊥
-    quiet g (yes p) a s (inl m) = Memᴰ.not_nil m
+    quiet g (yes p) a s (inl m) = Memᴰ.not-nil m
     quiet g (yes p) a s (inr x) = off (subst (λ u. On u es) (sym p) (act_on es g s x))
     quiet g (no n) a s h = fine.quiet g a s (either inl (λ x. inr (inr x)) h)
 
@@ -85,7 +85,7 @@ module _ (S : Setting) (ans : ℕ → Bool) (q : Queues) (k : ℕ) (e : Entry) (
   case_unproved a p = nothing_left S e.goal inv.fine top_pending no_strand
     where
       no_strand : (s : Strand) → Holds q (e ∷ es) e.goal s → ⊥
-      no_strand s (inl m) = Memᴰ.not_nil (subst (Memᴰ s) p m)
+      no_strand s (inl m) = Memᴰ.not-nil (subst (Memᴰ s) p m)
       no_strand s (inr (inl (x, o))) = no_such (sym a ∙ o)
       no_strand s (inr (inr x)) = top_off (act_on es e.goal s x)
 
@@ -120,7 +120,7 @@ module _ (S : Setting) (ans : ℕ → Bool) (q : Queues) (k : ℕ) (e c : Entry)
       }
     where
       less : (u : ℕ) (t : Strand) → Holds (put q e.goal []) (c ∷ es) u t → Holds q (e ∷ c ∷ es) u t
-      less u t (inl m) = either (λ p. absurd (Memᴰ.not_nil p.1)) (λ p. inl p.1)
+      less u t (inl m) = either (λ p. absurd (Memᴰ.not-nil p.1)) (λ p. inl p.1)
           (at_put q e.goal u [] t (ℕ_discrete e.goal u) m)
       less u t (inr x) = inr (inr x)
 

@@ -49,7 +49,7 @@ taken c pre (x ∷ xs) s r p = go (dec_lt x.time c) p (taken c (pre ++ (x ∷ []
     go (no o) e k = taken_later pre xs x s r (k e)
 
 pub none_taken : (c : ℕ) (pre q : List Strand) → take_from c pre q ≡ none → (t : Strand) → Memᴰ t q → t.time < c → ⊥
-none_taken c pre [] p t m o = Memᴰ.not_nil m
+none_taken c pre [] p t m o = Memᴰ.not-nil m
 none_taken c pre (x ∷ xs) p t m o = go (dec_lt x.time c) p (none_taken c (pre ++ (x ∷ [])) xs) (Memᴰ.cases_cons m)
   where
     go : (d : Dec (x.time < c)) → take_at d x (xs ++ pre) (take_from c (pre ++ (x ∷ [])) xs) ≡ none

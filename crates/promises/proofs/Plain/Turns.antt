@@ -377,7 +377,7 @@ module _ (S : Setting) (B L : ℕ → ℕ) where
       let w = pursue_ok S B L s.lits (with_queue f (all_back f.queue (e ∷ es))) (with_queue f (put f.queue e.goal r))
       (entry_with e (some s)) es s
       (case_take S f.answered f.queue f.clock e es inv s r a
-      (λ t m. either (λ y. absurd (Memᴰ.not_nil y)) (λ y. y) (k.less t m)) k.mem k.most) refl refl
+      (λ t m. either (λ y. absurd (Memᴰ.not-nil y)) (λ y. y) (k.less t m)) k.mem k.most) refl refl
       (λ u. let x = few u in let y = put_length f.queue e.goal u r (let z = k.number in omega arith) in omega arith)
       (back_ok f e es inv) (λ u. let x = few u in let y = back_length f.queue (e ∷ es) u in omega arith) in
       subst (λ z. TurnOK S z B L (taking S.limits (some (s, r)) f e es))

@@ -110,8 +110,8 @@ begin_inv S f g rest n lt =
           pending = n;
           timed = λ x y. let z = rest.fine.timely g x (inl y) in omega arith;
           parked = λ x y z. absurd (let o = rest.fine.timely g x (inl y) in omega arith);
-          open_others = λ u m. absurd (Memᴰ.not_nil m);
-          others = λ u m. absurd (Memᴰ.not_nil m);
+          open_others = λ u m. absurd (Memᴰ.not-nil m);
+          others = λ u m. absurd (Memᴰ.not-nil m);
           low = λ o. absurd (omega arith);
           plain = refl;
           new = λ o. o;
