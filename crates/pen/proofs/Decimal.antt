@@ -1,26 +1,8 @@
--- The fewest digits that hold a number, as `io` spells them, are its decimal digits as the definitions have them.
--- Assumes nothing.
-use Prim.Native.Nat.{ℕ, zero, suc, ◌+◌, ◌-◌, ◌/◌, ◌%◌, ◌^◌, ◌<◌, ◌≤◌}
-use native.Mathlib.Omega.{arith}
-use native.Mathlib.Nat.{pow-suc, pow-le-pow_right}
-use mathlib.Core.Path.{◌≡◌, refl, sym, ap, ◌∙◌, subst}
-use mathlib.Core.List.{List, [], ◌∷◌, ◌++◌, append_assoc, append-nil}
-use borrow.Author.Tests.{lt-ltb}
-use Rattle.io.specs.Digits.{hex_digit_ascii, IsDigitCount}
-use Rattle.io.specs.Digits.{last_digits as spelt}
-use Rattle.definitions.specs.Text.{digits, decimal, in_column, at_right}
-use Rattle.pen.specs.Pen.{Pen, put_all}
-
-glyph_digit : (d : ℕ) → d < 10 → hex_digit_ascii d ≡ 48 + d
-glyph_digit d h = rw (lt-ltb d 10 h)
-
-some_power : (k : ℕ) → 1 ≤ 10 ^ k
-some_power k = pow-le-pow_right {n = 10} (omega arith) {i = 0} {j = k} (omega arith)
-
--- a last digit, with what stands before it in hand
-last_digit : (k n : ℕ) (after : List ℕ) → spelt 10 k (n / 10) ++ ((48 + n % 10) ∷ after) ≡ spelt 10 (suc k) n ++ after
-last_digit k n after =
-    rw (glyph_digit (n % 10) (omega arith), append_assoc (spelt 10 k (n / 10)) ((48 + n % 10) ∷ []) after)
+-- The decimal digits of a number, written from the last to the first. Assumes nothing.
+use Rattle.std.proofs.Common.{ℕ, zero, suc, ◌+◌, ◌-◌, ◌*◌, ◌/◌, ◌%◌, ◌^◌, ◌<◌, ◌≤◌, ◌≡◌, refl, sym, ap, ◌∙◌, List, [], ◌∷◌, length, drop, set, arith}
+use Rattle.std.proofs.Math.Nat.{pow-suc}
+use Rattle.std.proofs.lemmas.List.{drop-set}
+use Rattle.definitions.specs.Text.{digits, decimal}
 
 -- the digits of a number, by whether it has more than one
 one_digit : (f n t : ℕ) (after : List ℕ) → n / 10 ≡ t → t ≡ 0 → digits (suc f) n after ≡ (48 + n % 10) ∷ after
@@ -31,31 +13,64 @@ more_digits : (f n t : ℕ) (after : List ℕ) → n / 10 ≡ t → 0 < t → di
 more_digits f n zero after e h = absurd (omega arith)
 more_digits f n (suc t) after e h = rw (e, digits)
 
-digits_spelt : (k n f : ℕ) (after : List ℕ) → n < 10 ^ suc k → (0 < k → 10 ^ k ≤ n) → n < f → digits f n after ≡ spelt 10 (suc k) n ++ after
-digits_spelt k n zero after top low h = absurd (omega arith)
-digits_spelt zero n (suc f) after top low h =
-    one_digit f n (n / 10) after refl (omega (arith, pow-suc 10 0)) ∙ last_digit 0 n after
-digits_spelt (suc k) n (suc f) after top low h =
-    let least : 10 ^ suc k ≤ n = low (omega arith) in
-    let ten : 10 ≤ n = omega (arith, pow-suc 10 k, some_power k) in
-    more_digits f n (n / 10) after refl (omega arith)
-    ∙ digits_spelt k (n / 10) f ((48 + n % 10) ∷ after) (omega (arith, pow-suc 10 (suc k))) (λ p. omega (arith, pow-suc 10 k)) (omega arith)
-    ∙ last_digit (suc k) n after
+-- any bound above the number gives the same digits
+same_digits : (f g n t : ℕ) (after : List ℕ) → n / 10 ≡ t → n < f → n < g → digits f n after ≡ digits g n after
+same_digits zero g n t after e h k = absurd (omega arith)
+same_digits (suc f) zero n t after e h k = absurd (omega arith)
+same_digits (suc f) (suc g) n zero after e h k = one_digit f n zero after e refl ∙ sym (one_digit g n zero after e refl)
+same_digits (suc f) (suc g) n (suc t) after e h k =
+    more_digits f n (suc t) after e (omega arith)
+    ∙ same_digits f g (n / 10) (n / 10 / 10) ((48 + n % 10) ∷ after) refl (omega arith) (omega arith)
+    ∙ sym (more_digits g n (suc t) after e (omega arith))
 
-less_one : (k : ℕ) → suc k - 1 ≡ k
-less_one k = omega arith
+-- what is left of the number, before the digits that are written
+pub left_digits : ℕ → List ℕ → List ℕ
+left_digits n after = digits (suc n) n after
 
-fewest_decimal : (n r : ℕ) → IsDigitCount 10 1 n r → spelt 10 r n ≡ decimal n
-fewest_decimal n zero f = absurd (omega arith)
-fewest_decimal n (suc k) f =
-    sym (digits_spelt k n (suc n) [] f.1 (λ h. subst (λ (m : ℕ). 10 ^ m ≤ n) (less_one k) (f.2 (omega arith))) (omega arith)
-    ∙ append-nil (spelt 10 (suc k) n))
+pub left_first : (n : ℕ) → left_digits n [] ≡ decimal n
+unfolding left_digits
+left_first n = refl
 
-pub put_number : (n r : ℕ) (text : List ℕ) (p q : Pen) → IsDigitCount 10 1 n r → text ≡ spelt 10 r n → q ≡ put_all text p
-    → q ≡ put_all (decimal n) p
-put_number n r text p q f e g = g ∙ ap (λ (l : List ℕ). put_all l p) (e ∙ fewest_decimal n r f)
+pub left_last : (n : ℕ) (after : List ℕ) → n < 10 → left_digits n after ≡ (48 + n) ∷ after
+unfolding left_digits
+left_last n after h =
+    let e : n % 10 ≡ n = omega arith in
+    one_digit n n (n / 10) after refl (omega arith) ∙ ap (λ (d : ℕ). (48 + d) ∷ after) e
 
--- the same in a column
-pub put_number_right : (width n r : ℕ) (text : List ℕ) (p q : Pen) → IsDigitCount 10 1 n r → text ≡ spelt 10 r n
-    → q ≡ put_all (in_column at_right width text) p → q ≡ put_all (in_column at_right width (decimal n)) p
-put_number_right width n r text p q f e g = g ∙ ap (λ (l : List ℕ). put_all (in_column at_right width l) p) (e ∙ fewest_decimal n r f)
+left_next : (n : ℕ) (after : List ℕ) → 10 ≤ n → left_digits n after ≡ left_digits (n / 10) ((48 + n % 10) ∷ after)
+unfolding left_digits
+left_next n after h =
+    more_digits n n (n / 10) after refl (omega arith)
+    ∙ same_digits n (suc (n / 10)) (n / 10) (n / 10 / 10) ((48 + n % 10) ∷ after) refl (omega arith) (omega arith)
+
+-- a digit written at a place
+pub left_step : (n at d : ℕ) (out : List ℕ) (whole : List ℕ) → 10 ≤ n → 0 < at → at < length out → d ≡ 48 + n % 10
+    → left_digits n (drop (at + 1) out) ≡ whole
+    → left_digits (n / 10) (drop (at - 1 + 1) (set out at d)) ≡ whole
+left_step n at d out whole h some room f e =
+    let z : at - 1 + 1 ≡ at = omega arith in
+    ap (λ (k : ℕ). left_digits (n / 10) (drop k (set out at d))) z
+    ∙ ap (left_digits (n / 10)) (drop-set out at d room)
+    ∙ ap (λ (x : ℕ). left_digits (n / 10) (x ∷ drop (at + 1) out)) f
+    ∙ sym (left_next n (drop (at + 1) out) h)
+    ∙ e
+
+pub left_done : (n at d : ℕ) (out : List ℕ) (whole : List ℕ) → n < 10 → at < length out → d ≡ 48 + n
+    → left_digits n (drop (at + 1) out) ≡ whole
+    → drop at (set out at d) ≡ whole
+left_done n at d out whole h room f e =
+    drop-set out at d room
+    ∙ ap (λ (x : ℕ). x ∷ drop (at + 1) out) f
+    ∙ sym (left_last n (drop (at + 1) out) h)
+    ∙ e
+
+-- while more than one digit is left, there is more than one place
+pub places_left : (n at : ℕ) → n < 10 ^ (at + 1) → 10 ≤ n → 0 < at
+places_left n zero h k = absurd (omega arith)
+places_left n (suc at) h k = omega arith
+
+pub tenth_fits : (n at : ℕ) → n < 10 ^ (at + 1) → 0 < at → n / 10 < 10 ^ (at - 1 + 1)
+tenth_fits n at h some =
+    let z : at - 1 + 1 ≡ at = omega arith in
+    let e : 10 ^ (at + 1) ≡ 10 ^ at * 10 = ap (λ (k : ℕ). 10 ^ k) (omega arith) ∙ pow-suc 10 at in
+    rw z (omega arith)

@@ -10,54 +10,64 @@
 #![tactic(auto)]
 
 pub mod columns;
+mod digits;
 pub mod refusals;
 
 ghost use Rattle.std.specs.Prelude.{◌≡◌, false, ◌++◌, ◌<◌, length};
 ghost use Rattle.definitions.specs.Text.{decimal as decimalOf};
 ghost use Rattle.pen.specs.Pen.{pen, put, put_all};
 
-// To a file by its number: 1 is standard output, 2 standard error. Answers whether all that is in use was written.
-fn send(file: i32, out: &[u8], at: usize) -> bool
+use digits::decimal;
+use std::io::{Stderr, Stdout};
+
+// The streams that a program writes to, of those that `main` is given.
+#[derive(Clone, Copy)]
+pub struct Streams {
+    pub output: Stdout,
+    pub errors: Stderr,
+}
+
+// Answers whether all that is in use was written.
+fn send(to: &impl Print, out: &[u8], at: usize) -> bool
     ensures { length out.now < at → result ≡ false }
 {
     if at <= out.len() {
-        return io::write_all(file, &out[..at]);
+        return to.write_all(&out[..at]).is_ok();
     }
     false
 }
 
-// Answers whether all that is in use was written.
-pub fn flush(out: &[u8], at: usize) -> bool
+// To standard output. Answers whether all that is in use was written.
+pub fn flush(to: Streams, out: &[u8], at: usize) -> bool
     ensures { length out.now < at → result ≡ false }
 {
-    send(1, out, at)
+    send(&to.output, out, at)
 }
 
 // The same to standard error.
-pub fn tell(out: &[u8], at: usize) -> bool
+pub fn tell(to: Streams, out: &[u8], at: usize) -> bool
     ensures { length out.now < at → result ≡ false }
 {
-    send(2, out, at)
+    send(&to.errors, out, at)
 }
 
 // A full buffer is written out, and where that fails, it is told.
-fn leave(out: &[u8], at: usize) {
-    if !flush(out, at) {
-        io::write_all(
-            2,
+fn leave(to: Streams, out: &[u8], at: usize) {
+    if !flush(to, out, at) {
+        let _ = to.errors.write_all(
             b"standard output can't be written: what is printed is not whole\n",
         );
     }
 }
 
-pub fn byte(out: &mut [u8], at: usize, b: u8) -> usize
+pub fn byte(to: Streams, out: &mut [u8], at: usize, b: u8) -> usize
     ensures { pen out.new result ≡ put b (pen out.old at) }
 {
     if at < out.len() {
         out[at] = b;
         return at + 1;
     }
-    leave(out, at);
+    leave(to, out, at);
     if 0 < out.len() {
         out[0] = b;
         return 1;
@@ -65,31 +75,31 @@ pub fn byte(out: &mut [u8], at: usize, b: u8) -> usize
     0
 }
 
-pub fn text(out: &mut [u8], at: usize, bytes: &[u8]) -> usize
+pub fn text(to: Streams, out: &mut [u8], at: usize, bytes: &[u8]) -> usize
     ensures { pen out.new result ≡ put_all bytes.now (pen out.old at) }
 {
     let mut used = at;
     let mut i = 0;
     while i < bytes.len() {
-        used = byte(out, used, bytes[i]);
+        used = byte(to, out, used, bytes[i]);
         i += 1;
     }
     used
 }
 
 // A number in decimal.
-pub fn number(out: &mut [u8], at: usize, n: u64) -> usize
+pub fn number(to: Streams, out: &mut [u8], at: usize, n: u64) -> usize
     ensures { pen out.new result ≡ put_all (decimalOf n) (pen out.old at) }
 {
     let mut digits = [0u8; 20];
-    let k = io::decimal(n, &mut digits);
-    text(out, at, &digits[..k])
+    let first = decimal(n, &mut digits);
+    text(to, out, at, &digits[first..])
 }
 
 // A word, and the number behind it.
-pub fn counted(out: &mut [u8], at: usize, word: &[u8], n: u64) -> usize
+pub fn counted(to: Streams, out: &mut [u8], at: usize, word: &[u8], n: u64) -> usize
     ensures { pen out.new result ≡ put_all (word.now ++ decimalOf n) (pen out.old at) }
 {
-    let worded = text(out, at, word);
-    number(out, worded, n)
+    let worded = text(to, out, at, word);
+    number(to, out, worded, n)
 }

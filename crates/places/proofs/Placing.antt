@@ -2,8 +2,8 @@
 use Prim.Native.Nat.{ℕ, zero, suc}
 use mathlib.Core.Bool.{Bool, true, false}
 use mathlib.Core.Path.{◌≡◌, refl, sym, ap, ◌∙◌}
-use mathlib.Core.Option.{Option, none, some}
-use mathlib.Core.List.{List, ◌++◌}
+use mathlib.Core.Option.{Option, some}
+use mathlib.Core.List.{◌++◌}
 use Rattle.definitions.specs.Text.{ascii, decimal}
 use Rattle.papers.specs.NotPlain.{Fault, a_flag, a_variant, a_want, a_range, placed, place_in, fault_of, place_of}
 use Rattle.pen.specs.Pen.{Pen, put_all}

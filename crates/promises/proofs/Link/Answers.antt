@@ -9,7 +9,7 @@ use mathlib.Core.List.{List, [], ◌∷◌}
 use lib.ListN.{length, get_elem?, set}
 use Rattle.definitions.specs.{is_complete}
 use Rattle.definitions.specs.Book.{Book}
-use Rattle.definitions.specs.Stop.{go}
+use Rattle.definitions.specs.Stop.{go, ◌>>=◌}
 use Rattle.definitions.specs.Lists.{total}
 use Rattle.definitions.specs.Strand.{Strand}
 use Rattle.definitions.specs.Tables.{Tables, Forest}
@@ -70,7 +70,7 @@ module _ (book : Book) (limit : ℕ) (few_goals : length book ≤ 64) {gs : List
       let t = table_here agree i g at in
       let e : get_elem? ts i ≡ some (table_of g false (p.first g) t.waiting) =
       t.is ∙ ap (λ z. some (table_of g z (p.first g) t.waiting)) no-g in
-      rw e (rw (and-false (is_complete (mode_of (p.first g))))
+      rw e (rw (and-false (is_complete (mode_of (p.first g))), ◌>>=◌)
       (rw (pursue_is book limit 0 p.clock ts i g (p.first g) t.waiting a c e few_answers)
       (rw (set_here ts i (table_of g false (p.first g) t.waiting) (table_of g true (p.first g) []) e)
       (answered (λ i h o. o) (answer-agree agree i g at) (put_here p.answered g g true refl)))))
@@ -79,7 +79,7 @@ module _ (book : Book) (limit : ℕ) (few_goals : length book ≤ 64) {gs : List
       let t = table_here agree i g at in
       let e : get_elem? ts i ≡ some (table_of g false (p.first g) t.waiting) =
       t.is ∙ ap (λ z. some (table_of g z (p.first g) t.waiting)) no-g in
-      rw e (rw (and-false (is_complete (mode_of (p.first g))))
+      rw e (rw (and-false (is_complete (mode_of (p.first g))), ◌>>=◌)
       (rw (pursue_is book limit 0 p.clock ts i g (p.first g) t.waiting a c e few_answers)
       (going (λ i h o. o) (answer-agree agree i g at) (s_more i' g' c' pm' nm' e' (an_active x) xs))))
 

@@ -13,7 +13,7 @@ use Rattle.definitions.specs.Book.{any, Book, Positive, Negative}
 use Rattle.definitions.specs.Strand.{Strand}
 use Rattle.definitions.specs.Tables.{Tables, Forest}
 use Rattle.definitions.specs.Stack.{Stack}
-use Rattle.definitions.specs.Stop.{go}
+use Rattle.definitions.specs.Stop.{go, ◌>>=◌}
 use Rattle.definitions.specs.Logic.{return_err, QuantumExceeded}
 use Rattle.definitions.specs.Turn.{on_no_strands, on_own_cycle, on_part_of_cycle, on_no_strands_left}
 use Rattle.definitions.proofs.Lists.{remove_push}
@@ -129,9 +129,9 @@ module _ (book : Book) (limit : ℕ) {gs : List ℕ} {ts : Tables} {p : M.Forest
       (mode_agree (s ∷ ss) x) in
       rw e (rw e (gave_up (λ i h o. o) b.is b.agree))
   waiting_is xs lined false s ss x e (yes o) (yes o') =
-      rw e (rw (le-leb c pm o) (rw (le-leb c nm o') (own_is xs lined (p.answered g) false (s ∷ ss) x e (ℕ_discrete nm MAX))))
-  waiting_is xs lined false s ss x e (yes o) (no n) = rw e (rw (le-leb c pm o) (rw (lt-leb c nm (omega arith)) (part_is xs lined)))
-  waiting_is xs lined false s ss x e (no n) d' = rw e (rw (lt-leb c pm (omega arith)) (part_is xs lined))
+      rw e (rw (le-leb c pm o, ◌>>=◌) (rw (le-leb c nm o') (own_is xs lined (p.answered g) false (s ∷ ss) x e (ℕ_discrete nm MAX))))
+  waiting_is xs lined false s ss x e (yes o) (no n) = rw e (rw (le-leb c pm o, ◌>>=◌) (rw (lt-leb c nm (omega arith)) (part_is xs lined)))
+  waiting_is xs lined false s ss x e (no n) d' = rw e (rw (lt-leb c pm (omega arith), ◌>>=◌) (part_is xs lined))
 
   idle_at : {ds : Stack} {es : List M.Entry} → StackIs (length book) gs ds es
       → Lined (limits_of book limit) (machine_entry g c pm nm none) es → (m : Bool) (ss : List Strand) (q : List M.Strand)

@@ -28,8 +28,9 @@ use Rattle.promises.proofs.Link.Making.{literals_back}
 -- Clauses and bodies.
 
 mem_bodies : (cs : List Clause) (c : Clause) → Memᴰ c cs → Memᴰ (body_of c.literals) (bodies cs)
-mem_bodies cs c (Memᴰ.head e) = Memᴰ.head (ap (λ (z : Clause). body_of z.literals) e)
-mem_bodies cs c (Memᴰ.tail {xs = xs} m) = Memᴰ.tail (mem_bodies xs c m)
+mem_bodies [] c m = elim m [ ]
+mem_bodies (x ∷ xs) c (Memᴰ.head e) = Memᴰ.head (ap (λ (z : Clause). body_of z.literals) e)
+mem_bodies (x ∷ xs) c (Memᴰ.tail m) = Memᴰ.tail (mem_bodies xs c m)
 
 bodies_mem : (cs : List Clause) (b : Body) → Memᴰ b (bodies cs) → (c : Clause) × Memᴰ c cs × (b ≡ body_of c.literals)
 bodies_mem [] b m = absurd (Memᴰ.not-nil m)

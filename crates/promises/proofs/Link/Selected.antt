@@ -39,13 +39,13 @@ module _ (book : Book) (limit : ℕ) (ts : Tables) (k i c pm nm : ℕ) (ds : Sta
   merge_positive : merge_answer_into_strand (state_of book limit ts k (entry_of i c pm nm none ∷ ds))
       (strand_of a (pos h ∷ b) (some (selection j b)) t) (selection j b) the_answer
       ≡ go (merged (strand_of (suc a) b none t) (state_of book limit ts k (entry_of i c pm nm none ∷ ds)))
-  merge_positive = rw here (rw (and-false (is_complete tb.answer_mode))
+  merge_positive = rw here (rw (and-false (is_complete tb.answer_mode), ◌>>=◌)
       (rw (last_one (literals b) (Positive h any false)) (rw (remove_push (literals b) (Positive h any false)))))
 
   merge_negative : merge_answer_into_strand (state_of book limit ts k (entry_of i c pm nm none ∷ ds))
       (strand_of a (neg h ∷ b) (some (selection j b)) t) (selection j b) the_answer
       ≡ (unwind_stack (state_of book limit ts k (entry_of i c pm nm none ∷ ds)) >>= λ u. go (failed u))
-  merge_negative = rw here (rw (and-false (is_complete tb.answer_mode)) (rw (last_one (literals b) (Negative h false))))
+  merge_negative = rw here (rw (and-false (is_complete tb.answer_mode), ◌>>=◌) (rw (last_one (literals b) (Negative h false))))
 
 -- no stretch of the stack is coinductive
 stretch : (book : Book) (limit mark c : ℕ) {gs : List ℕ} {ts : Tables} {p : M.Forest} → Agree book gs ts p
@@ -156,6 +156,8 @@ module _ (book : Book) (limit : ℕ) {gs : List ℕ} {ts : Tables} {p : M.Forest
       (strand_of a (l ∷ b) (some (selection j b)) c))
       (M.unanswered (limits_of book limit) k before p (machine_entry g c pm nm (some m)) es l b)
   unanswered_is l b w at_j no-h none none off no_cycle = pushed l b w at_j no-h off (dec_lt p.clock limit)
+  unanswered_is l b w at_j no-h none (some clock) off x = elim x [ ]
+  unanswered_is l b w at_j no-h (some depth) none on x = elim x [ ]
   unanswered_is l b w at_j no-h (some depth) (some clock) on (a_cycle {x = x} e k) =
       let u = table_here agree j (literal_goal l) at_j in
       let q : get_elem? ts j ≡ some (table_of (literal_goal l) false (p.first (literal_goal l)) u.waiting) =

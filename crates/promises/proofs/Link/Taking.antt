@@ -36,6 +36,8 @@ module _ {n : ℕ} {gs : List ℕ} where
   later : (pre xs : List Strand) (x : Strand) (o : Option ℕ) (r : Option (M.Strand × List M.Strand)) → TakeIs n gs (pre ++ (x ∷ [])) xs o r
       → TakeIs n gs pre (x ∷ xs) (elim o [ none ↦ none | some i ↦ some (suc i) ]) r
   later pre xs x none none take_none = take_none
+  later pre xs x none (some r) y = elim y [ ]
+  later pre xs x (some k) none y = elim y [ ]
   later pre xs x (some k) (some (q, r)) (take_some {s = s} {zs = zs} e y z) =
       take_some e y (subst (λ w. QueueIs n gs (zs ++ w) r) (append_assoc pre (x ∷ []) (take k xs)) z)
 

@@ -108,6 +108,8 @@ module _ (n : ℕ) (gs : List ℕ) (distinct : Distinct gs) (j u : ℕ) (named :
   cycle_next : (d : StackEntry) (ds : Stack) (o : Option ℕ) (k : Option ℕ) → eqb d.table j ≡ false → is_active j ds ≡ o → CycleIs ds o k
       → CycleIs (d ∷ ds) (is_active j (d ∷ ds)) k
   cycle_next d ds none none q e no_cycle = rw (e, is_active) (rw q no_cycle)
+  cycle_next d ds none (some c) q e x = elim x [ ]
+  cycle_next d ds (some depth) none q e x = elim x [ ]
   cycle_next d ds (some depth) (some c) q e (a_cycle x y) = rw (e, is_active) (a_cycle x y)
 
   pub cycle_is : {ds : Stack} {es : List M.Entry} → StackIs n gs ds es → Apart es → CycleIs ds (is_active j ds) (M.find_clock u es)

@@ -145,6 +145,8 @@ module _ {book : Book} (sound : Sound book) (limit : ℕ) {gs : List ℕ} {ts : 
       rw t.is (rw idle (idle_is book limit agree i g c pm nm at
       (M.with_queue p (M.all_back p.queue (machine_entry g c pm nm none ∷ es))) (root_of (machine_entry g c pm nm none) es) xs
       lined))
+  taking_turn none (some r) t e k x lined room = elim x [ ]
+  taking_turn (some n) none t e k x lined room = elim x [ ]
   taking_turn (some n) (some (q, r)) t e k (take_some {s = s} {zs = zs} d x y) lined room =
       let front = take_front (eligible c (mode_of (p.first g))) (table_of g (p.answered g) (p.first g) t.waiting) n s zs e d in
       let before = M.with_queue p (M.all_back p.queue (machine_entry g c pm nm none ∷ es)) in

@@ -19,10 +19,12 @@ use Rattle.promises.proofs.Plain.Stack.{reach_on, on_weaken, waits_map, settled_
 use Rattle.promises.proofs.Plain.Cases.{Inv, put_off, top_new, retop, pop_within, good_pop, neg_pos}
 
 pub act_on : (es : List Entry) (u : ℕ) (s : Strand) → Act es u s → On u es
+act_on [] u s p = elim p [ ]
 act_on (e ∷ es) u s (inl p) = inl p.0
 act_on (e ∷ es) u s (inr p) = inr (act_on es u s p)
 
 pub reach_raise : (level : ℕ → ℕ) (m n n' : ℕ) (es : List Entry) → n ≤ n' → Reach level m n es → Reach level m n' es
+reach_raise level m n n' [] o r = elim r [ ]
 reach_raise level m n n' (e ∷ es) o (inl (a, b)) = inl (a, omega arith)
 reach_raise level m n n' (e ∷ es) o (inr r) = inr (reach_raise level m n n' es o r)
 

@@ -121,6 +121,7 @@ levels_fall S ans q e (c ∷ es) good act (P, i, a, r) u (inr p) =
     omega arith
 
 pub reach_on : (level : ℕ → ℕ) (m n : ℕ) (es : List Entry) → Reach level m n es → (u : ℕ) × On u es × (level u ≤ n)
+reach_on level m n [] r = elim r [ ]
 reach_on level m n (e ∷ es) (inl (a, b)) = (e.goal, inl refl, b)
 reach_on level m n (e ∷ es) (inr r) = let x = reach_on level m n es r in (x.0, inr x.1, x.2)
 
@@ -152,6 +153,7 @@ found_below level n u e es c v lt p = go (ℕ_discrete e.goal u) p
     go (no o) x = found_reach level n u es c v x
 
 pub not_on : (u : ℕ) (es : List Entry) → find_clock u es ≡ none → On u es → ⊥
+not_on u [] p o = elim o [ ]
 not_on u (e ∷ es) p o = go (not_on u es) (ℕ_discrete e.goal u) p o
   where
     go : (find_clock u es ≡ none → On u es → ⊥) → (d : Dec (e.goal ≡ u)) → pick d (some e.clock) (find_clock u es) ≡ none
@@ -161,10 +163,12 @@ not_on u (e ∷ es) p o = go (not_on u es) (ℕ_discrete e.goal u) p o
     go r (no o) x (inr a) = r x a
 
 pub on_of : (m u : ℕ) (es : List Entry) → OnFrom m u es → On u es
+on_of m u [] p = elim p [ ]
 on_of m u (e ∷ es) (inl p) = inl p.0
 on_of m u (e ∷ es) (inr p) = inr (on_of m u es p)
 
 pub on_weaken : (m m' u : ℕ) (es : List Entry) → m' ≤ m → OnFrom m u es → OnFrom m' u es
+on_weaken m m' u [] o p = elim p [ ]
 on_weaken m m' u (e ∷ es) o (inl p) = inl (p.0, let x : m ≤ e.clock = p.1 in omega arith)
 on_weaken m m' u (e ∷ es) o (inr p) = inr (on_weaken m m' u es o p)
 
