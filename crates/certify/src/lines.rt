@@ -13,25 +13,26 @@ ghost use Rattle.certify.specs.Words.{certify_words};
 ghost use Rattle.certify.specs.Numbers.{reason_told, line_told};
 
 use paper_checks::spoilt;
-use pen::refusals;
+use pen::{Streams, refusals};
 use sizes::MOST_GOALS;
 
 // What a goal spoils by itself.
-fn reason(out: &mut [u8], at: usize, what: u8, clause: u8, literal: u8) -> usize
+fn reason(to: Streams, out: &mut [u8], at: usize, what: u8, clause: u8, literal: u8) -> usize
     ensures { pen out.new result ≡ put_all (reason_told what clause literal) (pen out.old at) }
 {
     if what == 1 {
-        return pen::text(out, at, b": coinductive");
+        return pen::text(to, out, at, b": coinductive");
     }
     if what == 2 {
-        let placed = pen::counted(out, at, b": a \"not\" in clause ", clause as u64);
-        return pen::counted(out, placed, b", literal ", literal as u64);
+        let placed = pen::counted(to, out, at, b": a \"not\" in clause ", clause as u64);
+        return pen::counted(to, out, placed, b", literal ", literal as u64);
     }
     at
 }
 
 // A goal, and the number of the goal that spoils it.
 fn goal_line(
+    to: Streams,
     out: &mut [u8],
     at: usize,
     what: &[u8; MOST_GOALS],
@@ -43,17 +44,18 @@ fn goal_line(
     ensures { pen out.new result
         ≡ put_all (line_told what.now clause.now literal.now goal by) (pen out.old at) }
 {
-    let named = pen::number(out, at, goal as u64);
+    let named = pen::number(to, out, at, goal as u64);
     let b = by as usize;
     if b >= 64 {
-        return pen::text(out, named, b" clean\n");
+        return pen::text(to, out, named, b" clean\n");
     }
-    let spoilt = pen::counted(out, named, b" spoilt by goal ", by as u64);
-    let told = reason(out, spoilt, what[b], clause[b], literal[b]);
-    pen::text(out, told, b"\n")
+    let spoilt = pen::counted(to, out, named, b" spoilt by goal ", by as u64);
+    let told = reason(to, out, spoilt, what[b], clause[b], literal[b]);
+    pen::text(to, out, told, b"\n")
 }
 
 fn goal_lines(
+    to: Streams,
     out: &mut [u8],
     at: usize,
     what: &[u8; MOST_GOALS],
@@ -68,24 +70,24 @@ fn goal_lines(
     let mut used = at;
     let mut g: usize = 0;
     while g < by.len() {
-        used = goal_line(out, used, what, clause, literal, g, by[g]);
+        used = goal_line(to, out, used, what, clause, literal, g, by[g]);
         g += 1;
     }
     used
 }
 
 // What is said of a byte string, put down from the start of the buffer on.
-pub(crate) fn say(out: &mut [u8], bytes: &[u8]) -> usize
+pub(crate) fn say(to: Streams, out: &mut [u8], bytes: &[u8]) -> usize
     ensures { pen out.new result ≡ put_all (certify_words (desk bytes.now)) (pen out.old 0) }
 {
     let s = spoilt::spoilers(bytes);
     if s.number != 0 {
-        return refusals::refusal(out, 0, s.number);
+        return refusals::refusal(to, out, 0, s.number);
     }
     let goals = s.goals;
     let by = s.by;
     let what = s.what;
     let clause = s.clause;
     let literal = s.literal;
-    goal_lines(out, 0, &what, &clause, &literal, &by[..goals])
+    goal_lines(to, out, 0, &what, &clause, &literal, &by[..goals])
 }

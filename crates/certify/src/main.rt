@@ -10,27 +10,32 @@
 mod lines;
 
 use intake::input;
+use pen::Streams;
 use sizes::READ_AHEAD;
 
 // What an input says is settled by its first 20,480 bytes (`desk_take`, in the proofs of `definitions`): what follows is not read. The
 // longest words are 3,520 bytes (proofs/Fits): 64 lines of at most 55. So they are all in the buffer when it is written, and whether they
 // could be written is known.
-fn answer(bytes: &[u8]) {
+fn answer(to: Streams, bytes: &[u8]) {
     let mut out = [0u8; 4096];
-    let used = lines::say(&mut out, bytes);
-    if !pen::flush(&out, used) {
-        io::write_all(2, b"certify: the lines can't be written\n");
+    let used = lines::say(to, &mut out, bytes);
+    if !pen::flush(to, &out, used) {
+        let _ = eprintln!(to.errors; "certify: the lines can't be written");
     }
 }
 
-fn main() {
+fn main(rt: HostRuntime) {
+    let to = Streams {
+        output: rt.stdout(),
+        errors: rt.stderr(),
+    };
     let mut bytes = [0u8; READ_AHEAD];
-    let got = input(&mut bytes);
+    let got = input(&mut rt.stdin(), &mut bytes);
     // Where the input can't be read, that is said, and nothing is taken for a book.
     if !got.whole {
-        io::write_all(2, b"certify: the input can't be read\n");
+        let _ = eprintln!(to.errors; "certify: the input can't be read");
         return;
     }
     let n = got.count;
-    answer(&bytes[..n]);
+    answer(to, &bytes[..n]);
 }

@@ -8,25 +8,31 @@ mod lines;
 ghost use Rattle.xsb_import.specs.Importing.{Sized};
 
 use intake::input;
+use pen::Streams;
 use xsb_import::{Imported, import};
 
 // The lines of a refusal have at most 121 bytes: all of them are in the buffer when it is written. A text that is refused has no byte of a
 // book.
-fn answer(r: Imported)
+fn answer(to: Streams, r: Imported)
     requires { Sized r }
 {
     let mut told = [0u8; 128];
-    let said = lines::say(&mut told, r);
-    pen::tell(&told, said);
+    let said = lines::say(to, &mut told, r);
+    pen::tell(to, &told, said);
     let bytes = r.bytes;
     let used = r.used;
-    if !io::write_all(1, &bytes[..used]) {
-        io::write_all(2, b"from_xsb: the book can't be written\n");
+    if to.output.write_all(&bytes[..used]).is_err() {
+        let _ = eprintln!(to.errors; "from_xsb: the book can't be written");
     }
 }
 
 // A proved loop has to end, and nothing says that the input does. So the loop counts its pieces down, from a number that no run uses up.
-fn main() {
+fn main(rt: HostRuntime) {
+    let to = Streams {
+        output: rt.stdout(),
+        errors: rt.stderr(),
+    };
+    let mut stdin = rt.stdin();
     let mut piece = [0u8; 65536];
     let mut reader = import::start();
     let mut left = u64::MAX;
@@ -34,7 +40,7 @@ fn main() {
     let mut whole = true;
     while left > 0 && more {
         left -= 1;
-        let got = input(&mut piece);
+        let got = input(&mut stdin, &mut piece);
         let n = got.count;
         reader = import::feed(reader, &piece[..n]);
         whole = got.whole;
@@ -43,8 +49,8 @@ fn main() {
     }
     // Where the input can't be read, that is said, and nothing is taken for a text.
     if !whole {
-        io::write_all(2, b"from_xsb: the input can't be read\n");
+        let _ = eprintln!(to.errors; "from_xsb: the input can't be read");
         return;
     }
-    answer(import::finish(reader));
+    answer(to, import::finish(reader));
 }

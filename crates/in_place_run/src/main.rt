@@ -11,6 +11,7 @@ use begun::{begun, rooted};
 use control::performed::Flow;
 use in_place::by_value::{cut, turn};
 use intake::input;
+use pen::Streams;
 use search::solve_state::Search;
 use sizes::READ_AHEAD;
 
@@ -39,8 +40,15 @@ fn next_step(flow: Flow, turns: u64) -> u8 {
     }
 }
 
-fn turned(out: &mut [u8], p: Progress, flow: Flow, depth: usize, clock: u64) -> Progress {
-    let at = words::turned(out, p.at, flow, depth, clock);
+fn turned(
+    to: Streams,
+    out: &mut [u8],
+    p: Progress,
+    flow: Flow,
+    depth: usize,
+    clock: u64,
+) -> Progress {
+    let at = words::turned(to, out, p.at, flow, depth, clock);
     let next = next_step(flow, p.turns);
     let turns = if p.turns > 0 { p.turns - 1 } else { 0 };
     Progress {
@@ -59,13 +67,13 @@ struct Again {
 }
 
 // After a cut a turn is asked for all the same, with nothing on the stack. Then the search is begun again, unless its table has floundered.
-fn put_back(out: &mut [u8], p: Progress, c: Search) -> Again {
-    let cut = words::cut(out, p.at, c.depth, c.clock);
+fn put_back(to: Streams, out: &mut [u8], p: Progress, c: Search) -> Again {
+    let cut = words::cut(to, out, p.at, c.depth, c.clock);
     let over = c.floundered[0] != 0;
     let t = turn(c);
     let flow = t.flow;
     let s = t.search;
-    let at = words::turned(out, cut, flow, s.depth, s.clock);
+    let at = words::turned(to, out, cut, flow, s.depth, s.clock);
     let search = rooted(s);
     let progress = Progress {
         at,
@@ -78,7 +86,7 @@ fn put_back(out: &mut [u8], p: Progress, c: Search) -> Again {
 
 // The first search of a book has so many turns at most. The search stays here. A proved loop has to end, and nothing says that searches
 // that are cut do: so many steps are taken.
-fn run(out: &mut [u8], at: usize, book: &[u8], turns: u64) -> usize {
+fn run(to: Streams, out: &mut [u8], at: usize, book: &[u8], turns: u64) -> usize {
     let mut s = rooted(begun(book));
     let mut p = Progress {
         at,
@@ -90,7 +98,7 @@ fn run(out: &mut [u8], at: usize, book: &[u8], turns: u64) -> usize {
     while left > 0 && !p.over {
         left -= 1;
         if p.cuts {
-            let r = put_back(out, p, cut(s));
+            let r = put_back(to, out, p, cut(s));
             p = r.progress;
             s = r.search;
             continue;
@@ -98,21 +106,22 @@ fn run(out: &mut [u8], at: usize, book: &[u8], turns: u64) -> usize {
         let t = turn(s);
         let flow = t.flow;
         s = t.search;
-        p = turned(out, p, flow, s.depth, s.clock);
+        p = turned(to, out, p, flow, s.depth, s.clock);
     }
     p.at
 }
 
 // `0 :- 1`, 1 a fact: four turns. Cut after three, it takes one more.
-fn p8(out: &mut [u8], at: usize, turns: u64) -> usize {
-    let a = pen::text(out, at, b"# p8\n");
-    run(out, a, b"G\0C\0\0\0P\x01\0\0\0\0G\0C\0\0\0E", turns)
+fn p8(to: Streams, out: &mut [u8], at: usize, turns: u64) -> usize {
+    let a = pen::text(to, out, at, b"# p8\n");
+    run(to, out, a, b"G\0C\0\0\0P\x01\0\0\0\0G\0C\0\0\0E", turns)
 }
 
 // `0 :- 1, not 2`, 1 has facts /1 and /2, `2 :- 2`: the first two searches end in QuantumExceeded.
-fn p1(out: &mut [u8], at: usize) -> usize {
-    let a = pen::text(out, at, b"# p1, goal 0\n");
+fn p1(to: Streams, out: &mut [u8], at: usize) -> usize {
+    let a = pen::text(to, out, at, b"# p1, goal 0\n");
     run(
+        to,
         out,
         a,
         b"G\0C\0\0\0P\x01\0\0\0\0N\x02\0\0G\0C\x01\0\0C\x02\0\0G\0C\0\0\0P\x02\0\0\0\0E",
@@ -120,30 +129,34 @@ fn p1(out: &mut [u8], at: usize) -> usize {
     )
 }
 
-fn cases(out: &mut [u8]) -> usize {
-    let whole = p8(out, 0, MOST_TURNS);
-    let in_two = p8(out, whole, 3);
-    p1(out, in_two)
+fn cases(to: Streams, out: &mut [u8]) -> usize {
+    let whole = p8(to, out, 0, MOST_TURNS);
+    let in_two = p8(to, out, whole, 3);
+    p1(to, out, in_two)
 }
 
-fn all(out: &mut [u8], book: &[u8]) -> usize {
+fn all(to: Streams, out: &mut [u8], book: &[u8]) -> usize {
     if book.len() == 0 {
-        return cases(out);
+        return cases(to, out);
     }
-    run(out, 0, book, 3)
+    run(to, out, 0, book, 3)
 }
 
-fn main() {
+fn main(rt: HostRuntime) {
+    let to = Streams {
+        output: rt.stdout(),
+        errors: rt.stderr(),
+    };
     let mut bytes = [0u8; READ_AHEAD];
-    let got = input(&mut bytes);
+    let got = input(&mut rt.stdin(), &mut bytes);
     if !got.whole {
-        io::write_all(2, b"in_place_run: the input can't be read\n");
+        let _ = eprintln!(to.errors; "in_place_run: the input can't be read");
         return;
     }
     let n = got.count;
     let mut out = [0u8; 4096];
-    let used = all(&mut out, &bytes[..n]);
-    if !pen::flush(&out, used) {
-        io::write_all(2, b"in_place_run: the turns can't be written\n");
+    let used = all(to, &mut out, &bytes[..n]);
+    if !pen::flush(to, &out, used) {
+        let _ = eprintln!(to.errors; "in_place_run: the turns can't be written");
     }
 }

@@ -18,6 +18,7 @@ ghost use Rattle.inspect.specs.Words.{clause_words, clauses_words, goal_line as 
 
 use book::Book;
 use book::access::{high_end, low_end};
+use pen::Streams;
 use sizes::{MOST_LITERALS, wide, wide16};
 
 fn bit0(flags: u8) -> bool
@@ -38,110 +39,134 @@ fn bit2(kind: u8) -> bool
     kind / 4 % 2 == 1
 }
 
-fn mark(out: &mut [u8], at: usize, on: bool, words: &[u8]) -> usize
+fn mark(to: Streams, out: &mut [u8], at: usize, on: bool, words: &[u8]) -> usize
     ensures { pen out.new result ≡ put_all (mark_of on words.now) (pen out.old at) }
 {
     if on {
-        return pen::text(out, at, words);
+        return pen::text(to, out, at, words);
     }
     at
 }
 
 // A number, and another one behind a slash if it isn't 0.
-fn slashed(out: &mut [u8], at: usize, n: usize, v: u16) -> usize
+fn slashed(to: Streams, out: &mut [u8], at: usize, n: usize, v: u16) -> usize
     ensures { pen out.new result ≡ put_all (slashedOf n v) (pen out.old at) }
 {
-    let one = pen::number(out, at, n as u64);
+    let one = pen::number(to, out, at, n as u64);
     if v == 0 {
         return one;
     }
-    let slash = pen::text(out, one, b"/");
-    pen::number(out, slash, v as u64)
+    let slash = pen::text(to, out, one, b"/");
+    pen::number(to, out, slash, v as u64)
 }
 
 // A number, and the ends of a range behind a slash.
-fn ranged(out: &mut [u8], at: usize, n: usize, low: u16, high: u16) -> usize
+fn ranged(to: Streams, out: &mut [u8], at: usize, n: usize, low: u16, high: u16) -> usize
     ensures { pen out.new result ≡ put_all (rangedOf n low high) (pen out.old at) }
 {
-    let one = pen::number(out, at, n as u64);
-    let slash = pen::text(out, one, b"/");
-    let from = pen::number(out, slash, low as u64);
-    let dash = pen::text(out, from, b"-");
-    pen::number(out, dash, high as u64)
+    let one = pen::number(to, out, at, n as u64);
+    let slash = pen::text(to, out, one, b"/");
+    let from = pen::number(to, out, slash, low as u64);
+    let dash = pen::text(to, out, from, b"-");
+    pen::number(to, out, dash, high as u64)
 }
 
 // A goal, and what a literal wants of it.
-fn want(out: &mut [u8], at: usize, range: bool, goal: usize, low: u16, high: u16) -> usize
+fn want(
+    to: Streams,
+    out: &mut [u8],
+    at: usize,
+    range: bool,
+    goal: usize,
+    low: u16,
+    high: u16,
+) -> usize
     ensures { pen out.new result ≡ put_all (want_words goal (wanted range low high)) (pen out.old at) }
 {
     if range {
-        return ranged(out, at, goal, low, high);
+        return ranged(to, out, at, goal, low, high);
     }
-    slashed(out, at, goal, low)
+    slashed(to, out, at, goal, low)
 }
 
-fn name(out: &mut [u8], at: usize, kind: u8, goal: u16, ends: u32) -> usize
+fn name(to: Streams, out: &mut [u8], at: usize, kind: u8, goal: u16, ends: u32) -> usize
     ensures { pen out.new result ≡ put_all (name_words (bit1Of kind) goal (wanted (bit2Of kind) (ends % 65536) (ends / 65536)))
         (pen out.old at) }
 {
     if bit1(kind) {
-        let word = pen::text(out, at, b"not ");
-        return pen::number(out, word, goal as u64);
+        let word = pen::text(to, out, at, b"not ");
+        return pen::number(to, out, word, goal as u64);
     }
     let range = bit2(kind);
-    want(out, at, range, wide16(goal), low_end(ends), high_end(ends))
+    want(
+        to,
+        out,
+        at,
+        range,
+        wide16(goal),
+        low_end(ends),
+        high_end(ends),
+    )
 }
 
 // The literal's kind has the mark in bit 0, "not" in bit 1 and that it wants a range in bit 2.
-fn literal(out: &mut [u8], at: usize, kind: u8, goal: u16, ends: u32) -> usize
+fn literal(to: Streams, out: &mut [u8], at: usize, kind: u8, goal: u16, ends: u32) -> usize
     ensures { pen out.new result ≡ put_all (literal_words (kept kind goal ends)) (pen out.old at) }
 {
-    let named = name(out, at, kind, goal, ends);
-    mark(out, named, bit0(kind), b" [outsized]")
+    let named = name(to, out, at, kind, goal, ends);
+    mark(to, out, named, bit0(kind), b" [outsized]")
 }
 
 // What stands before the literal j of a clause.
-fn between(out: &mut [u8], at: usize, j: usize) -> usize
+fn between(to: Streams, out: &mut [u8], at: usize, j: usize) -> usize
     ensures { pen out.new result ≡ put_all (before j) (pen out.old at) }
 {
     if j == 0 {
-        return pen::text(out, at, b" :- ");
+        return pen::text(to, out, at, b" :- ");
     }
-    pen::text(out, at, b", ")
+    pen::text(to, out, at, b", ")
 }
 
-fn head(out: &mut [u8], at: usize, goal: usize, variant: u16, flags: u8) -> usize
+fn head(to: Streams, out: &mut [u8], at: usize, goal: usize, variant: u16, flags: u8) -> usize
     ensures { pen out.new result ≡ put_all (head_words goal variant (bit0Of flags) (bit1Of flags))
         (pen out.old at) }
 {
-    let named = slashed(out, at, goal, variant);
-    let weak = mark(out, named, bit0(flags), b" [cannot prove]");
-    mark(out, weak, bit1(flags), b" [outsized]")
+    let named = slashed(to, out, at, goal, variant);
+    let weak = mark(to, out, named, bit0(flags), b" [cannot prove]");
+    mark(to, out, weak, bit1(flags), b" [outsized]")
 }
 
-fn goal_line(out: &mut [u8], at: usize, goal: usize, flags: u8) -> usize
+fn goal_line(to: Streams, out: &mut [u8], at: usize, goal: usize, flags: u8) -> usize
     ensures { pen out.new result ≡ put_all (goalLine goal (bit0Of flags) (bit1Of flags)) (pen out.old at) }
 {
-    let word = pen::text(out, at, b"goal ");
-    let named = pen::number(out, word, goal as u64);
-    let co = mark(out, named, bit0(flags), b" [coinductive]");
-    let all = mark(out, co, bit1(flags), b" [floundered]");
-    pen::text(out, all, b"\n")
+    let word = pen::text(to, out, at, b"goal ");
+    let named = pen::number(to, out, word, goal as u64);
+    let co = mark(to, out, named, bit0(flags), b" [coinductive]");
+    let all = mark(to, out, co, bit1(flags), b" [floundered]");
+    pen::text(to, out, all, b"\n")
 }
 
 // The line of clause c, of the goal that is given.
-fn clause_line(out: &mut [u8], at: usize, book: Book, goal: usize, c: usize) -> usize
+fn clause_line(to: Streams, out: &mut [u8], at: usize, book: Book, goal: usize, c: usize) -> usize
     requires formed { Formed book }
     requires c_bound { c < 256 }
     ensures { pen out.new result ≡ put_all (clause_words goal (clause_viewed book c)) (pen out.old at) }
 {
     let count = wide(book.clause_len[c]);
-    let mut used = head(out, at, goal, book.clause_variant[c], book.clause_flags[c]);
+    let mut used = head(
+        to,
+        out,
+        at,
+        goal,
+        book.clause_variant[c],
+        book.clause_flags[c],
+    );
     let mut j: usize = 0;
     while j < count {
         let i = MOST_LITERALS * c + j;
-        let apart = between(out, used, j);
+        let apart = between(to, out, used, j);
         used = literal(
+            to,
             out,
             apart,
             book.literal_kind[i],
@@ -150,11 +175,11 @@ fn clause_line(out: &mut [u8], at: usize, book: Book, goal: usize, c: usize) -> 
         );
         j += 1;
     }
-    pen::byte(out, used, b'\n')
+    pen::byte(to, out, used, b'\n')
 }
 
 // The lines of the clauses of goal g.
-fn clauses(out: &mut [u8], at: usize, book: Book, g: usize) -> usize
+fn clauses(to: Streams, out: &mut [u8], at: usize, book: Book, g: usize) -> usize
     requires formed { Formed book }
     requires g_lt_goals { g < book.goals }
     ensures { pen out.new result ≡ put_all (clauses_words g (goal_viewed book g).clauses) (pen out.old at) }
@@ -164,30 +189,30 @@ fn clauses(out: &mut [u8], at: usize, book: Book, g: usize) -> usize
     let mut used = at;
     let mut k: usize = 0;
     while k < count {
-        used = clause_line(out, used, book, g, first + k);
+        used = clause_line(to, out, used, book, g, first + k);
         k += 1;
     }
     used
 }
 
 // Goal g's line and those of its clauses.
-fn goal(out: &mut [u8], at: usize, book: Book, g: usize) -> usize
+fn goal(to: Streams, out: &mut [u8], at: usize, book: Book, g: usize) -> usize
     requires formed { Formed book }
     requires g_lt_goals { g < book.goals }
     ensures { pen out.new result ≡ put_all (goal_words g (goal_viewed book g)) (pen out.old at) }
 {
-    let line = goal_line(out, at, g, book.goal_flags[g]);
-    clauses(out, line, book, g)
+    let line = goal_line(to, out, at, g, book.goal_flags[g]);
+    clauses(to, out, line, book, g)
 }
 
-pub(crate) fn goals(out: &mut [u8], at: usize, book: Book) -> usize
+pub(crate) fn goals(to: Streams, out: &mut [u8], at: usize, book: Book) -> usize
     requires { Formed book }
     ensures { pen out.new result ≡ put_all (goals_words 0 (view book)) (pen out.old at) }
 {
     let mut used = at;
     let mut g: usize = 0;
     while g < book.goals {
-        used = goal(out, used, book, g);
+        used = goal(to, out, used, book, g);
         g += 1;
     }
     used

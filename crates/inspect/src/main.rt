@@ -9,6 +9,7 @@ mod missing;
 mod words;
 
 use intake::input;
+use pen::Streams;
 use sizes::READ_AHEAD;
 
 // How an input is read is settled by its first 20,480 bytes (`read_take`, in the proofs of `definitions`): at most 17,536 bytes of commands
@@ -16,22 +17,26 @@ use sizes::READ_AHEAD;
 // The longest words are at most 167,481 bytes, those of a paper that is refused with 6: three lines of 57, 64 of at most 36 for the goals,
 // 256 of at most 277 for the clauses, and 2,048 of at most 46 for the literals. So they are all in the buffer when it is written, and none
 // are written before: whether they could be written is known.
-fn answer(bytes: &[u8]) {
+fn answer(to: Streams, bytes: &[u8]) {
     let mut out = [0u8; 172032];
-    let used = words::say(&mut out, bytes);
-    if !pen::flush(&out, used) {
-        io::write_all(2, b"inspect: what the paper says can't be written\n");
+    let used = words::say(to, &mut out, bytes);
+    if !pen::flush(to, &out, used) {
+        let _ = eprintln!(to.errors; "inspect: what the paper says can't be written");
     }
 }
 
-fn main() {
+fn main(rt: HostRuntime) {
+    let to = Streams {
+        output: rt.stdout(),
+        errors: rt.stderr(),
+    };
     let mut bytes = [0u8; READ_AHEAD];
-    let got = input(&mut bytes);
+    let got = input(&mut rt.stdin(), &mut bytes);
     // Where the input can't be read, that is said, and nothing is taken for a book.
     if !got.whole {
-        io::write_all(2, b"inspect: the input can't be read\n");
+        let _ = eprintln!(to.errors; "inspect: the input can't be read");
         return;
     }
     let n = got.count;
-    answer(&bytes[..n]);
+    answer(to, &bytes[..n]);
 }

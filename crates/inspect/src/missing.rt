@@ -12,10 +12,12 @@ ghost use Rattle.inspect.specs.Missing.{loose_words, behind_by};
 use crate::book_lines::goals;
 use book::Book;
 use book::reader::read_loosely;
+use pen::Streams;
 use sizes::{MOST_LITERALS, wide, wide16};
 
 // A literal's line, if it names no goal of so many.
 fn literal(
+    to: Streams,
     out: &mut [u8],
     at: usize,
     goals: usize,
@@ -29,15 +31,23 @@ fn literal(
     if wide16(named) < goals {
         return at;
     }
-    let of_goal = pen::counted(out, at, b"goal ", g as u64);
-    let of_clause = pen::counted(out, of_goal, b", clause ", k as u64);
-    let of_literal = pen::counted(out, of_clause, b", literal ", j as u64);
-    let of_named = pen::counted(out, of_literal, b": no goal ", named as u64);
-    pen::text(out, of_named, b"\n")
+    let of_goal = pen::counted(to, out, at, b"goal ", g as u64);
+    let of_clause = pen::counted(to, out, of_goal, b", clause ", k as u64);
+    let of_literal = pen::counted(to, out, of_clause, b", literal ", j as u64);
+    let of_named = pen::counted(to, out, of_literal, b": no goal ", named as u64);
+    pen::text(to, out, of_named, b"\n")
 }
 
 // The literals of clause c, which is clause k of goal g.
-fn literals(out: &mut [u8], at: usize, book: Book, g: usize, k: usize, c: usize) -> usize
+fn literals(
+    to: Streams,
+    out: &mut [u8],
+    at: usize,
+    book: Book,
+    g: usize,
+    k: usize,
+    c: usize,
+) -> usize
     requires formed { Formed book }
     requires c_bound { c < 256 }
     ensures { pen out.new result
@@ -48,14 +58,14 @@ fn literals(out: &mut [u8], at: usize, book: Book, g: usize, k: usize, c: usize)
     let mut j: usize = 0;
     while j < count {
         let i = MOST_LITERALS * c + j;
-        used = literal(out, used, book.goals, g, k, j, book.literal_goal[i]);
+        used = literal(to, out, used, book.goals, g, k, j, book.literal_goal[i]);
         j += 1;
     }
     used
 }
 
 // The clauses of goal g.
-fn clauses(out: &mut [u8], at: usize, book: Book, g: usize) -> usize
+fn clauses(to: Streams, out: &mut [u8], at: usize, book: Book, g: usize) -> usize
     requires formed { Formed book }
     requires g_lt_goals { g < book.goals }
     ensures { pen out.new result ≡ put_all (missing_goal book.goals g (goal_viewed book g)) (pen out.old at) }
@@ -65,26 +75,26 @@ fn clauses(out: &mut [u8], at: usize, book: Book, g: usize) -> usize
     let mut used = at;
     let mut k: usize = 0;
     while k < count {
-        used = literals(out, used, book, g, k, first + k);
+        used = literals(to, out, used, book, g, k, first + k);
         k += 1;
     }
     used
 }
 
-fn missing(out: &mut [u8], at: usize, book: Book) -> usize
+fn missing(to: Streams, out: &mut [u8], at: usize, book: Book) -> usize
     requires { Formed book }
     ensures { pen out.new result ≡ put_all (missing_from book.goals (view book)) (pen out.old at) }
 {
     let mut used = at;
     let mut g: usize = 0;
     while g < book.goals {
-        used = clauses(out, used, book, g);
+        used = clauses(to, out, used, book, g);
         g += 1;
     }
     used
 }
 
-fn loosely(out: &mut [u8], at: usize, bytes: &[u8]) -> usize
+fn loosely(to: Streams, out: &mut [u8], at: usize, bytes: &[u8]) -> usize
     ensures { pen out.new result ≡ put_all (loose_words (read_loosely bytes.now)) (pen out.old at) }
 {
     let r = read_loosely(bytes);
@@ -92,17 +102,17 @@ fn loosely(out: &mut [u8], at: usize, bytes: &[u8]) -> usize
         return at;
     }
     let book = r.book;
-    let shown = goals(out, at, book);
-    missing(out, shown, book)
+    let shown = goals(to, out, at, book);
+    missing(to, out, shown, book)
 }
 
 // What stands behind what reading gave, by its number.
-pub(crate) fn behind(out: &mut [u8], at: usize, number: u8, bytes: &[u8]) -> usize
+pub(crate) fn behind(to: Streams, out: &mut [u8], at: usize, number: u8, bytes: &[u8]) -> usize
     ensures { pen out.new result
         ≡ put_all (behind_by number (read_loosely bytes.now)) (pen out.old at) }
 {
     if number == 6 {
-        return loosely(out, at, bytes);
+        return loosely(to, out, at, bytes);
     }
     at
 }

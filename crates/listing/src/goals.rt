@@ -10,6 +10,7 @@ use forest::Forest;
 use forest::make::{Making, make_at_desk};
 use forest::open::{Opening, open};
 use forest::serve_calls::serve_calls;
+use pen::Streams;
 use pen::refusals::refusal_line;
 use search::root_answer::one_more;
 
@@ -50,7 +51,7 @@ fn first_place() -> Place
 
 // Where an open leads: a goal that is not in the book ends the listing, and so does a stop, which is written as that of a peek is: 2 is its
 // word.
-fn opened(out: &mut [u8], opening: Opening, p: Place) -> Place
+fn opened(to: Streams, out: &mut [u8], opening: Opening, p: Place) -> Place
     ensures { OpenedTo opening p (pen out.old p.used) result (pen out.new result.used) }
 {
     match opening {
@@ -63,7 +64,7 @@ fn opened(out: &mut [u8], opening: Opening, p: Place) -> Place
             ..p
         },
         Opening::Stopped(n) => {
-            let used = line(out, p.used, p.goal, 0, 2, n as u64);
+            let used = line(to, out, p.used, p.goal, 0, 2, n as u64);
             Place {
                 used,
                 lines: one_line_more(p.lines),
@@ -106,14 +107,14 @@ fn next_index(used: usize, index: u64, p: Place) -> Place
 }
 
 // Where a peek leads, by the numbers of its reply: behind a stop nothing is listed, and behind what is no answer the next goal.
-fn told(out: &mut [u8], replies: &[u64; NUMBERS], p: Place) -> Place
+fn told(to: Streams, out: &mut [u8], replies: &[u64; NUMBERS], p: Place) -> Place
     ensures { ToldTo replies.now p (pen out.old p.used) result (pen out.new result.used) }
 {
     let word = replies[0];
     let value = replies[1];
     let index = replies[2];
     let said = settled(word, skips(p.skipped, p.index, index));
-    let used = line(out, p.used, p.goal, index, said, value);
+    let used = line(to, out, p.used, p.goal, index, said, value);
     match word {
         2 => Place {
             used,
@@ -134,17 +135,15 @@ fn told(out: &mut [u8], replies: &[u64; NUMBERS], p: Place) -> Place
 }
 
 // Where it is asked for, standard error tells which goal is at hand; what comes next, a goal or a page, is written over it.
-fn tell(shown: bool, goal: u64) {
+fn tell(to: Streams, shown: bool, goal: u64) {
     if shown {
-        io::write_all(2, b"goal ");
-        io::print_decimal(2, goal);
-        io::write_all(2, b"\r");
+        let _ = eprint!(to.errors; "goal {goal}\r");
     }
 }
 
 // The forest stays in this function, since handing one on by value copies it whole: what the other functions need of it is told by an
 // opening and by the numbers of a reply. So a peek is a batch of one call.
-fn list_goals(out: &mut [u8], f: Forest, shown: bool) -> usize
+fn list_goals(to: Streams, out: &mut [u8], f: Forest, shown: bool) -> usize
     requires { Ready f }
     ensures { pen out.new result ≡ put_all (pages (rest_lines 0 f)) (pen out.old 0) }
 {
@@ -154,31 +153,31 @@ fn list_goals(out: &mut [u8], f: Forest, shown: bool) -> usize
     let mut p = first_place();
     loop {
         if p.over {
-            return fill(out, p.used, p.lines);
+            return fill(to, out, p.used, p.lines);
         }
         if p.opens {
-            tell(shown, p.goal);
+            tell(to, shown, p.goal);
             let o = open(forest, p.goal);
             let opening = o.opening;
             forest = o.forest;
-            p = opened(out, opening, p);
+            p = opened(to, out, opening, p);
             continue;
         }
         ask(&mut calls, p.table, p.index);
         forest = serve_calls(forest, 1, &calls, &mut replies);
-        p = told(out, &replies, p);
+        p = told(to, out, &replies, p);
     }
 }
 
 // The listing of a byte string, whose book is taken as the desk takes it, put down from the start of the buffer on.
-pub(crate) fn list(out: &mut [u8], bytes: &[u8], shown: bool) -> usize
+pub(crate) fn list(to: Streams, out: &mut [u8], bytes: &[u8], shown: bool) -> usize
     ensures { pen out.new result ≡ put_all (listing bytes.now) (pen out.old 0) }
 {
     let m = make_at_desk(bytes, CLOCK);
     let making = m.making;
     let forest = m.forest;
     match making {
-        Making::Refused(n) => refusal_line(out, 0, n),
-        Making::Made => list_goals(out, forest, shown),
+        Making::Refused(n) => refusal_line(to, out, 0, n),
+        Making::Made => list_goals(to, out, forest, shown),
     }
 }

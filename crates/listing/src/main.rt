@@ -6,32 +6,38 @@ mod goals;
 mod lines;
 
 use intake::input;
+use pen::Streams;
 use sizes::READ_AHEAD;
+use std::io::IsTerminal;
 
 // How an input is listed is settled by its first 20,480 bytes (`listing_take`), so what follows is not read.
 // The buffer holds a page: it leaves when the first line of the next one comes, the last one at the end. Where a page can't be written,
 // that is told, by `pen` or here.
 // At a terminal standard error tells which goal is at hand, until a page is written over it.
-fn answer(bytes: &[u8]) {
+fn answer(to: Streams, bytes: &[u8]) {
     let mut out = [0u8; 1620];
-    let shown = libc::isatty(2) == 1;
-    let used = goals::list(&mut out, bytes, shown);
+    let shown = to.errors.is_terminal();
+    let used = goals::list(to, &mut out, bytes, shown);
     if shown {
-        io::write_all(2, b"       \r");
+        let _ = eprint!(to.errors; "       \r");
     }
-    if !pen::flush(&out, used) {
-        io::write_all(2, b"listing: the lines can't be written\n");
+    if !pen::flush(to, &out, used) {
+        let _ = eprintln!(to.errors; "listing: the lines can't be written");
     }
 }
 
-fn main() {
+fn main(rt: HostRuntime) {
+    let to = Streams {
+        output: rt.stdout(),
+        errors: rt.stderr(),
+    };
     let mut bytes = [0u8; READ_AHEAD];
-    let got = input(&mut bytes);
+    let got = input(&mut rt.stdin(), &mut bytes);
     // Where the input can't be read, that is said, and nothing is taken for a book.
     if !got.whole {
-        io::write_all(2, b"listing: the input can't be read\n");
+        let _ = eprintln!(to.errors; "listing: the input can't be read");
         return;
     }
     let n = got.count;
-    answer(&bytes[..n]);
+    answer(to, &bytes[..n]);
 }

@@ -7,29 +7,34 @@
 
 use intake::input;
 use mending::mend::mend;
+use pen::Streams;
 use sizes::READ_AHEAD;
 
 // What an input comes to is settled by its first 20,480 bytes (`mend_take`, in the proofs of `definitions`): what follows is not read. A
 // book is no longer than its paper, and 256 lines have at most 10 bytes each. So all of both is in its buffer when it is written, and
 // none is written before: whether the book could be written is known.
-fn answer(bytes: &[u8]) {
+fn answer(to: Streams, bytes: &[u8]) {
     let mut out = [0u8; READ_AHEAD];
     let mut lines = [0u8; 4096];
-    let mended = mend(&mut out, &mut lines, bytes);
-    pen::tell(&lines, mended.told);
-    if !pen::flush(&out, mended.used) {
-        io::write_all(2, b"mend: the book can't be written\n");
+    let mended = mend(to, &mut out, &mut lines, bytes);
+    pen::tell(to, &lines, mended.told);
+    if !pen::flush(to, &out, mended.used) {
+        let _ = eprintln!(to.errors; "mend: the book can't be written");
     }
 }
 
-fn main() {
+fn main(rt: HostRuntime) {
+    let to = Streams {
+        output: rt.stdout(),
+        errors: rt.stderr(),
+    };
     let mut bytes = [0u8; READ_AHEAD];
-    let got = input(&mut bytes);
+    let got = input(&mut rt.stdin(), &mut bytes);
     // Where the input can't be read, that is said, and nothing is taken for a book.
     if !got.whole {
-        io::write_all(2, b"mend: the input can't be read\n");
+        let _ = eprintln!(to.errors; "mend: the input can't be read");
         return;
     }
     let n = got.count;
-    answer(&bytes[..n]);
+    answer(to, &bytes[..n]);
 }

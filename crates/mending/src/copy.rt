@@ -8,6 +8,7 @@ ghost use Rattle.mending.specs.Reasons.{reason_at};
 ghost use Rattle.mending.specs.Copying.{copying, Goes};
 
 use book::widths::{CLAUSE, END, GOAL, UNKNOWN, width};
+use pen::Streams;
 use sizes::MOST_CLAUSES;
 
 // Where the copy stands: how many operands of the command at hand are to come; whether it stays; whether the last clause does; and how
@@ -96,17 +97,17 @@ fn at_byte(codes: &[u8; MOST_CLAUSES], c: Copying, b: u8) -> Copying
     }
 }
 
-fn put_if(out: &mut [u8], at: usize, stays: bool, b: u8) -> usize
+fn put_if(to: Streams, out: &mut [u8], at: usize, stays: bool, b: u8) -> usize
     ensures { pen out.new result ≡ put_all (if_stays stays b []) (pen out.old at) }
 {
     if stays {
-        return pen::byte(out, at, b);
+        return pen::byte(to, out, at, b);
     }
     at
 }
 
 // What stays, put down from the start of the buffer on.
-pub(crate) fn copy(out: &mut [u8], codes: &[u8; MOST_CLAUSES], bytes: &[u8]) -> usize
+pub(crate) fn copy(to: Streams, out: &mut [u8], codes: &[u8; MOST_CLAUSES], bytes: &[u8]) -> usize
     ensures { pen out.new result
         ≡ put_all (copied bytes.now (span (reason_at codes.now) 0 256)) (pen out.old 0) }
 {
@@ -121,7 +122,7 @@ pub(crate) fn copy(out: &mut [u8], codes: &[u8; MOST_CLAUSES], bytes: &[u8]) -> 
     while i < bytes.len() {
         let b = bytes[i];
         c = at_byte(codes, c, b);
-        used = put_if(out, used, c.stays, b);
+        used = put_if(to, out, used, c.stays, b);
         i += 1;
     }
     used

@@ -8,23 +8,32 @@ ghost use Rattle.mending.specs.Reasons.{reason_in, reason_at, Coded};
 
 use book::Book;
 use book::access::{clause_count, first_clause};
+use pen::Streams;
 use sizes::MOST_CLAUSES;
 
 // A clause that stays has none.
-fn reason_line(out: &mut [u8], at: usize, goal: usize, clause: usize, reason: u8) -> usize
+fn reason_line(
+    to: Streams,
+    out: &mut [u8],
+    at: usize,
+    goal: usize,
+    clause: usize,
+    reason: u8,
+) -> usize
     ensures { pen out.new result ≡ put_all (reason_line goal clause (reason_in reason)) (pen out.old at) }
 {
     if reason == 0 {
         return at;
     }
-    let of_goal = pen::number(out, at, goal as u64);
-    let of_clause = pen::counted(out, of_goal, b" ", clause as u64);
-    let of_reason = pen::counted(out, of_clause, b" ", reason as u64);
-    pen::text(out, of_reason, b"\n")
+    let of_goal = pen::number(to, out, at, goal as u64);
+    let of_clause = pen::counted(to, out, of_goal, b" ", clause as u64);
+    let of_reason = pen::counted(to, out, of_clause, b" ", reason as u64);
+    pen::text(to, out, of_reason, b"\n")
 }
 
 // The lines of a goal's clauses, so many from `first` on. Their numbers are those of the old paper: whoever goes is counted too.
 fn clause_lines(
+    to: Streams,
     out: &mut [u8],
     at: usize,
     codes: &[u8; MOST_CLAUSES],
@@ -41,7 +50,7 @@ fn clause_lines(
     let mut c = first;
     while c < first + count {
         let code = codes[c];
-        used = reason_line(out, used, goal, number, code);
+        used = reason_line(to, out, used, goal, number, code);
         number += 1;
         c += 1;
     }
@@ -49,7 +58,7 @@ fn clause_lines(
 }
 
 // The lines of a book, put down from the start of the buffer on.
-pub(crate) fn lines(out: &mut [u8], codes: &[u8; MOST_CLAUSES], b: Book) -> usize
+pub(crate) fn lines(to: Streams, out: &mut [u8], codes: &[u8; MOST_CLAUSES], b: Book) -> usize
     requires formed { Formed b }
     requires coded { Coded b codes.now }
     ensures { pen out.new result ≡ put_all (goal_lines b.goals 0 (view b)) (pen out.old 0) }
@@ -61,7 +70,7 @@ pub(crate) fn lines(out: &mut [u8], codes: &[u8; MOST_CLAUSES], b: Book) -> usiz
     while g < b.goals {
         let first = first_clause(&goal_first, g);
         let count = clause_count(&goal_len, g);
-        used = clause_lines(out, used, codes, g, first, count);
+        used = clause_lines(to, out, used, codes, g, first, count);
         g += 1;
     }
     used

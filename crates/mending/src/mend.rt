@@ -8,6 +8,7 @@ use crate::copy::copy;
 use crate::lines::lines;
 use crate::reasons::reasons_of;
 use book::reader::read_loosely;
+use pen::Streams;
 use pen::refusals::refusal_line;
 
 // What mending comes to: number 0, and how much is in use of the buffer for the book, and of that for the lines; or the number of a
@@ -21,13 +22,13 @@ pub struct Mended {
 
 // Both are put down from the start of their buffers on: `out` is for standard output, `told` for standard error. Where the paper is
 // refused, there is no book.
-pub fn mend(out: &mut [u8], told: &mut [u8], bytes: &[u8]) -> Mended
+pub fn mend(to: Streams, out: &mut [u8], told: &mut [u8], bytes: &[u8]) -> Mended
     ensures { (result.number, pen out.new result.used, pen told.new result.told)
         ≡ mends (mendOf bytes.now) (pen out.old 0) (pen told.old 0) }
 {
     let reading = read_loosely(bytes);
     if reading.number != 0 {
-        let line = refusal_line(told, 0, reading.number);
+        let line = refusal_line(to, told, 0, reading.number);
         return Mended {
             number: reading.number,
             used: 0,
@@ -36,8 +37,8 @@ pub fn mend(out: &mut [u8], told: &mut [u8], bytes: &[u8]) -> Mended
     }
     let b = reading.book;
     let codes = reasons_of(b);
-    let used = copy(out, &codes, bytes);
-    let line = lines(told, &codes, b);
+    let used = copy(to, out, &codes, bytes);
+    let line = lines(to, told, &codes, b);
     Mended {
         number: 0,
         used,

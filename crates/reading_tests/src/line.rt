@@ -1,5 +1,9 @@
 // A line of the list, character by character.
 use book::Looked;
+use intake::input;
+use pen::Streams;
+use std::rt::Files;
+use std::{fs, str};
 
 // What is known of the line so far: whether its label is over, the high half of a byte (16: none), how many characters of a name or
 // bytes of a book are there, and how much of the output's buffer is in use. `over` is set at the end of the input.
@@ -30,8 +34,8 @@ pub(crate) fn goes_on(line: Line) -> bool {
     !line.over
 }
 
-pub(crate) fn close(out: &[u8], line: Line) -> bool {
-    pen::flush(out, line.at)
+pub(crate) fn close(to: Streams, out: &[u8], line: Line) -> bool {
+    pen::flush(to, out, line.at)
 }
 
 // Where the next line starts, once the output is at a place.
@@ -45,8 +49,8 @@ fn next(at: usize) -> Line {
     }
 }
 
-fn put(out: &mut [u8], line: Line, c: u8) -> Line {
-    let at = pen::byte(out, line.at, c);
+fn put(to: Streams, out: &mut [u8], line: Line, c: u8) -> Line {
+    let at = pen::byte(to, out, line.at, c);
     Line { at: at, ..line }
 }
 
@@ -99,73 +103,75 @@ fn hex(bytes: &mut [u8], line: Line, c: u8) -> Line {
     kept(bytes, line, joined(line.half, d))
 }
 
-fn counted(out: &mut [u8], at: usize, n: usize, words: &[u8]) -> usize {
-    let comma = pen::text(out, at, b", ");
-    let number = pen::number(out, comma, n as u64);
-    pen::text(out, number, words)
+fn counted(to: Streams, out: &mut [u8], at: usize, n: usize, words: &[u8]) -> usize {
+    let comma = pen::text(to, out, at, b", ");
+    let number = pen::number(to, out, comma, n as u64);
+    pen::text(to, out, number, words)
 }
 
-fn accepted(out: &mut [u8], at: usize, goals: usize, clauses: usize) -> usize {
-    let word = pen::text(out, at, b": accepted");
-    let first = counted(out, word, goals, b" goals");
-    counted(out, first, clauses, b" clauses")
+fn accepted(to: Streams, out: &mut [u8], at: usize, goals: usize, clauses: usize) -> usize {
+    let word = pen::text(to, out, at, b": accepted");
+    let first = counted(to, out, word, goals, b" goals");
+    counted(to, out, first, clauses, b" clauses")
 }
 
 // What the desk says to a book that the old entry takes.
-fn at_desk(out: &mut [u8], at: usize, twice: bool) -> usize {
+fn at_desk(to: Streams, out: &mut [u8], at: usize, twice: bool) -> usize {
     if twice {
-        return pen::text(out, at, b", desk 36\n");
+        return pen::text(to, out, at, b", desk 36\n");
     }
-    pen::byte(out, at, b'\n')
+    pen::byte(to, out, at, b'\n')
 }
 
-fn refused(out: &mut [u8], at: usize, number: u8) -> usize {
-    let word = pen::text(out, at, b": refused ");
-    let named = pen::number(out, word, number as u64);
-    pen::byte(out, named, b'\n')
+fn refused(to: Streams, out: &mut [u8], at: usize, number: u8) -> usize {
+    let word = pen::text(to, out, at, b": refused ");
+    let named = pen::number(to, out, word, number as u64);
+    pen::byte(to, out, named, b'\n')
 }
 
-fn answer(out: &mut [u8], at: usize, looked: Looked) -> usize {
+fn answer(to: Streams, out: &mut [u8], at: usize, looked: Looked) -> usize {
     let twice = looked.repeat.found;
     let reading = looked.reading;
     if reading.number == 0 {
         let book = reading.book;
-        let words = accepted(out, at, book.goals, book.clauses);
-        return at_desk(out, words, twice);
+        let words = accepted(to, out, at, book.goals, book.clauses);
+        return at_desk(to, out, words, twice);
     }
-    refused(out, at, reading.number)
+    refused(to, out, at, reading.number)
 }
 
-fn unreadable(out: &mut [u8], at: usize) -> usize {
-    pen::text(out, at, b": can't be read\n")
+fn unreadable(to: Streams, out: &mut [u8], at: usize) -> usize {
+    pen::text(to, out, at, b": can't be read\n")
 }
 
-fn vector(out: &mut [u8], bytes: &[u8], line: Line) -> Line {
+fn vector(to: Streams, out: &mut [u8], bytes: &[u8], line: Line) -> Line {
     let len = line.len;
     if len <= bytes.len() {
-        return next(answer(out, line.at, book::desk::look(&bytes[..len])));
+        return next(answer(to, out, line.at, book::desk::look(&bytes[..len])));
     }
-    next(unreadable(out, line.at))
+    next(unreadable(to, out, line.at))
 }
 
-fn opened(bytes: &[u8], len: usize) -> i32 {
-    if len <= bytes.len() {
-        return os::open_read(&bytes[..len]);
+// The file of a name; a name that is no text names none.
+fn opened<R: Files>(rt: &R, bytes: &[u8], len: usize) -> Option<R::File> {
+    if len > bytes.len() {
+        return None;
     }
-    -1
+    let name = str::from_utf8(&bytes[..len]).ok()?;
+    fs::open(rt, name).ok()
 }
 
-fn file(out: &mut [u8], bytes: &mut [u8], line: Line) -> Line {
-    let fd = opened(bytes, line.len);
-    if fd < 0 {
-        return next(unreadable(out, line.at));
+fn file<R: Files>(rt: &R, to: Streams, out: &mut [u8], bytes: &mut [u8], line: Line) -> Line {
+    match opened(rt, bytes, line.len) {
+        None => next(unreadable(to, out, line.at)),
+        Some(mut from) => {
+            let n = input(&mut from, bytes).count;
+            next(answer(to, out, line.at, book::desk::look(&bytes[..n])))
+        }
     }
-    let n = io::read_full(fd, bytes);
-    libc::close(fd);
-    next(answer(out, line.at, book::desk::look(&bytes[..n])))
 }
 
-fn label(out: &mut [u8], bytes: &mut [u8], line: Line, c: u8) -> Line {
+fn label(to: Streams, out: &mut [u8], bytes: &mut [u8], line: Line, c: u8) -> Line {
     if c == b':' {
         return Line {
             hex: true,
@@ -173,27 +179,41 @@ fn label(out: &mut [u8], bytes: &mut [u8], line: Line, c: u8) -> Line {
             ..line
         };
     }
-    kept(bytes, put(out, line, c), c)
+    kept(bytes, put(to, out, line, c), c)
 }
 
-fn step(out: &mut [u8], bytes: &mut [u8], line: Line, c: u8) -> Line {
+fn step<R: Files>(
+    rt: &R,
+    to: Streams,
+    out: &mut [u8],
+    bytes: &mut [u8],
+    line: Line,
+    c: u8,
+) -> Line {
     if c == b'\n' {
         if line.hex {
-            return vector(out, bytes, line);
+            return vector(to, out, bytes, line);
         }
-        return file(out, bytes, line);
+        return file(rt, to, out, bytes, line);
     }
     if line.hex {
         return hex(bytes, line, c);
     }
-    label(out, bytes, line, c)
+    label(to, out, bytes, line, c)
 }
 
-pub(crate) fn chunk(out: &mut [u8], bytes: &mut [u8], line: Line, input: &[u8]) -> Line {
+pub(crate) fn chunk<R: Files>(
+    rt: &R,
+    to: Streams,
+    out: &mut [u8],
+    bytes: &mut [u8],
+    line: Line,
+    input: &[u8],
+) -> Line {
     let mut now = line;
     let mut i = 0;
     while i < input.len() {
-        now = step(out, bytes, now, input[i]);
+        now = step(rt, to, out, bytes, now, input[i]);
         i += 1;
     }
     now

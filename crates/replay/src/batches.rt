@@ -4,6 +4,7 @@ ghost use Rattle.std.specs.Prelude.{◌<◌};
 use crate::line::Line;
 use crate::{line, words};
 use batch::calls::{NUMBERS, Reply};
+use pen::Streams;
 
 // So many calls wait at most.
 pub(crate) const MOST: u64 = 256;
@@ -57,51 +58,52 @@ fn reply_at(replies: &[u64; NUMBERS], at: u64) -> Reply {
 }
 
 // A word that has a number.
-fn numbered(out: &mut [u8], at: usize, word: u64, value: u64) -> usize {
+fn numbered(to: Streams, out: &mut [u8], at: usize, word: u64, value: u64) -> usize {
     match word {
-        0 => pen::counted(out, at, b"refused ", value),
-        1 => pen::counted(out, at, b"table ", value),
-        2 => pen::counted(out, at, b"stop ", value),
-        3 => pen::counted(out, at, b"yes ", value),
-        _ => pen::counted(out, at, b"maybe ", value),
+        0 => pen::counted(to, out, at, b"refused ", value),
+        1 => pen::counted(to, out, at, b"table ", value),
+        2 => pen::counted(to, out, at, b"stop ", value),
+        3 => pen::counted(to, out, at, b"yes ", value),
+        _ => pen::counted(to, out, at, b"maybe ", value),
     }
 }
 
 // A word that has none.
-fn bare(out: &mut [u8], at: usize, word: u64) -> usize {
+fn bare(to: Streams, out: &mut [u8], at: usize, word: u64) -> usize {
     match word {
-        5 => pen::text(out, at, b"none"),
-        6 => pen::text(out, at, b"floundered"),
-        7 => pen::text(out, at, b"again"),
-        8 => pen::text(out, at, b"negcycle"),
-        9 => pen::text(out, at, b"invalid"),
-        10 => pen::text(out, at, b"cut"),
-        11 => pen::text(out, at, b"false"),
-        _ => pen::text(out, at, b"true"),
+        5 => pen::text(to, out, at, b"none"),
+        6 => pen::text(to, out, at, b"floundered"),
+        7 => pen::text(to, out, at, b"again"),
+        8 => pen::text(to, out, at, b"negcycle"),
+        9 => pen::text(to, out, at, b"invalid"),
+        10 => pen::text(to, out, at, b"cut"),
+        11 => pen::text(to, out, at, b"false"),
+        _ => pen::text(to, out, at, b"true"),
     }
 }
 
-fn word(out: &mut [u8], at: usize, word: u64, value: u64) -> usize {
+fn word(to: Streams, out: &mut [u8], at: usize, word: u64, value: u64) -> usize {
     if word < 5 {
-        return numbered(out, at, word, value);
+        return numbered(to, out, at, word, value);
     }
-    bare(out, at, word)
+    bare(to, out, at, word)
 }
 
 // A call's line: behind its word the turns of a search, or where a peek ended and the turns of its last search.
-fn told_one(out: &mut [u8], at: usize, kind: u64, r: Reply) -> usize {
-    let a = word(out, at, r.word, r.value);
+fn told_one(to: Streams, out: &mut [u8], at: usize, kind: u64, r: Reply) -> usize {
+    let a = word(to, out, at, r.word, r.value);
     if r.word == 0 {
-        return pen::byte(out, a, b'\n');
+        return pen::byte(to, out, a, b'\n');
     }
     match kind {
-        1 => words::turns(out, a, r.turns),
-        2 => words::index_and_turns(out, a, r.index, r.turns),
-        _ => pen::byte(out, a, b'\n'),
+        1 => words::turns(to, out, a, r.turns),
+        2 => words::index_and_turns(to, out, a, r.index, r.turns),
+        _ => pen::byte(to, out, a, b'\n'),
     }
 }
 
 pub(crate) fn told_all(
+    to: Streams,
     out: &mut [u8],
     at: usize,
     calls: &[u64; NUMBERS],
@@ -112,18 +114,18 @@ pub(crate) fn told_all(
     let mut k: u64 = 0;
     while k < count {
         let r = reply_at(replies, k);
-        a = told_one(out, a, kind_at(calls, k), r);
+        a = told_one(to, out, a, kind_at(calls, k), r);
         k += 1;
     }
     a
 }
 
 // As many calls have no forest.
-pub(crate) fn told_none(out: &mut [u8], at: usize, count: u64) -> usize {
+pub(crate) fn told_none(to: Streams, out: &mut [u8], at: usize, count: u64) -> usize {
     let mut a = at;
     let mut k: u64 = 0;
     while k < count {
-        a = pen::text(out, a, b"no forest\n");
+        a = pen::text(to, out, a, b"no forest\n");
         k += 1;
     }
     a

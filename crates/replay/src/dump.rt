@@ -16,6 +16,7 @@ use book::Literal;
 use book::access::is_ranged;
 use control::ensure_root_answer::strand_in_hand;
 use forest::shown::Shown;
+use pen::Streams;
 use sizes::{BOOK_LITERALS, MOST_CLAUSES, MOST_LITERALS, wide};
 use strands::literals::is_negative;
 use strands::{Answer, Selected, Strand};
@@ -27,141 +28,156 @@ fn flag(b: bool) -> u64 {
     if b { 1 } else { 0 }
 }
 
-fn signed(out: &mut [u8], at: usize, l: Literal) -> usize {
+fn signed(to: Streams, out: &mut [u8], at: usize, l: Literal) -> usize {
     if is_negative(l) {
-        return pen::counted(out, at, b"-", l.goal as u64);
+        return pen::counted(to, out, at, b"-", l.goal as u64);
     }
-    let a = pen::counted(out, at, b"+", l.goal as u64);
-    let b = pen::counted(out, a, b"/", l.want as u64);
+    let a = pen::counted(to, out, at, b"+", l.goal as u64);
+    let b = pen::counted(to, out, a, b"/", l.want as u64);
     if is_ranged(l) {
-        return pen::counted(out, b, b"-", l.high as u64);
+        return pen::counted(to, out, b, b"-", l.high as u64);
     }
     b
 }
 
-fn literal(out: &mut [u8], at: usize, l: Literal) -> usize {
-    let a = signed(out, at, l);
+fn literal(to: Streams, out: &mut [u8], at: usize, l: Literal) -> usize {
+    let a = signed(to, out, at, l);
     if l.kind % 2 == 1 {
-        return pen::byte(out, a, b'!');
+        return pen::byte(to, out, a, b'!');
     }
     a
 }
 
 // What stands before the element i of a list.
-fn comma(out: &mut [u8], at: usize, i: usize) -> usize {
+fn comma(to: Streams, out: &mut [u8], at: usize, i: usize) -> usize {
     if i == 0 {
         return at;
     }
-    pen::byte(out, at, b',')
+    pen::byte(to, out, at, b',')
 }
 
 // The element i of a list of n goals.
-fn goal(out: &mut [u8], at: usize, i: usize, n: usize, g: u8) -> usize {
+fn goal(to: Streams, out: &mut [u8], at: usize, i: usize, n: usize, g: u8) -> usize {
     if i >= n {
         return at;
     }
-    let a = comma(out, at, i);
-    pen::number(out, a, g as u64)
+    let a = comma(to, out, at, i);
+    pen::number(to, out, a, g as u64)
 }
 
-fn goals(out: &mut [u8], at: usize, d: [u8; MOST_LITERALS], count: u8) -> usize {
+fn goals(to: Streams, out: &mut [u8], at: usize, d: [u8; MOST_LITERALS], count: u8) -> usize {
     let n = count as usize;
-    let mut a = pen::text(out, at, b" D[");
+    let mut a = pen::text(to, out, at, b" D[");
     let mut i: usize = 0;
     while i < 8 {
-        a = goal(out, a, i, n, d[i]);
+        a = goal(to, out, a, i, n, d[i]);
         i += 1;
     }
-    pen::byte(out, a, b']')
+    pen::byte(to, out, a, b']')
 }
 
-fn answer(out: &mut [u8], at: usize, x: Answer) -> usize {
+fn answer(to: Streams, out: &mut [u8], at: usize, x: Answer) -> usize {
     let d = x.delayed;
-    let v = pen::counted(out, at, b" (v", x.variant as u64);
-    let g = goals(out, v, d, x.delayed_count);
-    let a = pen::counted(out, g, b" a", flag(x.ambiguous));
-    pen::byte(out, a, b')')
+    let v = pen::counted(to, out, at, b" (v", x.variant as u64);
+    let g = goals(to, out, v, d, x.delayed_count);
+    let a = pen::counted(to, out, g, b" a", flag(x.ambiguous));
+    pen::byte(to, out, a, b')')
 }
 
 // The element i of a list of n literals.
-fn listed(out: &mut [u8], at: usize, i: usize, n: usize, l: Literal) -> usize {
+fn listed(to: Streams, out: &mut [u8], at: usize, i: usize, n: usize, l: Literal) -> usize {
     if i >= n {
         return at;
     }
-    let a = comma(out, at, i);
-    literal(out, a, l)
+    let a = comma(to, out, at, i);
+    literal(to, out, a, l)
 }
 
-fn literals(out: &mut [u8], at: usize, s: Strand) -> usize {
+fn literals(to: Streams, out: &mut [u8], at: usize, s: Strand) -> usize {
     let n = s.literal_count as usize;
-    let mut a = pen::text(out, at, b" S[");
+    let mut a = pen::text(to, out, at, b" S[");
     let mut i: usize = 0;
     while i < 8 {
-        a = listed(out, a, i, n, s.literals[i]);
+        a = listed(to, out, a, i, n, s.literals[i]);
         i += 1;
     }
-    pen::byte(out, a, b']')
+    pen::byte(to, out, a, b']')
 }
 
 // The element i of a list of n floundered literals.
-fn set_aside(out: &mut [u8], at: usize, i: usize, n: usize, l: Literal, time: u8) -> usize {
+fn set_aside(
+    to: Streams,
+    out: &mut [u8],
+    at: usize,
+    i: usize,
+    n: usize,
+    l: Literal,
+    time: u8,
+) -> usize {
     if i >= n {
         return at;
     }
-    let a = comma(out, at, i);
-    let b = literal(out, a, l);
-    pen::counted(out, b, b"@", time as u64)
+    let a = comma(to, out, at, i);
+    let b = literal(to, out, a, l);
+    pen::counted(to, out, b, b"@", time as u64)
 }
 
-fn floundered(out: &mut [u8], at: usize, s: Strand) -> usize {
+fn floundered(to: Streams, out: &mut [u8], at: usize, s: Strand) -> usize {
     let n = s.floundered_count as usize;
-    let mut a = pen::text(out, at, b" F[");
+    let mut a = pen::text(to, out, at, b" F[");
     let mut i: usize = 0;
     while i < 8 {
-        a = set_aside(out, a, i, n, s.floundered[i], s.floundered_time[i]);
+        a = set_aside(to, out, a, i, n, s.floundered[i], s.floundered_time[i]);
         i += 1;
     }
-    pen::byte(out, a, b']')
+    pen::byte(to, out, a, b']')
 }
 
-fn selected(out: &mut [u8], at: usize, k: Selected) -> usize {
+fn selected(to: Streams, out: &mut [u8], at: usize, k: Selected) -> usize {
     match k {
-        Selected::Nothing => pen::text(out, at, b" s-"),
+        Selected::Nothing => pen::text(to, out, at, b" s-"),
         Selected::Subgoal {
             index,
             table,
             answer,
         } => {
-            let i = pen::counted(out, at, b" s", index as u64);
-            let t = pen::counted(out, i, b":", table as u64);
-            pen::counted(out, t, b":", answer as u64)
+            let i = pen::counted(to, out, at, b" s", index as u64);
+            let t = pen::counted(to, out, i, b":", table as u64);
+            pen::counted(to, out, t, b":", answer as u64)
         }
     }
 }
 
 // A strand's words before its literals.
-fn begun(out: &mut [u8], at: usize, variant: u16, outsized: bool, ambiguous: bool) -> usize {
-    let v = pen::counted(out, at, b" (v", variant as u64);
-    let o = pen::counted(out, v, b" o", flag(outsized));
-    pen::counted(out, o, b" a", flag(ambiguous))
+fn begun(
+    to: Streams,
+    out: &mut [u8],
+    at: usize,
+    variant: u16,
+    outsized: bool,
+    ambiguous: bool,
+) -> usize {
+    let v = pen::counted(to, out, at, b" (v", variant as u64);
+    let o = pen::counted(to, out, v, b" o", flag(outsized));
+    pen::counted(to, out, o, b" a", flag(ambiguous))
 }
 
 // And those behind them.
-fn ended(out: &mut [u8], at: usize, k: Selected, time: u64) -> usize {
-    let c = selected(out, at, k);
-    let p = pen::counted(out, c, b" p", time);
-    pen::byte(out, p, b')')
+fn ended(to: Streams, out: &mut [u8], at: usize, k: Selected, time: u64) -> usize {
+    let c = selected(to, out, at, k);
+    let p = pen::counted(to, out, c, b" p", time);
+    pen::byte(to, out, p, b')')
 }
 
-fn strand(out: &mut [u8], at: usize, s: Strand, time: u64) -> usize {
+fn strand(to: Streams, out: &mut [u8], at: usize, s: Strand, time: u64) -> usize {
     let d = s.delayed;
     let k = s.selected;
-    let a = begun(out, at, s.variant, s.outsized, s.ambiguous);
-    let l = literals(out, a, s);
-    let g = goals(out, l, d, s.delayed_count);
-    let t = pen::counted(out, g, b" t", s.answer_time as u64);
-    let f = floundered(out, t, s);
-    ended(out, f, k, time)
+    let a = begun(to, out, at, s.variant, s.outsized, s.ambiguous);
+    let l = literals(to, out, a, s);
+    let g = goals(to, out, l, d, s.delayed_count);
+    let t = pen::counted(to, out, g, b" t", s.answer_time as u64);
+    let f = floundered(to, out, t, s);
+    ended(to, out, f, k, time)
 }
 
 fn mode(complete: u8) -> u8 {
@@ -174,6 +190,7 @@ fn long(n: u16) -> u64 {
 
 // A table's words before its answers.
 fn head(
+    to: Streams,
     out: &mut [u8],
     at: usize,
     i: usize,
@@ -182,18 +199,18 @@ fn head(
     complete: u8,
     answers: u16,
 ) -> usize {
-    let t = pen::counted(out, at, b" | t", i as u64);
-    let g = pen::counted(out, t, b" g", goal as u64);
-    let f = pen::counted(out, g, b" f", floundered as u64);
-    let w = pen::text(out, f, b" m");
-    let m = pen::byte(out, w, mode(complete));
-    pen::counted(out, m, b" A", answers as u64)
+    let t = pen::counted(to, out, at, b" | t", i as u64);
+    let g = pen::counted(to, out, t, b" g", goal as u64);
+    let f = pen::counted(to, out, g, b" f", floundered as u64);
+    let w = pen::text(to, out, f, b" m");
+    let m = pen::byte(to, out, w, mode(complete));
+    pen::counted(to, out, m, b" A", answers as u64)
 }
 
-fn opening(out: &mut [u8], at: usize, clock: u64, mark: u8, count: usize) -> usize {
-    let c = pen::counted(out, at, b"state clock ", clock);
-    let m = pen::counted(out, c, b" mark ", mark as u64);
-    pen::counted(out, m, b" tables ", count as u64)
+fn opening(to: Streams, out: &mut [u8], at: usize, clock: u64, mark: u8, count: usize) -> usize {
+    let c = pen::counted(to, out, at, b"state clock ", clock);
+    let m = pen::counted(to, out, c, b" mark ", mark as u64);
+    pen::counted(to, out, m, b" tables ", count as u64)
 }
 
 // The strand at a place. The clauses' arrays are lent by a struct's own, and so have one lifetime.
@@ -223,14 +240,15 @@ fn in_hand<'a>(
 
 // The dump, without a newline, from the start of the buffer on: how much of it is in use. The checker knows of it that it ends and stays
 // in the buffer; what it writes is shown by the run beside the Rust alone (`tools/differential`).
-pub(crate) fn dump(f: Shown, out: &mut [u8]) -> usize {
-    let mut a = opening(out, 0, f.clock, f.mark, f.count);
+pub(crate) fn dump(to: Streams, f: Shown, out: &mut [u8]) -> usize {
+    let mut a = opening(to, out, 0, f.clock, f.mark, f.count);
     let mut i: usize = 0;
     while i < 64 {
         if i >= f.count {
             return a;
         }
         a = head(
+            to,
             out,
             a,
             i,
@@ -243,10 +261,10 @@ pub(crate) fn dump(f: Shown, out: &mut [u8]) -> usize {
         let mut left = f.answer_len[i];
         while left > 0 {
             q = f.answer_next[wide(q)];
-            a = answer(out, a, f.answers[wide(q)]);
+            a = answer(to, out, a, f.answers[wide(q)]);
             left = left - 1;
         }
-        a = pen::counted(out, a, b" Q", long(f.len[i]));
+        a = pen::counted(to, out, a, b" Q", long(f.len[i]));
         let mut p = f.tail[i];
         let mut more = f.len[i];
         while more > 0 {
@@ -263,7 +281,7 @@ pub(crate) fn dump(f: Shown, out: &mut [u8]) -> usize {
                 &f.literal_goal,
                 &f.literal_want,
             );
-            a = strand(out, a, s, f.time[k]);
+            a = strand(to, out, a, s, f.time[k]);
             more = more - 1;
         }
         i += 1;

@@ -1,4 +1,5 @@
 // The 64-bit FNV-1a hash of some bytes, and its 16 hex digits.
+use pen::Streams;
 use sizes::wide64;
 
 // The hash times 2^40 + 435, modulo 2^64.
@@ -25,22 +26,22 @@ fn digit(n: u64) -> u8 {
     if d < 10 { 48 + d } else { 87 + d }
 }
 
-fn two(out: &mut [u8], at: usize, n: u64) -> usize {
-    let a = pen::byte(out, at, digit(n / 16));
-    pen::byte(out, a, digit(n))
+fn two(to: Streams, out: &mut [u8], at: usize, n: u64) -> usize {
+    let a = pen::byte(to, out, at, digit(n / 16));
+    pen::byte(to, out, a, digit(n))
 }
 
-fn four(out: &mut [u8], at: usize, n: u64) -> usize {
-    let a = two(out, at, n / 0x100);
-    two(out, a, n)
+fn four(to: Streams, out: &mut [u8], at: usize, n: u64) -> usize {
+    let a = two(to, out, at, n / 0x100);
+    two(to, out, a, n)
 }
 
-fn eight(out: &mut [u8], at: usize, n: u64) -> usize {
-    let a = four(out, at, n / 0x10000);
-    four(out, a, n)
+fn eight(to: Streams, out: &mut [u8], at: usize, n: u64) -> usize {
+    let a = four(to, out, at, n / 0x10000);
+    four(to, out, a, n)
 }
 
-pub(crate) fn digits(out: &mut [u8], at: usize, n: u64) -> usize {
-    let a = eight(out, at, n / 0x100000000);
-    eight(out, a, n)
+pub(crate) fn digits(to: Streams, out: &mut [u8], at: usize, n: u64) -> usize {
+    let a = eight(to, out, at, n / 0x100000000);
+    eight(to, out, a, n)
 }

@@ -22,16 +22,27 @@ use batch::calls::NUMBERS;
 use dump::{LONGEST_DUMP, dump};
 use forest::serve_calls::serve_calls;
 use forest::shown::show;
+use manner::Manner;
+use pen::Streams;
 use sizes::READ_AHEAD;
+use std::io::Stdin;
 use steps::Step;
 
 // The forest stays here: what needs none is done by `steps::next`, which moves no forest. A proved loop has to end, and nothing says that
 // the input does. So the loop counts its turns down, from a number that no run uses up.
-fn all(out: &mut [u8], input: &mut [u8], bytes: &mut [u8], room: &mut [u8]) -> usize {
+fn all(
+    manner: Manner,
+    from: Stdin,
+    to: Streams,
+    out: &mut [u8],
+    input: &mut [u8],
+    bytes: &mut [u8],
+    room: &mut [u8],
+) -> usize {
     let mut calls = [0u64; NUMBERS];
     let mut replies = [0u64; NUMBERS];
     let mut forest = calls::no_forest();
-    let mut m = steps::start();
+    let mut m = steps::start(manner);
     let mut turns = u64::MAX;
     while turns > 0 && !m.over {
         turns -= 1;
@@ -42,35 +53,47 @@ fn all(out: &mut [u8], input: &mut [u8], bytes: &mut [u8], room: &mut [u8]) -> u
                 let made = calls::take_book(&bytes[..n], m.line.a, m.line.desk);
                 let making = made.making;
                 forest = made.forest;
-                m = steps::booked(out, m, making);
+                m = steps::booked(to, out, m, making);
             }
             Step::Call => {
                 let called = calls::call(forest, m.line, m.manner.lent);
                 let reply = called.reply;
                 forest = called.forest;
-                m = steps::told(out, m, reply);
+                m = steps::told(to, out, m, reply);
             }
             Step::Batch => {
                 forest = serve_calls(forest, m.waiting, &calls, &mut replies);
-                m = steps::served(out, m, &calls, &replies);
+                m = steps::served(to, out, m, &calls, &replies);
             }
             Step::Show => {
-                let n = dump(show(forest), room);
-                m = steps::shown(out, m, room, n);
+                let n = dump(to, show(forest), room);
+                m = steps::shown(to, out, m, room, n);
             }
-            _ => m = steps::next(out, input, bytes, &mut calls, m),
+            _ => m = steps::next(from, to, out, input, bytes, &mut calls, m),
         }
     }
     m.at
 }
 
-fn main() {
-    let mut out = io::buffer();
-    let mut input = io::buffer();
+fn main(rt: HostRuntime) {
+    let to = Streams {
+        output: rt.stdout(),
+        errors: rt.stderr(),
+    };
+    let mut out = [0u8; 4096];
+    let mut input = [0u8; 4096];
     let mut bytes = [0u8; READ_AHEAD];
     let mut room = [0u8; LONGEST_DUMP];
-    let at = all(&mut out, &mut input, &mut bytes, &mut room);
-    if !pen::flush(&out, at) {
-        io::write_all(2, b"replay: what the script comes to can't be written\n");
+    let at = all(
+        manner::asked(&rt),
+        rt.stdin(),
+        to,
+        &mut out,
+        &mut input,
+        &mut bytes,
+        &mut room,
+    );
+    if !pen::flush(to, &out, at) {
+        let _ = eprintln!(to.errors; "replay: what the script comes to can't be written");
     }
 }

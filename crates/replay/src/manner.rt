@@ -1,5 +1,6 @@
 // How a script is run: the words among the program's arguments.
 use sizes::wide64;
+use std::rt::Env;
 
 #[derive(Clone, Copy)]
 pub(crate) struct Manner {
@@ -10,9 +11,9 @@ pub(crate) struct Manner {
 }
 
 // An argument of at most five characters as a number, the first of them highest.
-fn argument(i: usize) -> u64 {
+fn argument(rt: &impl Env, i: usize) -> u64 {
     let mut word = [0u8; 5];
-    let n = os::arg(i, &mut word);
+    let n = rt.arg(i, &mut word).unwrap_or(0);
     if n == 0 {
         return 0;
     }
@@ -32,14 +33,14 @@ fn with(m: Manner, word: u64) -> Manner {
     }
 }
 
-pub(crate) fn asked() -> Manner {
+pub(crate) fn asked(rt: &impl Env) -> Manner {
     let none = Manner {
         quiet: false,
         batch: false,
         bare: false,
         lent: false,
     };
-    let one = with(none, argument(1));
-    let two = with(one, argument(2));
-    with(two, argument(3))
+    let one = with(none, argument(rt, 1));
+    let two = with(one, argument(rt, 2));
+    with(two, argument(rt, 3))
 }

@@ -1,13 +1,15 @@
 // A script, step by step. The steps that need no forest are done here; the others are left to whoever has it.
 ghost use Rattle.std.specs.Prelude.{◌≤◌};
-ghost use Rattle.io.specs.Counts.{IsPrefixLen};
+ghost use Rattle.std.specs.Counts.{IsPrefixLen};
 
 use crate::line::Line;
 use crate::manner::Manner;
 use crate::words::Reply;
-use crate::{batches, hash, line, manner, words};
+use crate::{batches, hash, line, words};
 use batch::calls::NUMBERS;
 use forest::make::Making;
+use pen::Streams;
+use std::io::{Read, Stdin};
 
 // What comes next: more of the input is read; its characters are looked at, up to a line's end; a whole line is looked at. Then the steps
 // that need a forest: a book, a call by itself, the calls that wait, and what the forest holds.
@@ -39,8 +41,7 @@ pub(crate) struct Midst {
     pub waiting: u64,
 }
 
-pub(crate) fn start() -> Midst {
-    let manner = manner::asked();
+pub(crate) fn start(manner: Manner) -> Midst {
     let line = line::start();
     let step = Step::Read;
     Midst {
@@ -70,13 +71,13 @@ fn passed(m: Midst) -> Midst {
 }
 
 // What is said of the forest, or its hash.
-fn state(out: &mut [u8], at: usize, said: &[u8], quiet: bool) -> usize {
+fn state(streams: Streams, out: &mut [u8], at: usize, said: &[u8], quiet: bool) -> usize {
     if quiet {
-        let a = hash::digits(out, at, hash::fnv(said));
-        return pen::byte(out, a, b'\n');
+        let a = hash::digits(streams, out, at, hash::fnv(said));
+        return pen::byte(streams, out, a, b'\n');
     }
-    let a = pen::text(out, at, said);
-    pen::byte(out, a, b'\n')
+    let a = pen::text(streams, out, at, said);
+    pen::byte(streams, out, a, b'\n')
 }
 
 pub(crate) fn least(n: usize, most: usize) -> usize
@@ -95,75 +96,76 @@ fn after_state(m: Midst, at: usize) -> Midst {
 }
 
 // What the forest holds: the first so many bytes.
-pub(crate) fn shown(out: &mut [u8], m: Midst, said: &[u8], n: usize) -> Midst {
+pub(crate) fn shown(streams: Streams, out: &mut [u8], m: Midst, said: &[u8], n: usize) -> Midst {
     let k = least(n, said.len());
-    let a = state(out, m.at, &said[..k], m.manner.quiet);
+    let a = state(streams, out, m.at, &said[..k], m.manner.quiet);
     after_state(m, a)
 }
 
 // What the forest holds comes next; where there is none, that is said at once, and in a bare run nothing is.
-pub(crate) fn show(out: &mut [u8], m: Midst) -> Midst {
+pub(crate) fn show(streams: Streams, out: &mut [u8], m: Midst) -> Midst {
     if m.manner.bare {
         return after_state(m, m.at);
     }
     if m.there {
         return to(m, Step::Show);
     }
-    let a = state(out, m.at, b"state none", m.manner.quiet);
+    let a = state(streams, out, m.at, b"state none", m.manner.quiet);
     after_state(m, a)
 }
 
 // What a line came to that was not put off. Among calls that are handed over together that is a book alone.
-pub(crate) fn told(out: &mut [u8], m: Midst, r: Reply) -> Midst {
-    let a = words::told(out, m.at, r);
+pub(crate) fn told(streams: Streams, out: &mut [u8], m: Midst, r: Reply) -> Midst {
+    let a = words::told(streams, out, m.at, r);
     let p = passed(m);
     let after = Midst { at: a, ..p };
     if m.manner.batch {
         return after;
     }
-    show(out, after)
+    show(streams, out, after)
 }
 
 // From the first book on there is a forest: a refused one leaves one too, by which every call is refused.
-pub(crate) fn booked(out: &mut [u8], m: Midst, making: Making) -> Midst {
+pub(crate) fn booked(streams: Streams, out: &mut [u8], m: Midst, making: Making) -> Midst {
     let b = Midst { there: true, ..m };
-    told(out, b, Reply::Booked(making))
+    told(streams, out, b, Reply::Booked(making))
 }
 
 // The calls that waited were served; what the forest then holds comes next.
 pub(crate) fn served(
+    streams: Streams,
     out: &mut [u8],
     m: Midst,
     calls: &[u64; NUMBERS],
     replies: &[u64; NUMBERS],
 ) -> Midst {
-    let a = batches::told_all(out, m.at, calls, replies, m.waiting);
+    let a = batches::told_all(streams, out, m.at, calls, replies, m.waiting);
     let after = Midst {
         at: a,
         waiting: 0,
         ..m
     };
-    show(out, after)
+    show(streams, out, after)
 }
 
 // The calls that wait are handed over next; where there is no forest, that is said of each at once.
-fn hand_over(out: &mut [u8], m: Midst) -> Midst {
+fn hand_over(streams: Streams, out: &mut [u8], m: Midst) -> Midst {
     if m.there {
         return to(m, Step::Batch);
     }
-    let a = batches::told_none(out, m.at, m.waiting);
+    let a = batches::told_none(streams, out, m.at, m.waiting);
     let b = Midst {
         at: a,
         waiting: 0,
         ..m
     };
-    show(out, b)
+    show(streams, out, b)
 }
 
 // A line that no call waits before.
-fn alone(out: &mut [u8], m: Midst, l: Line) -> Midst {
+fn alone(streams: Streams, out: &mut [u8], m: Midst, l: Line) -> Midst {
     if !line::is_call(l) {
-        let a = words::bad(out, m.at, l.number);
+        let a = words::bad(streams, out, m.at, l.number);
         let p = passed(m);
         return Midst { at: a, ..p };
     }
@@ -171,13 +173,13 @@ fn alone(out: &mut [u8], m: Midst, l: Line) -> Midst {
         return to(m, Step::Book);
     }
     if !m.there {
-        return told(out, m, Reply::NoForest);
+        return told(streams, out, m, Reply::NoForest);
     }
     to(m, Step::Call)
 }
 
 // A line that is whole.
-fn whole(out: &mut [u8], calls: &mut [u64; NUMBERS], m: Midst) -> Midst {
+fn whole(streams: Streams, out: &mut [u8], calls: &mut [u64; NUMBERS], m: Midst) -> Midst {
     let was = m.line;
     let l = line::spaced(was);
     let w = Midst { line: l, ..m };
@@ -190,9 +192,9 @@ fn whole(out: &mut [u8], calls: &mut [u64; NUMBERS], m: Midst) -> Midst {
         return Midst { waiting, ..p };
     }
     if w.waiting > 0 {
-        return hand_over(out, w);
+        return hand_over(streams, out, w);
     }
-    alone(out, w, l)
+    alone(streams, out, w, l)
 }
 
 // The characters that were read, up to the end of a line.
@@ -224,33 +226,32 @@ fn scan(bytes: &mut [u8], input: &[u8], m: Midst) -> Midst {
 }
 
 // One read of the input: how many bytes there are, none at its end.
-fn some(input: &mut [u8]) -> usize
+fn some(mut from: Stdin, streams: Streams, input: &mut [u8]) -> usize
     ensures { IsPrefixLen result input.new }
 {
-    let got = libc::read(0, input);
-    let n = io::count(got, input);
-    if n == 0 {
-        if got != 0 {
-            io::write_all(2, b"replay: the input can't be read\n");
+    match from.read(input) {
+        Ok(n) => n,
+        Err(_) => {
+            let _ = eprintln!(streams.errors; "replay: the input can't be read");
+            0
         }
     }
-    n
 }
 
 // Nothing is left of the input.
-fn close(out: &mut [u8], m: Midst) -> Midst {
+fn close(streams: Streams, out: &mut [u8], m: Midst) -> Midst {
     if m.waiting > 0 {
-        return hand_over(out, m);
+        return hand_over(streams, out, m);
     }
     Midst { over: true, ..m }
 }
 
 // The last line may lack its newline.
-fn refill(out: &mut [u8], input: &mut [u8], m: Midst) -> Midst {
+fn refill(from: Stdin, streams: Streams, out: &mut [u8], input: &mut [u8], m: Midst) -> Midst {
     if m.ended {
-        return close(out, m);
+        return close(streams, out, m);
     }
-    let n = some(input);
+    let n = some(from, streams, input);
     let r = Midst {
         read: n,
         from: 0,
@@ -265,6 +266,8 @@ fn refill(out: &mut [u8], input: &mut [u8], m: Midst) -> Midst {
 
 // One step that needs no forest; where it would need one, none.
 pub(crate) fn next(
+    from: Stdin,
+    streams: Streams,
     out: &mut [u8],
     input: &mut [u8],
     bytes: &mut [u8],
@@ -273,9 +276,9 @@ pub(crate) fn next(
 ) -> Midst {
     let step = m.step;
     match step {
-        Step::Read => refill(out, input, m),
+        Step::Read => refill(from, streams, out, input, m),
         Step::Scan => scan(bytes, input, m),
-        Step::Whole => whole(out, calls, m),
+        Step::Whole => whole(streams, out, calls, m),
         _ => m,
     }
 }

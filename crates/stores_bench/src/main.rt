@@ -12,6 +12,9 @@ use paper_checks::Profile;
 use paper_checks::levels::levels;
 use rings::{ring_at, ring_enqueue};
 use sizes::{PLACES, READ_AHEAD};
+use std::env::FillError;
+use std::io::Stdin;
+use std::rt::Env;
 use stores::places::{Places, blank_places, take_place};
 use stores::queue::{blank_strands, take_strand};
 use stores::table::{PushAnswer, blank_answers, number_answer, push_answer};
@@ -234,9 +237,9 @@ fn reading(bytes: &[u8], at_desk: bool) -> Reading {
 }
 
 // The book of standard input is read, by the old entry or at the desk.
-fn readings(at_desk: bool, turns: usize) -> usize {
+fn readings(mut from: Stdin, at_desk: bool, turns: usize) -> usize {
     let mut bytes = [0u8; READ_AHEAD];
-    let got = input(&mut bytes);
+    let got = input(&mut from, &mut bytes);
     let n = got.count;
     let mut last: usize = 0;
     let mut i: usize = 0;
@@ -253,9 +256,9 @@ fn of_profile(p: Profile, k: usize) -> usize {
 }
 
 // The book of standard input is checked: plain, levelled.
-fn profiles(turns: usize) -> usize {
+fn profiles(mut from: Stdin, turns: usize) -> usize {
     let mut bytes = [0u8; READ_AHEAD];
-    let got = input(&mut bytes);
+    let got = input(&mut from, &mut bytes);
     let n = got.count;
     let mut last: usize = 0;
     let mut i: usize = 0;
@@ -266,7 +269,7 @@ fn profiles(turns: usize) -> usize {
     last
 }
 
-fn run(k: usize) -> usize {
+fn run(from: Stdin, k: usize) -> usize {
     match k {
         2 => places(16, 100000000),
         3 => places(254, 100000000),
@@ -280,22 +283,30 @@ fn run(k: usize) -> usize {
         11 => lookup(256, 255, 1000000),
         12 => pushes(15, 1000000),
         13 => pushes(255, 1000000),
-        14 => readings(false, 20000),
-        15 => readings(true, 20000),
-        16 => profiles(2000),
+        14 => readings(from, false, 20000),
+        15 => readings(from, true, 20000),
+        16 => profiles(from, 2000),
         _ => 0,
     }
 }
 
-fn main() {
-    let k = os::arg_count();
+// How many words the program was started with, its own name among them; of more than any operation's number so many.
+fn words(rt: &impl Env) -> usize {
+    let mut word = [0u8; 1];
+    for i in 0..17 {
+        if let Err(FillError::NotPresent) = rt.arg(i, &mut word) {
+            return i;
+        }
+    }
+    17
+}
+
+fn main(rt: HostRuntime) {
+    let k = words(&rt);
     if k < 2 {
-        io::write_all(
-            1,
-            b"name an operation by the number of arguments: 1 to 15\n",
-        );
+        let _ = println!(rt; "name an operation by the number of arguments: 1 to 15");
         return;
     }
-    io::print_decimal(1, run(k as usize) as u64);
-    io::write_all(1, b"\n");
+    let n = run(rt.stdin(), k) as u64;
+    let _ = println!(rt; "{n}");
 }

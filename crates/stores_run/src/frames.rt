@@ -3,6 +3,7 @@ ghost use Rattle.std.specs.Prelude.{◌≤◌};
 
 use crate::words::{line, one};
 use sizes::MOST_TABLES;
+use std::io::Stdout;
 use stores::numbers::{first_of, flag_at, set_flag};
 use stores::stack::{
     Stack, blank_stack, coinductive_from, pop, push_entry, set_active, take_caller,
@@ -33,11 +34,11 @@ fn nine(strand: Strand) -> Over {
 }
 
 // Eight delayed goals and not nine.
-pub(crate) fn delays() {
+pub(crate) fn delays(to: Stdout) {
     let d = nine(blank());
     let s = d.strand;
-    line(b"delayed goals", s.delayed_count as usize);
-    line(b"over", d.over);
+    line(to, b"delayed goals", s.delayed_count as usize);
+    line(to, b"over", d.over);
 }
 
 // 65 pushes, each with an active strand at place 3.
@@ -75,38 +76,46 @@ fn pushed(k: Stack) -> Stack {
 }
 
 // 64 entries and not 65; the entry nearest the bottom is found.
-pub(crate) fn entries() {
+pub(crate) fn entries(to: Stdout) {
     let k = pushed(blank_stack());
     let table = k.table;
     let mut active = k.active;
     let depth = k.depth;
-    line(b"entries", depth);
-    line(b"table 2 at", first_of(&table, depth, 2));
-    line(b"table 61 at", first_of(&table, depth, 61));
-    line(b"caller's place", take_caller(&mut active, depth) as usize);
+    line(to, b"entries", depth);
+    line(to, b"table 2 at", first_of(&table, depth, 2));
+    line(to, b"table 61 at", first_of(&table, depth, 61));
     line(
+        to,
+        b"caller's place",
+        take_caller(&mut active, depth) as usize,
+    );
+    line(
+        to,
         b"caller's place again",
         take_caller(&mut active, depth) as usize,
     );
-    line(b"popped to", pop(depth));
-    cycle(k);
+    line(to, b"popped to", pop(depth));
+    cycle(to, k);
 }
 
 // Whether the entries from one up to the top are of coinductive tables: all are, and then all but table 9.
-fn cycle(k: Stack) {
+fn cycle(to: Stdout, k: Stack) {
     let table = k.table;
     let depth = k.depth;
     let mut coinductive = [1u8; MOST_TABLES];
     line(
+        to,
         b"coinductive from 5",
         one(coinductive_from(&table, &coinductive, 5, depth)),
     );
     set_flag(&mut coinductive, 9, false);
     line(
+        to,
         b"coinductive from 5",
         one(coinductive_from(&table, &coinductive, 5, depth)),
     );
     line(
+        to,
         b"coinductive from 10",
         one(coinductive_from(&table, &coinductive, 10, depth)),
     );
@@ -143,15 +152,15 @@ fn made(ts: Tables) -> Tables {
 }
 
 // 64 tables and not 65, found by their goals.
-pub(crate) fn goals() {
+pub(crate) fn goals(to: Stdout) {
     let ts = made(blank_tables());
     let goal = ts.goal;
     let complete = ts.complete;
     let coinductive = ts.coinductive;
     let count = ts.count;
-    line(b"tables", count);
-    line(b"goal 12 is table", index_of(&goal, count, 12));
-    line(b"goal 9 is none:", index_of(&goal, count, 9));
-    line(b"complete", one(flag_at(&complete, 3)));
-    line(b"coinductive", one(flag_at(&coinductive, 3)));
+    line(to, b"tables", count);
+    line(to, b"goal 12 is table", index_of(&goal, count, 12));
+    line(to, b"goal 9 is none:", index_of(&goal, count, 9));
+    line(to, b"complete", one(flag_at(&complete, 3)));
+    line(to, b"coinductive", one(flag_at(&coinductive, 3)));
 }

@@ -5,6 +5,7 @@ ghost use Rattle.stores_run.specs.Owner.{kept_by, Keeps};
 
 use crate::words::{line, one};
 use rings::ring_at;
+use std::io::Stdout;
 use stores::places::Places;
 use stores::table::{
     Answers, PushAnswer, answer_count, any_answer, blank_answers, number_answer, push_answer,
@@ -106,22 +107,22 @@ fn count(a: Answers, t: u8) -> usize {
     n as usize
 }
 
-pub(crate) fn outcomes() {
+pub(crate) fn outcomes(to: Stdout) {
     let a = keep(blank_answers(), 2, answer(7, 0, false));
-    line(b"new", a.what as usize);
+    line(to, b"new", a.what as usize);
     let b = keep(a.answers, 2, answer(7, 0, false));
-    line(b"the same again", b.what as usize);
+    line(to, b"the same again", b.what as usize);
     let c = keep(b.answers, 2, answer(7, 4, false));
-    line(b"with another delayed goal", c.what as usize);
+    line(to, b"with another delayed goal", c.what as usize);
     let d = keep(c.answers, 2, answer(8, 0, true));
-    line(b"ambiguous", d.what as usize);
+    line(to, b"ambiguous", d.what as usize);
     let e = keep(d.answers, 2, answer(8, 0, true));
-    line(b"ambiguous again", e.what as usize);
+    line(to, b"ambiguous again", e.what as usize);
     let f = keep(e.answers, 2, answer(8, 0, false));
-    line(b"and then not", f.what as usize);
-    line(b"answers", count(f.answers, 2));
-    line(b"from 2 on variant 8", future(f.answers, 2, 8));
-    line(b"from 2 on variant 7", future(f.answers, 2, 7));
+    line(to, b"and then not", f.what as usize);
+    line(to, b"answers", count(f.answers, 2));
+    line(to, b"from 2 on variant 8", future(f.answers, 2, 8));
+    line(to, b"from 2 on variant 7", future(f.answers, 2, 7));
 }
 
 fn future(a: Answers, from: usize, variant: u16) -> usize {
@@ -168,15 +169,15 @@ fn fill(a: Answers) -> Filled {
     }
 }
 
-pub(crate) fn limit() {
+pub(crate) fn limit(to: Stdout) {
     let f = fill(blank_answers());
-    line(b"answers of 257:", f.count);
-    line(b"the last", f.last as usize);
-    line(b"answers of table 3", count(f.answers, 3));
+    line(to, b"answers of 257:", f.count);
+    line(to, b"the last", f.last as usize);
+    line(to, b"answers of table 3", count(f.answers, 3));
     let p = f.answers.places;
     let next = p.next;
     let tail = p.tail;
     let len = p.len;
-    line(b"the fifth at place", ring_at(&next, &tail, &len, 3, 4));
-    line(b"past the end", ring_at(&next, &tail, &len, 3, 64));
+    line(to, b"the fifth at place", ring_at(&next, &tail, &len, 3, 4));
+    line(to, b"past the end", ring_at(&next, &tail, &len, 3, 64));
 }

@@ -7,16 +7,17 @@ mod kept; // kept.rt: the answers
 mod frames; // frames.rt: tables, stack, delayed goals
 mod words; // words.rt: what is written
 
-fn main() {
-    queues::rotation();
-    queues::limit();
-    queues::first_strands();
-    taking::one_queue();
-    taking::last_of_256();
-    taking::two_queues();
-    kept::outcomes();
-    kept::limit();
-    frames::delays();
-    frames::entries();
-    frames::goals();
+fn main(rt: HostRuntime) {
+    let to = rt.stdout();
+    queues::rotation(to);
+    queues::limit(to);
+    queues::first_strands(to);
+    taking::one_queue(to);
+    taking::last_of_256(to);
+    taking::two_queues(to);
+    kept::outcomes(to);
+    kept::limit(to);
+    frames::delays(to);
+    frames::entries(to);
+    frames::goals(to);
 }

@@ -6,6 +6,7 @@ ghost use Rattle.stores_run.specs.Owner.{Puts, Takes, Clears};
 use crate::words::{line, number, one};
 use rings::{ring_at, ring_enqueue, ring_move};
 use sizes::{MOST_CLAUSES, PLACES};
+use std::io::Stdout;
 use stores::places::{Places, in_use, take_place};
 use stores::queue::{Strands, blank_strands, fresh_places, number_strand, take_strand};
 use strands::Strand;
@@ -148,7 +149,7 @@ fn used(s: Strands) -> usize {
 }
 
 // The variants along a queue, at most eight.
-fn along(s: Strands, t: u8) {
+fn along(to: Stdout, s: Strands, t: u8) {
     let p = s.places;
     let next = p.next;
     let tail = p.tail;
@@ -159,30 +160,30 @@ fn along(s: Strands, t: u8) {
         let q = ring_at(&next, &tail, &len, t, i);
         if q < 256 {
             let x = strands[q];
-            number(x.variant);
+            number(to, x.variant);
         }
         i = i + 1;
     }
 }
 
-pub(crate) fn show(s: Strands, t: u8) {
-    io::write_all(1, b"queue ");
-    along(s, t);
-    io::write_all(1, b"\n");
+pub(crate) fn show(to: Stdout, s: Strands, t: u8) {
+    let _ = print!(to; "queue ");
+    along(to, s, t);
+    let _ = println!(to;);
 }
 
 // Strands 1 2 3, of which 2 may be taken first: it leaves 3 1.
-pub(crate) fn rotation() {
+pub(crate) fn rotation(to: Stdout) {
     let a = put(blank_strands(), 5, 9, strand(1));
     let b = put(a.strands, 5, 1, strand(2));
     let c = put(b.strands, 5, 9, strand(3));
-    show(c.strands, 5);
+    show(to, c.strands, 5);
     let d = take(c.strands, 5, 2);
-    line(b"taken at place", d.place);
-    show(d.strands, 5);
+    line(to, b"taken at place", d.place);
+    show(to, d.strands, 5);
     let e = take(d.strands, 5, 2);
-    line(b"none: place", e.place);
-    line(b"in use", used(e.strands));
+    line(to, b"none: place", e.place);
+    line(to, b"in use", used(e.strands));
 }
 
 #[derive(Clone, Copy)]
@@ -210,17 +211,17 @@ fn fill(s: Strands) -> Filled {
 }
 
 // 256 strands and not 257; the places of a queue that is cleared are used again.
-pub(crate) fn limit() {
+pub(crate) fn limit(to: Stdout) {
     let f = fill(blank_strands());
-    line(b"strands of 300:", f.count);
-    line(b"in use", used(f.strands));
-    show(f.strands, 1);
+    line(to, b"strands of 300:", f.count);
+    line(to, b"in use", used(f.strands));
+    show(to, f.strands, 1);
     let s = clear(f.strands, 1);
-    line(b"in use", used(s));
+    line(to, b"in use", used(s));
     let g = fill(s);
-    line(b"strands of 300:", g.count);
-    line(b"in use", used(g.strands));
-    show(g.strands, 1);
+    line(to, b"strands of 300:", g.count);
+    line(to, b"in use", used(g.strands));
+    show(to, g.strands, 1);
 }
 
 // Fresh places at the end of a table's queue, for `count` clauses from `first` on: no strand is written.
@@ -313,7 +314,7 @@ fn pursue(s: Strands, t: u8, clock: u64) -> Strands {
 }
 
 // What the places along a queue wait on and want, and their variants: of at most four.
-fn beside(s: Strands, t: u8) {
+fn beside(to: Stdout, s: Strands, t: u8) {
     let p = s.places;
     let next = p.next;
     let tail = p.tail;
@@ -325,31 +326,31 @@ fn beside(s: Strands, t: u8) {
     while i < 4 {
         let q = ring_at(&next, &tail, &len, t, i);
         if q < 256 {
-            number(waits[q] as u16);
-            number(wants[q]);
-            number(variant[q]);
+            number(to, waits[q] as u16);
+            number(to, wants[q]);
+            number(to, variant[q]);
         }
         i = i + 1;
     }
 }
 
-fn show_beside(s: Strands, t: u8) {
-    io::write_all(1, b"beside ");
-    beside(s, t);
-    io::write_all(1, b"\n");
+fn show_beside(to: Stdout, s: Strands, t: u8) {
+    let _ = print!(to; "beside ");
+    beside(to, s, t);
+    let _ = println!(to;);
 }
 
 // A table of clauses 3 and 4: its places are fresh, and the strands are written one after the other as they are pursued.
-pub(crate) fn first_strands() {
+pub(crate) fn first_strands(to: Stdout) {
     let mut variants = [0u16; MOST_CLAUSES];
     variants[3] = 30;
     variants[4] = 40;
     let s = begin(blank_strands(), variants, [0; PLACES], 2, 3, 2);
-    show_beside(s, 2);
+    show_beside(to, s, 2);
     let a = pursue(s, 2, 1);
-    show_beside(a, 2);
+    show_beside(to, a, 2);
     let b = pursue(a, 2, 1);
-    show_beside(b, 2);
-    show(b, 2);
-    line(b"in use", used(b));
+    show_beside(to, b, 2);
+    show(to, b, 2);
+    line(to, b"in use", used(b));
 }

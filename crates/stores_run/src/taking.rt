@@ -3,6 +3,7 @@
 use crate::queues::{put, show, strand, take};
 use crate::words::{line, number, one};
 use rings::ring_at;
+use std::io::Stdout;
 use stores::places::Places;
 use stores::queue::{Strands, blank_strands};
 
@@ -27,7 +28,7 @@ fn filled(count: u16, by_turns: bool, which: u16) -> Strands {
 }
 
 // How many links, ends and lengths are other than they were.
-fn compare(p: Places, r: Places) {
+fn compare(to: Stdout, p: Places, r: Places) {
     let next = p.next;
     let tail = p.tail;
     let len = p.len;
@@ -44,47 +45,47 @@ fn compare(p: Places, r: Places) {
         lengths = lengths + one(len[i] != len_then[i]);
         i = i + 1;
     }
-    line(b"links changed", links);
-    line(b"ends changed", ends);
-    line(b"lengths changed", lengths);
+    line(to, b"links changed", links);
+    line(to, b"ends changed", ends);
+    line(to, b"lengths changed", lengths);
 }
 
-fn waiting(p: Places, t: u8) {
+fn waiting(to: Stdout, p: Places, t: u8) {
     let len = p.len;
-    line(b"waiting", len[t as usize] as usize);
+    line(to, b"waiting", len[t as usize] as usize);
 }
 
 // The first of table 5's queue that may be taken, and what that changes.
-fn take_from(s: Strands) -> Strands {
-    show(s, 5);
+fn take_from(to: Stdout, s: Strands) -> Strands {
+    show(to, s, 5);
     let d = take(s, 5, 2);
-    line(b"taken at place", d.place);
+    line(to, b"taken at place", d.place);
     let r = d.strands;
-    show(r, 5);
-    waiting(r.places, 5);
-    compare(s.places, r.places);
+    show(to, r, 5);
+    waiting(to, r.places, 5);
+    compare(to, s.places, r.places);
     r
 }
 
 // From 1 2 3 4 the first, the second and the last; none of them; and the only one.
-pub(crate) fn one_queue() {
-    take_from(filled(4, false, 1));
-    take_from(filled(4, false, 2));
-    take_from(filled(4, false, 4));
-    take_from(filled(4, false, 0));
-    take_from(filled(1, false, 1));
+pub(crate) fn one_queue(to: Stdout) {
+    take_from(to, filled(4, false, 1));
+    take_from(to, filled(4, false, 2));
+    take_from(to, filled(4, false, 4));
+    take_from(to, filled(4, false, 0));
+    take_from(to, filled(1, false, 1));
 }
 
 // The last of 256 in one queue: the one before it is the last then.
-pub(crate) fn last_of_256() {
-    let r = take_from(filled(256, false, 256));
+pub(crate) fn last_of_256(to: Stdout) {
+    let r = take_from(to, filled(256, false, 256));
     let p = r.places;
     let tail = p.tail;
-    line(b"the last at place", tail[5] as usize);
+    line(to, b"the last at place", tail[5] as usize);
 }
 
 // The places along a queue, at most eight, each with the one that its link leads to.
-fn links(s: Strands, t: u8) {
+fn links(to: Stdout, s: Strands, t: u8) {
     let p = s.places;
     let next = p.next;
     let tail = p.tail;
@@ -93,25 +94,25 @@ fn links(s: Strands, t: u8) {
     while i < 8 {
         let q = ring_at(&next, &tail, &len, t, i);
         if q < 256 {
-            number(q as u16);
-            number(next[q] as u16);
+            number(to, q as u16);
+            number(to, next[q] as u16);
         }
         i = i + 1;
     }
 }
 
-fn show_links(s: Strands, t: u8) {
-    io::write_all(1, b"links ");
-    links(s, t);
-    io::write_all(1, b"\n");
+fn show_links(to: Stdout, s: Strands, t: u8) {
+    let _ = print!(to; "links ");
+    links(to, s, t);
+    let _ = println!(to;);
 }
 
 // Two queues by turns in one store: from the one the third is taken, and the other's links are as they were.
-pub(crate) fn two_queues() {
+pub(crate) fn two_queues(to: Stdout) {
     let s = filled(8, true, 5);
-    show(s, 6);
-    show_links(s, 6);
-    let r = take_from(s);
-    show(r, 6);
-    show_links(r, 6);
+    show(to, s, 6);
+    show_links(to, s, 6);
+    let r = take_from(to, s);
+    show(to, r, 6);
+    show_links(to, r, 6);
 }

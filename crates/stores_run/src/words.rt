@@ -2,16 +2,15 @@
 ghost use Rattle.std.specs.Prelude.{◌≡◌, ◌≤◌};
 ghost use Rattle.stores.specs.Numbers.{flag_number};
 
-pub(crate) fn line(words: &[u8], n: usize) {
-    io::write_all(1, words);
-    io::write_all(1, b" ");
-    io::print_decimal(1, n as u64);
-    io::write_all(1, b"\n");
+use std::io::Stdout;
+
+pub(crate) fn line(to: Stdout, words: &[u8], n: usize) {
+    let _ = to.write_all(words);
+    let _ = println!(to; " {n}");
 }
 
-pub(crate) fn number(n: u16) {
-    io::print_decimal(1, n as u64);
-    io::write_all(1, b" ");
+pub(crate) fn number(to: Stdout, n: u16) {
+    let _ = print!(to; "{n} ");
 }
 
 pub(crate) fn one(b: bool) -> usize

@@ -5,30 +5,35 @@
 #![tactic(auto)]
 
 use intake::input;
+use pen::Streams;
 use sizes::READ_AHEAD;
 use xsb_export::export::export;
 
 // What an input comes to is settled by its first 20,480 bytes (`export_take`, in the proofs of `xsb_export`): what follows is not read.
 // The longest text is 25,334 bytes: 64 lines of at most 16 for the goals, and 256 of at most 95 for the clauses. So it is all in the buffer
 // when it is written, and none is written before: whether it could be written is known. So are the lines of a refusal, at most 116 bytes.
-fn answer(bytes: &[u8]) {
+fn answer(to: Streams, bytes: &[u8]) {
     let mut out = [0u8; 32768];
     let mut lines = [0u8; 128];
-    let exported = export(&mut out, &mut lines, bytes);
-    pen::tell(&lines, exported.told);
-    if !pen::flush(&out, exported.used) {
-        io::write_all(2, b"to_xsb: the text can't be written\n");
+    let exported = export(to, &mut out, &mut lines, bytes);
+    pen::tell(to, &lines, exported.told);
+    if !pen::flush(to, &out, exported.used) {
+        let _ = eprintln!(to.errors; "to_xsb: the text can't be written");
     }
 }
 
-fn main() {
+fn main(rt: HostRuntime) {
+    let to = Streams {
+        output: rt.stdout(),
+        errors: rt.stderr(),
+    };
     let mut bytes = [0u8; READ_AHEAD];
-    let got = input(&mut bytes);
+    let got = input(&mut rt.stdin(), &mut bytes);
     // Where the input can't be read, that is said, and nothing is taken for a book.
     if !got.whole {
-        io::write_all(2, b"to_xsb: the input can't be read\n");
+        let _ = eprintln!(to.errors; "to_xsb: the input can't be read");
         return;
     }
     let n = got.count;
-    answer(&bytes[..n]);
+    answer(to, &bytes[..n]);
 }

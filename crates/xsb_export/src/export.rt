@@ -12,6 +12,7 @@ use book::Book;
 use book::access::{clause_count, first_clause};
 use paper_checks::paper::plain;
 use paper_checks::place::not_plain;
+use pen::Streams;
 use pen::refusals::refusal;
 use places::place;
 
@@ -24,26 +25,26 @@ pub struct Exported {
     pub told: usize,
 }
 
-fn table_line(out: &mut [u8], at: usize, goal: usize) -> usize
+fn table_line(to: Streams, out: &mut [u8], at: usize, goal: usize) -> usize
     ensures { pen out.new result ≡ put_all (tableLine goal) (pen out.old at) }
 {
-    let named = pen::counted(out, at, b":- table g", goal as u64);
-    pen::text(out, named, b"/0.\n")
+    let named = pen::counted(to, out, at, b":- table g", goal as u64);
+    pen::text(to, out, named, b"/0.\n")
 }
 
-fn table_lines(out: &mut [u8], at: usize, goals: usize) -> usize
+fn table_lines(to: Streams, out: &mut [u8], at: usize, goals: usize) -> usize
     ensures { pen out.new result ≡ put_all (tableLines goals) (pen out.old at) }
 {
     let mut used = at;
     let mut g: usize = 0;
     while g < goals {
-        used = table_line(out, used, g);
+        used = table_line(to, out, used, g);
         g += 1;
     }
     used
 }
 
-fn rules(out: &mut [u8], at: usize, b: Book) -> usize
+fn rules(to: Streams, out: &mut [u8], at: usize, b: Book) -> usize
     requires { Sound b }
     ensures { pen out.new result ≡ put_all (rule_lines (rules_from 0 (view b))) (pen out.old at) }
 {
@@ -58,28 +59,29 @@ fn rules(out: &mut [u8], at: usize, b: Book) -> usize
     while g < b.goals {
         let first = first_clause(&goal_first, g);
         let count = clause_count(&goal_len, g);
-        used = rule_lines(out, used, &len, &kind, &goal, &want, g, first, count);
+        used = rule_lines(to, out, used, &len, &kind, &goal, &want, g, first, count);
         g += 1;
     }
     used
 }
 
-fn book_text(out: &mut [u8], at: usize, b: Book) -> usize
+fn book_text(to: Streams, out: &mut [u8], at: usize, b: Book) -> usize
     requires { Sound b }
     ensures { pen out.new result ≡ put_all (export_of (view b)) (pen out.old at) }
 {
-    let tabled = table_lines(out, at, b.goals);
-    rules(out, tabled, b)
+    let tabled = table_lines(to, out, at, b.goals);
+    rules(to, out, tabled, b)
 }
 
 // A refusal's lines, from the start of the buffer on; behind those of 37 the place that is not plain first.
-fn refused(told: &mut [u8], number: u8, bytes: &[u8]) -> usize
+fn refused(to: Streams, told: &mut [u8], number: u8, bytes: &[u8]) -> usize
     ensures { pen told.new result
         ≡ put_all (lines_of number (not_plain_place bytes.now)) (pen told.old 0) }
 {
-    let lines = refusal(told, 0, number);
+    let lines = refusal(to, told, 0, number);
     let p = not_plain(bytes);
     place(
+        to,
         told,
         lines,
         p.what,
@@ -93,14 +95,14 @@ fn refused(told: &mut [u8], number: u8, bytes: &[u8]) -> usize
 
 // Both are put down from the start of their buffers on: `out` is for standard output, `told` for standard error. Where the paper is
 // refused, there is no text; where it is not, there are no lines.
-pub fn export(out: &mut [u8], told: &mut [u8], bytes: &[u8]) -> Exported
+pub fn export(to: Streams, out: &mut [u8], told: &mut [u8], bytes: &[u8]) -> Exported
     ensures { (result.number, pen out.new result.used, pen told.new result.told)
         ≡ exported (check_export bytes.now) (not_plain_place bytes.now)
         (pen out.old 0) (pen told.old 0) }
 {
     let paper = plain(bytes);
     if paper.number != 0 {
-        let lines = refused(told, paper.number, bytes);
+        let lines = refused(to, told, paper.number, bytes);
         return Exported {
             number: paper.number,
             used: 0,
@@ -108,7 +110,7 @@ pub fn export(out: &mut [u8], told: &mut [u8], bytes: &[u8]) -> Exported
         };
     }
     let b = paper.book;
-    let used = book_text(out, 0, b);
+    let used = book_text(to, out, 0, b);
     Exported {
         number: 0,
         used,

@@ -9,20 +9,22 @@ ghost use Rattle.xsb_export.specs.Exporting.{literal_said, rule_read};
 
 use book::Literal;
 use book::access::{is_negative, literal_at, literal_count};
+use pen::Streams;
 use sizes::{BOOK_LITERALS, MOST_CLAUSES};
 
-fn literal(out: &mut [u8], at: usize, l: Literal) -> usize
+fn literal(to: Streams, out: &mut [u8], at: usize, l: Literal) -> usize
     ensures { pen out.new result ≡ put_all (literal_text (meant l)) (pen out.old at) }
 {
     if is_negative(l) {
-        let named = pen::counted(out, at, b"tnot(g", l.goal as u64);
-        return pen::text(out, named, b")");
+        let named = pen::counted(to, out, at, b"tnot(g", l.goal as u64);
+        return pen::text(to, out, named, b")");
     }
-    pen::counted(out, at, b"g", l.goal as u64)
+    pen::counted(to, out, at, b"g", l.goal as u64)
 }
 
 // The literals of clause c behind its first, of so many in all.
 fn more(
+    to: Streams,
     out: &mut [u8],
     at: usize,
     kind: &[u8; BOOK_LITERALS],
@@ -38,14 +40,15 @@ fn more(
     let mut used = at;
     let mut j: usize = 1;
     while j < count {
-        let apart = pen::text(out, used, b", ");
-        used = literal(out, apart, literal_at(kind, goal, want, c, j));
+        let apart = pen::text(to, out, used, b", ");
+        used = literal(to, out, apart, literal_at(kind, goal, want, c, j));
         j += 1;
     }
     used
 }
 
 fn body(
+    to: Streams,
     out: &mut [u8],
     at: usize,
     len: &[u8; MOST_CLAUSES],
@@ -62,13 +65,14 @@ fn body(
     if count == 0 {
         return at;
     }
-    let apart = pen::text(out, at, b" :- ");
-    let first = literal(out, apart, literal_at(kind, goal, want, c, 0));
-    more(out, first, kind, goal, want, c, count)
+    let apart = pen::text(to, out, at, b" :- ");
+    let first = literal(to, out, apart, literal_at(kind, goal, want, c, 0));
+    more(to, out, first, kind, goal, want, c, count)
 }
 
 // The line of clause c, of the goal that is given.
 fn rule_line(
+    to: Streams,
     out: &mut [u8],
     at: usize,
     len: &[u8; MOST_CLAUSES],
@@ -82,13 +86,14 @@ fn rule_line(
         (ruleLine (rule_read len.now kind.now goal.now want.now head c))
         (pen out.old at) }
 {
-    let named = pen::counted(out, at, b"g", head as u64);
-    let worded = body(out, named, len, kind, goal, want, c);
-    pen::text(out, worded, b".\n")
+    let named = pen::counted(to, out, at, b"g", head as u64);
+    let worded = body(to, out, named, len, kind, goal, want, c);
+    pen::text(to, out, worded, b".\n")
 }
 
 // The lines of so many clauses from `first` on, of the goal that is given.
 pub(crate) fn rule_lines(
+    to: Streams,
     out: &mut [u8],
     at: usize,
     len: &[u8; MOST_CLAUSES],
@@ -107,7 +112,7 @@ pub(crate) fn rule_lines(
     let mut used = at;
     let mut k: usize = 0;
     while k < count {
-        used = rule_line(out, used, len, kind, goal, want, head, first + k);
+        used = rule_line(to, out, used, len, kind, goal, want, head, first + k);
         k += 1;
     }
     used
