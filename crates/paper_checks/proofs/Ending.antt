@@ -14,7 +14,7 @@ use Rattle.laws.proofs.Spans.{length_span}
 use Rattle.definitions.specs.Book as said
 use Rattle.definitions.specs.Lists.{same}
 use Rattle.papers.specs.Model.{clauses_of}
-use Rattle.papers.specs.Levels.{level_in, larger, literal_asks, literals_ask, clauses_ask, pass, passes, settled, levels as levelsOf}
+use Rattle.papers.specs.Levels.{level_in, larger, literal_asks, literals_ask, clauses_ask, pass, passes, levels as levelsOf}
 use Rattle.papers.proofs.Passes.{pass_at, start_at, length_passes, passes_small}
 use Rattle.papers.proofs.Levels.{levels_of_unchanged, same_are}
 use Rattle.book.specs.declared.Book.{Book}

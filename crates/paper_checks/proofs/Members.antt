@@ -37,7 +37,7 @@ module _ {A : Type 0} (f : ℕ → A) where
       Memᴰ.tail (subst (λ (i : ℕ). Memᴰ (f i) (span f (suc s) n)) e (mem_span (suc s) n k (omega arith)))
 
   pub span_mem : (s n : ℕ) (a : A) → Memᴰ a (span f s n) → (k : ℕ) × (k < n) × (a ≡ f (s + k))
-  span_mem s zero a m = absurd (Memᴰ.not_nil m)
+  span_mem s zero a m = absurd (Memᴰ.not-nil m)
   span_mem s (suc n) a m =
       ⊎_elim (λ e. let z : s ≡ s + 0 = omega arith in (0, omega arith, e ∙ ap f z))
       (λ l. let r = span_mem (suc s) n a l in

@@ -1,6 +1,6 @@
 -- Where a book is not plain first, by its arrays: the fault of a literal, of a clause's head and of a goal; and the loops over literals,
 -- clauses and goals. What is left decides, as long as nothing before it has a fault.
-use Prim.Native.Nat.{ℕ, zero, suc, ◌+◌, ◌-◌, ◌%◌, ◌≤◌, ◌<◌}
+use Prim.Native.Nat.{ℕ, zero, suc, ◌+◌, ◌%◌, ◌≤◌, ◌<◌}
 use native.Mathlib.Omega.{arith}
 use mathlib.Core.Path.{◌≡◌, refl, sym, ap, ap₂, subst, ◌∙◌}
 use mathlib.Core.Bool.{Bool, true, false}

@@ -1,5 +1,5 @@
 -- What the byte behind a head or a literal does.
-use Prim.Native.Nat.{ℕ, ◌-◌, ◌≤◌, ◌<◌}
+use Prim.Native.Nat.{ℕ, ◌≤◌, ◌<◌}
 use native.Mathlib.Omega.{arith}
 use mathlib.Core.Path.{◌≡◌, refl, sym, ap, subst, ◌∙◌}
 use mathlib.Core.Bool.{Bool, true, false, ◌&&◌, false≢true}
@@ -10,7 +10,7 @@ use borrow.Author.Tests.{eq-eqb, ne_eqb, lt-ltb, le-ltb, le-leb, lt-leb}
 use Rattle.definitions.specs.Text.{ascii}
 use Rattle.definitions.specs.Lists.{push, is_empty}
 use Rattle.definitions.specs.Book.{any, Literal, Positive, Negative}
-use Rattle.papers.specs.Xsb.{Rule, What, head, positive, negative, Place, number, literal, behind, comes, State, at, if_so}
+use Rattle.papers.specs.Xsb.{Rule, head, positive, negative, Place, number, literal, behind, comes, State, at, if_so}
 use Rattle.papers.specs.Xsb.{with_head, with_literal, rule_read, head_fits, behind_literal, behind_head, ends, step_at}
 use Rattle.definitions.proofs.Lists.{is_empty_push}
 use Rattle.xsb_import.specs.declared.Spot.{Spot}

@@ -8,7 +8,7 @@ use mathlib.Core.List.{List}
 use lib.Dec.{eqb, leb}
 use borrow.Author.Tests.{eq-eqb, ne_eqb, le-leb, lt-leb, leb-true}
 use Rattle.definitions.specs.Lists.{is_empty}
-use Rattle.papers.specs.Xsb.{Rule, What, table, head, positive, negative, Place, number, behind, State, at, if_so}
+use Rattle.papers.specs.Xsb.{Rule, What, table, head, positive, negative, Place, number, State, at, if_so}
 use Rattle.papers.specs.Xsb.{counted, table_read, is_digit, more_digits, with_digit, ends, ends_if, step_at}
 use Rattle.definitions.proofs.Desk.{and_both}
 use Rattle.papers.proofs.XsbReads.{digit_step}
