@@ -25,11 +25,14 @@ module _ (next tail len : List ℕ) (top : ℕ) where
   took_at a b ea eb next' len' top' r er ep = record { is = rw (ea, eb) er; left = rw (ea, eb) ep }
 
   pub took_free : 0 < get_or len 64 0 → (next' len' : List ℕ) (r : ℕ) → r ≡ place_if (has_any len 64) (get_or next (get_or tail 64 0) 0)
-      → next' ≡ popped_next (has_any len 64) next (get_or tail 64 0) → len' ≡ shortened len 64 → TookPlace next tail len top next' len' top r
+      → next' ≡ popped_next (has_any len 64) next (get_or tail 64 0) → len' ≡ shortened len 64
+      → TookPlace next tail len top next' len' top r
   took_free h next' len' r er en el =
       let has : has_any len 64 ≡ true = lt-ltb 0 (get_or len 64 0) h in
       took_at true (any_unused p) has refl next' len' top r
-      (er ∙ ap (λ (b : Bool). place_if b (get_or next (get_or tail 64 0) 0)) has ∙ sym (walk_at (get_or len 64 0) next (get_or tail 64 0) 0 h))
+      (er
+      ∙ ap (λ (b : Bool). place_if b (get_or next (get_or tail 64 0) 0)) has
+      ∙ sym (walk_at (get_or len 64 0) next (get_or tail 64 0) 0 h))
       (ap₂ (λ (x y : List ℕ). places x tail y top) (en ∙ ap (λ (b : Bool). popped_next b next (get_or tail 64 0)) has) el)
 
   pub took_begun : get_or len 64 0 ≤ 0 → top < 256 → TookPlace next tail len top next len (top + 1) top

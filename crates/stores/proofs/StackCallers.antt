@@ -171,7 +171,8 @@ pub active_held : (l : List ℕ) (n i : ℕ) → i < n → (get_or l i 0 ≡ mos
 active_held l zero i h d = absurd (omega arith)
 active_held l (suc n) i h d = at (eqb i n) refl (λ k. active_held l n i k d)
   where
-    at : (b : Bool) → eqb i n ≡ b → (i < n → 1 ≤ times (get_or l i 0) (active_places l n)) → 1 ≤ times (get_or l i 0) (active_places l (suc n))
+    at : (b : Bool) → eqb i n ≡ b → (i < n → 1 ≤ times (get_or l i 0) (active_places l n))
+        → 1 ≤ times (get_or l i 0) (active_places l (suc n))
     at true e below =
         subst (λ (j : ℕ). (get_or l j 0 ≡ most_places → ⊥) → 1 ≤ times (get_or l j 0) (active_places l (suc n))) (sym (eqb-true i n e))
         (λ o. rw (place_some l n o) (omega (arith, times_self (get_or l n 0)))) d

@@ -42,7 +42,8 @@ module _ (goal i : ℕ) (goals : List ℕ) (i_in : i < length goals) where
   abbrev kept_of : ℕ → List ℕ
   kept_of k = other_than goal (take k goals)
 
-  pub turn_kept : (kept : List ℕ) (count : ℕ) → (get_or goals i 0 ≡ goal → ⊥) → record { count = count; goals = kept } ≡ goals_of (kept_of i)
+  pub turn_kept : (kept : List ℕ) (count : ℕ) → (get_or goals i 0 ≡ goal → ⊥)
+      → record { count = count; goals = kept } ≡ goals_of (kept_of i)
       → record { count = count + 1; goals = set kept count (get_or goals i 0) } ≡ goals_of (kept_of (i + 1))
   turn_kept kept count h e =
       let d : ℕ = get_or goals i 0 in

@@ -8,7 +8,8 @@ use Rattle.pen.proofs.Goals.{words_left}
 use Rattle.certify.proofs.lines.goal_lines.Given as goal
 
 abbrev pub invariant-loop-g : goal.invariant-loop-g
-invariant-loop-g l = (length l.out ≡ length l.initial.out) × (put_all (words_left (line_told l.what l.clause l.literal) l.by l.g) (pen l.out l.used)
+invariant-loop-g l =
+    (length l.out ≡ length l.initial.out) × (put_all (words_left (line_told l.what l.clause l.literal) l.by l.g) (pen l.out l.used)
     ≡ put_all (words_left (line_told l.what l.clause l.literal) l.by 0) (pen l.initial.out l.initial.used))
 
 abbrev pub decreases-loop-g : goal.decreases-loop-g

@@ -8,7 +8,8 @@ use Rattle.inspect.proofs.missing.clauses.Given as goal
 
 abbrev pub invariant-loop-k : goal.invariant-loop-k
 invariant-loop-k l = (l.k ≤ l.count) × (l.count < 65536) × (l.first < 65536) × (length l.out ≡ length l.initial.out) ×
-    (put_all (clauses_left l.book l.g l.first l.count l.k) (pen l.out l.used) ≡ put_all (clauses_left l.book l.g l.first l.count 0) (pen l.initial.out l.initial.used))
+    (put_all (clauses_left l.book l.g l.first l.count l.k) (pen l.out l.used)
+    ≡ put_all (clauses_left l.book l.g l.first l.count 0) (pen l.initial.out l.initial.used))
 
 abbrev pub decreases-loop-k : goal.decreases-loop-k
 decreases-loop-k l = l.count - l.k

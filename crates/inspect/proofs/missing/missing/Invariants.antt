@@ -7,7 +7,9 @@ use lib.ListN.{length}
 use Rattle.inspect.proofs.missing.missing.Given as goal
 
 abbrev pub invariant-loop-g : goal.invariant-loop-g
-invariant-loop-g l = (length l.out ≡ length l.initial.out) × (put_all (goals_left l.book l.g) (pen l.out l.used) ≡ put_all (goals_left l.book 0) (pen l.initial.out l.initial.used))
+invariant-loop-g l =
+    (length l.out ≡ length l.initial.out) × (put_all (goals_left l.book l.g) (pen l.out l.used)
+    ≡ put_all (goals_left l.book 0) (pen l.initial.out l.initial.used))
 
 abbrev pub decreases-loop-g : goal.decreases-loop-g
 decreases-loop-g l = l.book.goals - l.g

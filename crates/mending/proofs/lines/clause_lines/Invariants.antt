@@ -7,7 +7,9 @@ use Rattle.mending.proofs.Telling.{clauses_left}
 use Rattle.mending.proofs.lines.clause_lines.Given as goal
 
 abbrev pub invariant-loop-c : goal.invariant-loop-c
-invariant-loop-c l = (length l.out ≡ length l.initial.out) × (l.c ≡ l.first + l.number) × (put_all (clauses_left l.codes l.goal l.first l.count l.number) (pen l.out l.used)
+invariant-loop-c l =
+    (length l.out ≡ length l.initial.out) × (l.c ≡ l.first + l.number)
+    × (put_all (clauses_left l.codes l.goal l.first l.count l.number) (pen l.out l.used)
     ≡ put_all (clauses_left l.codes l.goal l.first l.count 0) (pen l.initial.out l.initial.used))
 
 abbrev pub decreases-loop-c : goal.decreases-loop-c

@@ -7,7 +7,9 @@ use Rattle.mending.proofs.Telling.{goals_left}
 use Rattle.mending.proofs.lines.lines.Given as goal
 
 abbrev pub invariant-loop-g : goal.invariant-loop-g
-invariant-loop-g l = (length l.out ≡ length l.initial.out) × (put_all (goals_left l.b l.g) (pen l.out l.used) ≡ put_all (goals_left l.b 0) (pen l.initial.out 0))
+invariant-loop-g l =
+    (length l.out ≡ length l.initial.out) × (put_all (goals_left l.b l.g) (pen l.out l.used)
+    ≡ put_all (goals_left l.b 0) (pen l.initial.out 0))
 
 abbrev pub decreases-loop-g : goal.decreases-loop-g
 decreases-loop-g l = l.b.goals - l.g

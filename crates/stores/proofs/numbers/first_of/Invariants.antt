@@ -7,7 +7,11 @@ use Rattle.stores.specs.Numbers.{first_at, within}
 use Rattle.stores.proofs.numbers.first_of.Given as goal
 
 abbrev pub invariant-loop-i : goal.invariant-loop-i
-invariant-loop-i l = (l.i ≤ l.m) × (l.m ≡ within l.n) × (l.m ≤ 64) × (first_at (λ j. eqb (get_or l.xs j 0) l.x) l.i (l.m - l.i) ≡ first_at (λ j. eqb (get_or l.xs j 0) l.x) 0 (within l.n))
+invariant-loop-i l =
+    (l.i ≤ l.m)
+    × (l.m ≡ within l.n)
+    × (l.m ≤ 64)
+    × (first_at (λ j. eqb (get_or l.xs j 0) l.x) l.i (l.m - l.i) ≡ first_at (λ j. eqb (get_or l.xs j 0) l.x) 0 (within l.n))
 
 abbrev pub decreases-loop-i : goal.decreases-loop-i
 decreases-loop-i l = l.m - l.i

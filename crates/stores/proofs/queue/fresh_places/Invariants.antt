@@ -11,9 +11,11 @@ use Rattle.stores.proofs.queue.fresh_places.Given as goal
 abbrev pub invariant-loop-left : goal.invariant-loop-left
 invariant-loop-left l = (l.left ≤ most_clauses - l.c)
     × ((strands : List Strand)
-    → fresh_each l.clause_variant l.clause_flags l.t l.left l.c (store strands l.time l.ambiguous l.variant l.waits l.wants (places l.next l.tail l.len l.top))
+    → fresh_each l.clause_variant l.clause_flags l.t l.left l.c
+    (store strands l.time l.ambiguous l.variant l.waits l.wants (places l.next l.tail l.len l.top))
     ≡ fresh_each l.clause_variant l.clause_flags l.t (clauses_from l.first l.count) l.first
-    (store strands l.initial.time l.initial.ambiguous l.initial.variant l.initial.waits l.initial.wants (places l.initial.next l.initial.tail l.initial.len l.initial.top)))
+    (store strands l.initial.time l.initial.ambiguous l.initial.variant l.initial.waits l.initial.wants
+    (places l.initial.next l.initial.tail l.initial.len l.initial.top)))
 
 abbrev pub decreases-loop-left : goal.decreases-loop-left
 decreases-loop-left l = l.left

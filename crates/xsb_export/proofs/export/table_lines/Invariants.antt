@@ -7,7 +7,8 @@ use Rattle.pen.specs.Pen.{pen, put_all}
 use Rattle.xsb_export.proofs.export.table_lines.Given as goal
 
 abbrev pub invariant-loop-g : goal.invariant-loop-g
-invariant-loop-g l = (l.g ≤ l.goals) × (length l.out ≡ length l.initial.out) × (pen l.out l.used ≡ put_all (table_lines l.g) (pen l.initial.out l.at))
+invariant-loop-g l =
+    (l.g ≤ l.goals) × (length l.out ≡ length l.initial.out) × (pen l.out l.used ≡ put_all (table_lines l.g) (pen l.initial.out l.at))
 
 abbrev pub decreases-loop-g : goal.decreases-loop-g
 decreases-loop-g l = l.goals - l.g

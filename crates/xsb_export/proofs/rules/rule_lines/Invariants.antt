@@ -8,7 +8,9 @@ use Rattle.xsb_export.proofs.Exporting.{rules_left}
 use Rattle.xsb_export.proofs.rules.rule_lines.Given as goal
 
 abbrev pub invariant-loop-k : goal.invariant-loop-k
-invariant-loop-k l = (length l.out ≡ length l.initial.out) × (put_all (rules_left (rule_read l.len l.kind l.goal l.want l.head) l.first l.count l.k) (pen l.out l.used)
+invariant-loop-k l =
+    (length l.out ≡ length l.initial.out)
+    × (put_all (rules_left (rule_read l.len l.kind l.goal l.want l.head) l.first l.count l.k) (pen l.out l.used)
     ≡ put_all (rules_left (rule_read l.len l.kind l.goal l.want l.head) l.first l.count 0) (pen l.initial.out l.initial.used))
 
 abbrev pub decreases-loop-k : goal.decreases-loop-k
