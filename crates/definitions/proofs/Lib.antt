@@ -3,6 +3,7 @@ pub mod Lists
 pub mod Refusal
 pub mod Members
 pub mod Book
+pub mod Mend
 pub mod RoundTrip
 pub mod Prefix
 pub mod ReadKeeps
