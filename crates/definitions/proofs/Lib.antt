@@ -10,3 +10,4 @@ pub mod ReadKeeps
 pub mod ReadLimits
 pub mod ReadNumbers
 pub mod Desk
+pub mod Cut
