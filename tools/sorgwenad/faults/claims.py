@@ -81,7 +81,7 @@ class Claim:
 
 
 class Demand3(Claim):
-    crate, theorem, statement, proved = "promises", "Demand.demand-3", "Demand3", "demand 3 is proved"
+    crate, theorem, statement, proved = "promises", "Demand.demand_3", "Demand3", "demand 3 is proved"
     also_right, faults = ", and the two sides of each theorem are the same", rows("DEMAND3_FAULTS")
 
     def trim_proofs(self, folder):
@@ -127,7 +127,7 @@ class Demand3(Claim):
 
 class Order2(Claim):
     """Faults of the engine."""
-    crate, theorem, statement, proved = "derivable", "Theorem.book-certified", "BookCertified", "order 2 is proved"
+    crate, theorem, statement, proved = "derivable", "Theorem.book_certified", "BookCertified", "order 2 is proved"
     also_right, faults = "", rows("ORDER2_FAULTS")
 
     def trim_proofs(self, folder):
@@ -166,7 +166,7 @@ class Order2(Claim):
 
 class Order2Beforehand(Order2):
     """Faults of the check which goals are spoilt."""
-    theorem, statement = "Theorem.unspoilt-certified", "UnspoiltCertified"
+    theorem, statement = "Theorem.unspoilt_certified", "UnspoiltCertified"
     also_right, faults = ", and the check returns by which goal each goal is spoilt", rows("SPOILT_FAULTS")
 
     def without(self, fault):

@@ -8,7 +8,7 @@ from sorgwenad.shared import tree
 from sorgwenad.shared.command import with_oracle, with_random
 
 # Where a module that is put into the copy finds the solver's definitions (`%(d)s`), and those of papers and the other modules (`%(p)s`).
-HOMES = {"d": "Rattle·definitions.specs", "p": "Rattle·papers·specs.specs"}
+HOMES = {"d": "Rattle.definitions.specs", "p": "Rattle.papers.specs"}
 # Modules that have computed cases, and nothing that another one needs.
 THEOREMS = r"(?:\w*Cases|Instances)"
 
