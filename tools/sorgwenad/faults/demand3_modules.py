@@ -49,7 +49,7 @@ use %(d)s.Calls.{sitting, Called, calls}
 use %(d)s.Lists.{Each}
 use %(p)s.Model.{Plain, clauses_of, LevelLiteral, Levelled, Holds, holds_end, holds_below, holds_here, holds_not, Below, In}
 use %(p)s.Claim.{AllSay, exceeded, Demand3}
-use %(p)s.Run.{pos, neg, rule, book, forest, asked}
+use %(q)s.Run.{pos, neg, rule, book, forest, asked}
 
 made : make (write book) %(limit)d ≡ accepted forest
 made = refl
@@ -67,7 +67,7 @@ AllLevelled own (g ∷ gs) = Each (λ c. Each (LevelLiteral level (own 0)) c.lit
 
 each_clause : (n : ℕ) (cs : List Clause) → Each (λ c. Each (LevelLiteral level n) c.literals) cs → (c : Clause) → Memᴰ c cs →
     Each (LevelLiteral level n) c.literals
-each_clause n [] e c m = absurd (Memᴰ.not_nil m)
+each_clause n [] e c m = absurd (Memᴰ.not-nil m)
 each_clause n (x ∷ cs) e c m = go (λ k. each_clause n cs e.1 c k) (Memᴰ.cases_cons m)
   where
     go : (Memᴰ c cs → Each (LevelLiteral level n) c.literals) → (c ≡ x) ⊎ Memᴰ c cs → Each (LevelLiteral level n) c.literals
@@ -76,7 +76,7 @@ each_clause n (x ∷ cs) e c m = go (λ k. each_clause n cs e.1 c k) (Memᴰ.cas
 
 each_goal : (own : ℕ → ℕ) (gs : Book) → AllLevelled own gs → (i : ℕ) (c : Clause) → Memᴰ c (clauses_of gs i) →
     Each (LevelLiteral level (own i)) c.literals
-each_goal own [] e i c m = absurd (Memᴰ.not_nil m)
+each_goal own [] e i c m = absurd (Memᴰ.not-nil m)
 each_goal own (g ∷ gs) e zero c m = each_clause (own 0) g.clauses e.0 c m
 each_goal own (g ∷ gs) e (suc i) c m = each_goal (λ i. own (suc i)) gs e.1 i c m
 

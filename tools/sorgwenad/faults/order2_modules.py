@@ -9,7 +9,7 @@ abbrev left_by : ℕ → Forest
 left_by n = get_or (map (λ (c : Called). c.after.forest) (calls (sitting forest) asked)) n forest
 """
 EACH = """each : (P : Clause → Type 0) (cs : List Clause) → Each P cs → (c : Clause) → Memᴰ c cs → P c
-each P [] e c m = absurd (Memᴰ.not_nil m)
+each P [] e c m = absurd (Memᴰ.not-nil m)
 each P (x ∷ cs) e c m = on (λ k. each P cs e.1 c k) (Memᴰ.cases_cons m)
   where
     on : (Memᴰ c cs → P c) → (c ≡ x) ⊎ Memᴰ c cs → P c
@@ -35,7 +35,7 @@ use %(d)s.Calls.{sitting, Called, calls}
 use %(d)s.Lists.{Each}
 use %(p)s.Derive.{Usable, Derives, derives, Derivable, CleanBook}
 use %(p)s.Certified.{BookCertified}
-use %(p)s.Run.{book, forest, asked}
+use %(q)s.Run.{book, forest, asked}
 
 made : make (write book) %(limit)d ≡ accepted forest
 made = refl
@@ -67,7 +67,7 @@ use Rattle.std.proofs.Math.Option.{none, some}
 use %(d)s.Refusal.{accepted}
 use %(d)s.Book.{write}
 use %(p)s.Spoilt.{check_spoilers}
-use %(p)s.%(run)s.{book}
+use %(q)s.%(run)s.{book}
 
 pub reported : check_spoilers (write book) ≡ accepted (%(reported)s)
 reported = refl
@@ -90,8 +90,8 @@ use %(d)s.Calls.{sitting, Called, calls}
 use %(d)s.Lists.{Each}
 use %(p)s.Derive.{Usable, Derives, derives_end, derives, Derivable}
 use %(p)s.Certified.{UnspoiltCertified}
-use %(p)s.Run.{book, forest, asked}
-use %(p)s.Reported.{reported}
+use %(q)s.Run.{book, forest, asked}
+use %(q)s.Reported.{reported}
 
 made : make_at_desk (write book) %(limit)d ≡ accepted forest
 made = refl

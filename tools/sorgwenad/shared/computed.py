@@ -6,10 +6,13 @@ import shutil
 from sorgwenad.shared import proofs, tree
 from sorgwenad.shared.command import with_oracle, with_random
 
-# Where a module that is put into the copy finds the solver's definitions (`%(d)s`), and those of papers and the other modules (`%(p)s`).
-HOMES = {"d": "Rattle.definitions.specs", "p": "Rattle.papers.specs"}
+# Where a module that is put into the copy finds the solver's definitions (`%(d)s`), those of papers and the other modules (`%(p)s`), and
+# modules that are put beside the proofs (`%(q)s`).
+HOMES = {"d": "Rattle.definitions.specs", "p": "Rattle.papers.specs", "q": "Rattle.papers.proofs"}
 # Modules that have computed cases, and nothing that another one needs.
 THEOREMS = r"(?:\w*Cases|Instances)"
+# How an equation's error says that it is more than the checker computes.
+LIMIT = r"(?:stopped at the step limit|outgrew the memory limit|antt ran out of)"
 
 
 def cons(items):
@@ -36,8 +39,8 @@ def check(folder, header, parts):
     mods = "".join("pub mod %s\n" % n for n in shown + names)
     tree.write(root, re.sub(r"(pub mod Listing\n)(pub mod (Shown|Part\d+)\n)*", r"\1" + mods, text))
     status, text = proofs.check(folder, "papers")
-    bad = re.findall(r"Part\d+\.antt:\d+:\d+: error: `(\w+)`(?!.*stopped at the step limit)", text)
-    beyond = re.findall(r"Part\d+\.antt:\d+:\d+: error: `(\w+)`.*stopped at the step limit", text)
+    bad = re.findall(r"Part\d+\.antt:\d+:\d+: error: `(\w+)`(?!.*%s)" % LIMIT, text)
+    beyond = re.findall(r"Part\d+\.antt:\d+:\d+: error: `(\w+)`.*%s" % LIMIT, text)
     others = [e for e in re.findall(r"^\S+:\d+:\d+: error: .*", text, re.M) if not re.search(r"/Part\d+\.antt:", e)]
     if status != 0 and (others or not bad + beyond):
         tree.stop("the check failed with status %d:\n" % status + ("\n".join(others) or text)[-4000:])

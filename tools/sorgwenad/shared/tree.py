@@ -73,7 +73,14 @@ def paper(name):
     return read_bytes(PAPERS, name)
 
 
+def copy_of_a_crate(crate, folder, without=()):
+    """A crate's files in a copy of the tree, without what checks keep of it."""
+    shutil.copytree(os.path.join(ROOT, "crates", crate), os.path.join(folder, "crates", crate), ignore=shutil.ignore_patterns("out", *without))
+
+
 def copy_of_the_crates(folder):
     """The crates and their list in a folder."""
-    shutil.copytree(os.path.join(ROOT, "crates"), os.path.join(folder, "crates"))
+    for crate in os.listdir(os.path.join(ROOT, "crates")):
+        if os.path.isdir(os.path.join(ROOT, "crates", crate)):
+            copy_of_a_crate(crate, folder)
     shutil.copy(os.path.join(ROOT, "crates.txt"), folder)
