@@ -1,8 +1,11 @@
 -- Demand 3 of the code (document 01, (e)): what is claimed of each call on a forest that was made from a plain levelled book, in the code's
 -- own results, whichever way they are made (`Steps`). A goal is named through `open`: whatever that gives for it on the forest that the
 -- call left. `Promises` has the claim itself.
-use Rattle.std.specs.Prelude.{ℕ, ◌+◌, Bool, true, false, ◌||◌, ◌⊎◌, List, [], ◌∷◌, ◌≡◌}
+use Rattle.std.specs.Prelude.{ℕ, ◌+◌, ◌≤◌, Bool, true, false, ◌||◌, ◌⊎◌, List, [], ◌∷◌, ◌≡◌, length}
 use Rattle.definitions.specs.Book as books
+use Rattle.definitions.specs.Book.{clause_count}
+use Rattle.definitions.specs.Refusal.{accepted}
+use Rattle.papers.specs.Model.{Plain, Levelled, In}
 use Rattle.forest.specs.declared.Forest.{Forest}
 use Rattle.forest.specs.declared.make.Made.{Made}
 use Rattle.forest.specs.declared.make.Making.TheVariants as makings
@@ -14,6 +17,7 @@ use Rattle.forest.specs.declared.searches.Outcome.TheVariants as outcomes
 use Rattle.forest.specs.Make.{MakeSays, MakeAtDeskSays}
 use Rattle.forest.specs.Open.{OpenSays}
 use Rattle.forest.specs.Sittings.{Told, opens, searches, peeks, asks_future}
+use Rattle.theorems.specs.Steps.{Step, Runs, TellSo}
 
 -- an open of this goal gives this table, whatever else it gives (crate `forest`: `open` gives a result with this contract for every forest)
 abbrev pub NamesGoal : Forest → (table goal : ℕ) → Type 0
@@ -114,6 +118,17 @@ abbrev pub exceeded : List Told → ℕ
 exceeded [] = 0
 exceeded (t ∷ ts) = exceeded_in t + exceeded ts
 
+-- The allowance: how many more searches a result lets end so. None grants any.
+abbrev pub granted : Told → ℕ
+granted (opens goal r) = 0
+granted (searches table index limit r) = 0
+granted (peeks table index rounds limit r) = 0
+granted (asks_future table index variant r) = 0
+
+abbrev pub all_granted : List Told → ℕ
+all_granted [] = 0
+all_granted (t ∷ ts) = granted t + all_granted ts
+
 -- what an entry may have given: `make` or `make_at_desk`
 abbrev pub EntrySays : (bytes : List ℕ) → (clock_limit : ℕ) → Made → Type 0
 EntrySays bytes limit m = MakeSays bytes limit m ⊎ MakeAtDeskSays bytes limit m
@@ -128,3 +143,13 @@ TellsNoAssert (asks_future table index variant r) = Unit {0}
 abbrev pub AllTellNoAssert : List Told → Type 0
 AllTellNoAssert [] = Unit {0}
 AllTellNoAssert (t ∷ ts) = TellsNoAssert t × AllTellNoAssert ts
+
+-- DEMAND 3 OF THE CODE with an allowance in the bound (`Promises` says it without): for every byte string and clock limit for which a forest
+-- was made, through either entry, every levelling of its book and every sequence of steps
+abbrev pub Demand3 : Type 0
+Demand3 =
+    (bytes : List ℕ) (clock_limit : ℕ) (m : Made) → EntrySays bytes clock_limit m → m.making ≡ makings.Made →
+    (book : books.Book) → books.read bytes ≡ accepted book → (level : ℕ → ℕ) → Plain book → Levelled book level →
+    (ss : List Step) → Runs m.forest ss →
+    TellSo m.forest ss (λ ts.
+    AllTell (In book level) clock_limit false ts × (exceeded ts ≤ length book + clause_count book + all_granted ts))

@@ -1,0 +1,18 @@
+-- Demand 3 of the code as it was first stated, with no allowance in the bound. It follows as `Demand3` of `Right` does (proofs/Before).
+use Rattle.std.specs.Prelude.{ℕ, ◌+◌, ◌≤◌, false, List, ◌≡◌, length}
+use Rattle.definitions.specs.Book as books
+use Rattle.definitions.specs.Book.{clause_count}
+use Rattle.papers.specs.Model.{Plain, Levelled, In}
+use Rattle.definitions.specs.Refusal.{accepted}
+use Rattle.forest.specs.declared.make.Made.{Made}
+use Rattle.forest.specs.declared.make.Making.TheVariants as makings
+use Rattle.forest.specs.Make.{MakeSays}
+use Rattle.forest.specs.Sittings.{Told, Sits}
+use Rattle.theorems.specs.Right.{AllTell, exceeded}
+
+abbrev pub Demand3 : Type 0
+Demand3 =
+    (bytes : List ℕ) (clock_limit : ℕ) (m : Made) → MakeSays bytes clock_limit m → m.making ≡ makings.Made →
+    (book : books.Book) → books.read bytes ≡ accepted book → (level : ℕ → ℕ) → Plain book → Levelled book level →
+    (ts : List Told) → Sits m.forest ts →
+    AllTell (In book level) clock_limit false ts × (exceeded ts ≤ length book + clause_count book)
