@@ -49,8 +49,11 @@ class Edit:
         self.label = "%s/%s%s" % (crate, self.name, "" if self.refused else " (the same)")
 
     def is_for_rt(self):
-        """Whether `rt must-fail` can try it."""
-        return self.refused and all(crate == self.crate for crate, _, _, _ in edits.pairs(self.path, self.crate))
+        """Whether `rt must-fail` can try it. One that can't be read is left to the other way, which shows that it is bad."""
+        try:
+            return self.refused and all(crate == self.crate for crate, _, _, _ in edits.pairs(self.path, self.crate))
+        except edits.Bad:
+            return False
 
 
 def edits_of(crate, more):
