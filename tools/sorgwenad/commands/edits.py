@@ -1,17 +1,17 @@
 """Edits that must be refused, each tried alone on a copy of the tree.
 
-An edit is a file `NAME.edit` of crates/CRATE/refused/, or of must-fail/, where `rt ci` tries it too (shared/edits.py has the form). It keeps
-the code's shape and makes it wrong, so that the check has to refuse it, and for the right reason: its first error must be a fact that no
-longer holds. A text that does not parse, a name that is gone, or a proof that asks for what is no longer there shows nothing. `NAME.same`
-beside an edit has the same form and has another way to write what is right: it must be accepted, so that the refusal of the edit beside it
-shows a fact and no misfit of the proof. Those of crates/CRATE/refused/more/ are tried with --all, or where they are named: they show what
-another one shows of a function nearby, and the gate has no time for them.
+An edit is a file `NAME.edit` of crates/CRATE/refused/, or of must-fail/, where `rt ci` tries it too (shared/edits.py has the form). It
+keeps the code's shape and makes it wrong, so that the check has to refuse it, and for the right reason: its first error must be a fact that
+no longer holds. A text that does not parse, a name that is gone, or a proof that asks for what is no longer there shows nothing.
+`NAME.same` beside an edit has the same form and has another way to write what is right: it must be accepted, so that the refusal of the
+edit beside it shows a fact and no misfit of the proof. Those of crates/CRATE/refused/more/ are tried with --all, or where they are named:
+they show what another one shows of a function nearby, and the gate has no time for them.
 
 With no crate named: those that have a folder refused/.
 
 An edit of its own crate is tried by `rt must-fail`, over what was proved, in a copy of the tree that has all these edits where that command
-looks for them; what it came to is kept on this machine as long as nothing that it stands on changes. What `rt must-fail` has no form for, an
-edit that changes a crate below too and a NAME.same, is tried by `rt check` of the crate in a copy that it is put into and taken out of
+looks for them; what it came to is kept on this machine as long as nothing that it stands on changes. What `rt must-fail` has no form for,
+an edit that changes a crate below too and a NAME.same, is tried by `rt check` of the crate in a copy that it is put into and taken out of
 again. A line an edit; the last line counts. Status 0 only if all is as expected.
 """
 import concurrent.futures
@@ -49,8 +49,11 @@ class Edit:
         self.label = "%s/%s%s" % (crate, self.name, "" if self.refused else " (the same)")
 
     def is_for_rt(self):
-        """Whether `rt must-fail` can try it."""
-        return self.refused and all(crate == self.crate for crate, _, _, _ in edits.pairs(self.path, self.crate))
+        """Whether `rt must-fail` can try it. One that can't be read is left to the other way, which shows that it is bad."""
+        try:
+            return self.refused and all(crate == self.crate for crate, _, _, _ in edits.pairs(self.path, self.crate))
+        except edits.Bad:
+            return False
 
 
 def edits_of(crate, more):

@@ -45,8 +45,11 @@ def tried(name, path, folder, a):
     """What is not as expected, if anything, and what is to be printed."""
     room = os.path.join(folder, name.replace("/", "-"))
     tree.copy_of_the_crates(room)
-    if path:
-        edits.apply(path, name.split("/")[0], os.path.join(room, "crates"))
+    try:
+        if path:
+            edits.apply(path, name.split("/")[0], os.path.join(room, "crates"))
+    except edits.Bad as bad:
+        return "BAD EDIT: %s" % bad, ""
     program, text = unproved.build("replay", room, room)
     if not program:
         return "it can't be built:\n" + text[-2000:], ""

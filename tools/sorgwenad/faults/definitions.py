@@ -28,7 +28,7 @@ import textwrap
 import time
 
 from sorgwenad.faults.claims import CLAIMS, shown
-from sorgwenad.shared import proofs, tree
+from sorgwenad.shared import edits, proofs, tree
 from sorgwenad.shared.command import parser, processors
 
 
@@ -58,7 +58,10 @@ def without_fault(claim, faults, folder):
 def with_fault(claim, fault, folder):
     """Gives the complaints."""
     claim.copy(folder)
-    claim.plant(folder, fault)
+    try:
+        claim.plant(folder, fault)
+    except edits.Bad as bad:
+        return ["BAD EDIT: %s" % bad], False, [], []
     claim.trim(folder)
     claim.add_wrong(folder, fault)
     computes, refused, cited, text = check(folder, "papers")

@@ -114,8 +114,11 @@ def main(words):
     unseen, missed = dict(rows("CODE_UNSEEN")), 0
     for name, path in chosen.items():
         began = time.time()
-        with tree.folder() as folder:
-            found, programs = tried(name.split("/")[0], path, folder)
+        try:
+            with tree.folder() as folder:
+                found, programs = tried(name.split("/")[0], path, folder)
+        except edits.Bad as bad:
+            tree.stop("%s: BAD EDIT: %s" % (name, bad))
         missed += not found and name not in unseen
         excused = "no case can find it: %s" % unseen[name] if name in unseen else "NOT FOUND by " + ", ".join(programs)
         print("%s: %s (%d s)" % (name, "found by " + found if found else excused, time.time() - began), flush=True)

@@ -38,6 +38,14 @@ def pairs(path, crate):
     return out
 
 
+def changes_code(path, crate):
+    """Whether an edit changes code; one that can't be read is taken for one that does, so that it is tried and shown to be bad."""
+    try:
+        return any(name.startswith("src/") for _, name, _, _ in pairs(path, crate))
+    except Bad:
+        return True
+
+
 def changing_code(crates):
     """The edits of these crates that must be refused and change code: their files by CRATE/NAME."""
     found = {}
@@ -45,7 +53,7 @@ def changing_code(crates):
         folder = os.path.join(tree.ROOT, "crates", crate, "refused")
         for file in sorted(os.listdir(folder)) if os.path.isdir(folder) else []:
             path = os.path.join(folder, file)
-            if file.endswith(".edit") and any(name.startswith("src/") for _, name, _, _ in pairs(path, crate)):
+            if file.endswith(".edit") and changes_code(path, crate):
                 found["%s/%s" % (crate, file[:-5])] = path
     return found
 

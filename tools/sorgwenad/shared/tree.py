@@ -79,7 +79,8 @@ def paper(name):
 
 def copy_of_a_crate(crate, folder, without=()):
     """A crate's files in a copy of the tree, without what checks keep of it."""
-    shutil.copytree(os.path.join(ROOT, "crates", crate), os.path.join(folder, "crates", crate), ignore=shutil.ignore_patterns("out", *without))
+    leave_out = shutil.ignore_patterns("out", *without)
+    shutil.copytree(os.path.join(ROOT, "crates", crate), os.path.join(folder, "crates", crate), ignore=leave_out)
 
 
 def copy_of_the_crates(folder):
