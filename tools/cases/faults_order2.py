@@ -106,7 +106,7 @@ SPOILT_FAULTS = [
         right_reported=[0, None],
         calls=["opens 0", "searches 0 0 100"],
         replies=[opened(0), searched(YES, 3)],
-        theorem="Spoilt.literals-unspoilt",
+        theorem="Spoilt.literals_unspoilt",
         fact="a clause of a goal that does not spoil has no \"not\"",
         false="no \"not\" is reported"),
     SpoiltFault(
@@ -117,7 +117,7 @@ SPOILT_FAULTS = [
         right_reported=[2, None, 2],
         calls=["opens 0", "searches 0 0 100", "searches 0 0 100"],
         replies=[opened(0), searched(AGAIN, 2), searched(YES, 5)],
-        theorem="Spoilt.clauses-unspoilt",
+        theorem="Spoilt.clauses_unspoilt",
         fact="where nothing in a goal's clauses is spoilt, nothing in those behind the first is",
         false="those behind the first are not looked at"),
     SpoiltFault(

@@ -50,8 +50,7 @@ SINGLE = {
     "edits": "wrong edits of the crates, each of which the check must refuse",
     "papers": "writes the sample papers, the vectors of `reading_tests` and the scripts of the cases; --check compares them",
     "fields": "pages of `listing` from standard input as fields",
-    "dev": "makes the first `rt dev` of a crate as quick as the later ones",
-    "quick": "builds a program with no proof, in seconds, and runs it",
+    "quick": "builds a program with no proof, in half a minute, and runs it",
     "self-test": "wrong stand-ins for the programs, each of which the commands above must find",
 }
 

@@ -10,7 +10,8 @@ use borrow.Author.Tests.{ltb-false, leb-false, eqb-false, ne_eqb}
 use Rattle.definitions.specs.Refusal.{◌refuses◌}
 use Rattle.definitions.specs.Book as said
 use Rattle.definitions.specs.Book.{goal, clause, positive, ranged, negative, end, unknown, command, width, byte, u16, bit0, crossed}
-use Rattle.definitions.specs.Book.{want_of, between, Positive, Negative, add_clause, add_literal, read_from, read_loosely}
+use Rattle.definitions.specs.Book.{want_of, between, Positive, Negative, add_clause, add_literal}
+use Rattle.definitions.specs.Mend.{loose_from, read_loosely}
 use Rattle.laws.proofs.Lists.{get_or_zeros}
 use Rattle.definitions.proofs.Book.{want_straight}
 use Rattle.book.specs.declared.Book.{Book}
@@ -38,7 +39,7 @@ record Room (clauses literals : ℕ) (crossing : Bool) : Type 0 where
 -- the arrays hold what was read before a place, and the rest of the bytes is still to be read
 pub record SoFar (bs : List ℕ) (b : Book) (literals named at : ℕ) : Type 0 where
   pub held : Held b literals named
-  pub rest : read_from (drop at bs) 0 (view b) ≡ read_loosely bs
+  pub rest : loose_from (drop at bs) 0 (view b) ≡ read_loosely bs
 
 -- Where reading starts.
 
@@ -353,7 +354,7 @@ module _ (bs : List ℕ) (b : Book) (literals named at : ℕ) (s : SoFar bs b li
               (straight_of which)
               ∙ ap (λ (k : said.Literal). add_literal k (view b)) e
 
-          goes_on : OfLiteral x → read_from (drop o.next bs) 0 (view grown) ≡ read_from (drop at bs) 0 (view b)
+          goes_on : OfLiteral x → loose_from (drop o.next bs) 0 (view grown) ≡ loose_from (drop at bs) 0 (view b)
           goes_on (of_positive e) =
               turn_on b literals named s.held bs at (sym fine) positive (code 0x50 e) refl grown (seen _ (kept_positive e)) o.next
               (ops.next_is ∙ ap (λ (y : ℕ). at + marked (command y) + 1) e)

@@ -9,7 +9,9 @@ use lib.Dec.{leb}
 use borrow.Author.Tests.{eq-eqb, ne_eqb, le-leb, lt-leb}
 use Rattle.definitions.specs.Refusal.{refused, accepted, ◌refuses◌, unless}
 use Rattle.definitions.specs.Book as said
-use Rattle.definitions.specs.Book.{goals_name, read_loosely, named}
+use Rattle.definitions.specs.Book.{goals_name}
+use Rattle.definitions.specs.Mend.{read_loosely}
+use Rattle.definitions.proofs.Mend.{named, read_named}
 use Rattle.book.specs.declared.Reading.{Reading}
 use Rattle.book.specs.declared.reader.Named.{Named}
 use Rattle.book.specs.View.{view, blank, seen_by, seen, Read, ReadLoosely}
@@ -21,7 +23,7 @@ pub was_refused : (bytes : List ℕ) (r : Reading) → ReadLoosely bytes r → (
 was_refused bytes r h n =
     let e : seen r ≡ refused r.number = ap (λ (t : Bool). seen_by t r) (ne_eqb r.number 0 n) in
     record {
-      means = e ∙ ap named (sym e ∙ h.means);
+      means = e ∙ ap named (sym e ∙ h.means) ∙ sym (read_named bytes 0 []);
       sound = λ z. absurd (n z);
       bare = h.bare;
     }
@@ -36,7 +38,7 @@ module _ (bytes : List ℕ) (m : Named) (h : ReadNamed bytes m) (fine : m.readin
       sym (ap (λ (t : Bool). seen_by t m.reading) (eq-eqb m.reading.number 0 fine)) ∙ h.reads.means in
       let g : goals_name (length b) b ≡ t =
       h.naming fine (length b) ∙ ap (leb m.named) (goals_counted m.reading.book) ∙ e in
-      ap named (sym l) ∙ ap (λ (t : Bool). unless (not t refuses 6 ∷ []) b) g
+      read_named bytes 0 [] ∙ ap named (sym l) ∙ ap (λ (t : Bool). unless (not t refuses 6 ∷ []) b) g
 
   pub names_no_goal : m.reading.book.goals < m.named → (r : Reading) → r.number ≡ 6 → r.book ≡ blank → Read bytes r
   names_no_goal over r e z = record {

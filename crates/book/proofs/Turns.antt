@@ -8,14 +8,14 @@ use mathlib.Core.List.{List, [], ◌∷◌, ◌++◌}
 use lib.ListN.{length, get_or, drop, drop_of_length-le, length-drop}
 use lib.Seq.{drop-cons, drop-drop}
 use lib.Dec.{ltb}
-use borrow.Author.Tests.{ltb-false}
+use borrow.Author.Tests.{le-ltb, ltb-false}
 use Rattle.definitions.specs.Refusal.{Refusable, refused, accepted, Test, ◌refuses◌, unless}
 use Rattle.definitions.specs.Book as said
 use Rattle.definitions.specs.Book.{Command, goal, clause, positive, ranged, negative, end, unknown, command, width, byte, u16, bit0}
 use Rattle.definitions.specs.Book.{want_of, between, Positive, Negative}
-use Rattle.definitions.specs.Book.{add_clause, add_literal, clause_count, literals_so_far, apply_command, whole_command, is_end, read_from}
+use Rattle.definitions.specs.Book.{add_clause, add_literal, clause_count, literals_so_far, apply_command, whole_command, is_end}
+use Rattle.definitions.specs.Mend.{loose_end, loose_from}
 use Rattle.definitions.proofs.Book.{literals_none, want_straight}
-use Rattle.definitions.proofs.Prefix.{go_on}
 use Rattle.laws.proofs.Spans.{length_span}
 use Rattle.book.specs.declared.Book.{Book}
 use Rattle.book.specs.View.{clause_viewed, literal_viewed, view, Tiles}
@@ -27,7 +27,7 @@ use Rattle.book.proofs.MoreGoals.{bare_goal}
 use Rattle.book.proofs.MoreClauses.{bare_clause}
 
 -- what stands behind a command is read as the operands are skipped
-pub skip : (bs : List ℕ) (k : ℕ) (book : said.Book) → k ≤ length bs → read_from bs k book ≡ read_from (drop k bs) 0 book
+pub skip : (bs : List ℕ) (k : ℕ) (book : said.Book) → k ≤ length bs → loose_from bs k book ≡ loose_from (drop k bs) 0 book
 skip [] zero book h = refl
 skip [] (suc k) book h = absurd (omega arith)
 skip (b ∷ bs) zero book h = refl
@@ -82,6 +82,34 @@ done negative after book = add_literal (Negative (u16 after 0) (bit0 (byte after
 done end after book = book
 done unknown after book = book
 
+-- what a command gives: the end command ends the reading, and its operands are none
+abbrev taken : Command → List ℕ → said.Book → Refusable said.Book
+taken c after book = elim (is_end c) [ true ↦ loose_end after book | false ↦ whole_command c after book ]
+
+-- what reading does with that
+abbrev goes_on : Command → List ℕ → Refusable said.Book → Refusable said.Book
+goes_on c after r = elim r [
+  | refused n ↦ refused n
+  | accepted next ↦ elim (is_end c) [ true ↦ accepted next | false ↦ loose_from after (width c) next ]
+]
+
+loose_taken : (c : Command) (after : List ℕ) (book : said.Book)
+    → elim (is_end c) [
+      | true ↦ loose_end after book
+      | false ↦ elim (whole_command c after book) [ refused n ↦ refused n | accepted next ↦ loose_from after (width c) next ]
+    ] ≡ goes_on c after (taken c after book)
+loose_taken goal after book = refl
+loose_taken clause after book = refl
+loose_taken positive after book = refl
+loose_taken ranged after book = refl
+loose_taken negative after book = refl
+loose_taken end after book = on (loose_end after book)
+  where
+    on : (r : Refusable said.Book) → r ≡ goes_on end after r
+    on (refused n) = refl
+    on (accepted next) = refl
+loose_taken unknown after book = refl
+
 module _ (b : Book) (literals named : ℕ) (h : Held b literals named) where
   abbrev pub now_counts : Counts
   now_counts = counts b.goals b.clauses literals
@@ -109,8 +137,7 @@ module _ (b : Book) (literals named : ℕ) (h : Held b literals named) where
       → whole_command c after (view b) ≡ unless (whole_tests c after now_counts) (done c after (view b))
   whole_is c after e = ap (λ (r : Refusable said.Book). elim (ltb (length after) (width c)) [ true ↦ refused 1 | false ↦ r ]) e
 
-  taken_is : (c : Command) (after : List ℕ)
-      → whole_command c after (view b) ≡ unless (whole_tests c after now_counts) (done c after (view b))
+  taken_is : (c : Command) (after : List ℕ) → taken c after (view b) ≡ unless (whole_tests c after now_counts) (done c after (view b))
   taken_is goal after =
       whole_is goal after (ap (λ (n : ℕ). unless (goal_tests (byte after 0) n) (done goal after (view b))) (goals_counted b))
   taken_is clause after =
@@ -125,17 +152,20 @@ module _ (b : Book) (literals named : ℕ) (h : Held b literals named) where
   taken_is ranged after =
       whole_is ranged after (literal_counted (byte after 6) (ltb (u16 after 4) (u16 after 2)) (done ranged after (view b)))
   taken_is negative after = whole_is negative after (literal_counted (byte after 2) false (done negative after (view b)))
-  taken_is end after = whole_is end after (ap (λ (n : ℕ). unless (end_tests (length after) n) (view b)) (goals_counted b))
+  taken_is end after =
+      ap (λ (n : ℕ). unless (end_tests (length after) n) (view b)) (goals_counted b)
+      ∙ sym (ap (λ (t : Bool). unless (t refuses 1 ∷ end_tests (length after) b.goals) (view b)) (le-ltb (length after) 0 (omega arith)))
   taken_is unknown after = whole_is unknown after refl
 
-  turn_refused_in : (xs : List ℕ) (k : ℕ) → (k ≡ 0 → ⊥) → next_fault xs now_counts ≡ k → read_from xs 0 (view b) ≡ refused k
+  turn_refused_in : (xs : List ℕ) (k : ℕ) → (k ≡ 0 → ⊥) → next_fault xs now_counts ≡ k → loose_from xs 0 (view b) ≡ refused k
   turn_refused_in [] k n e = ap refused e
   turn_refused_in (x ∷ xs) k n e =
-      ap (go_on (command x) xs)
+      loose_taken (command x) xs (view b)
+      ∙ ap (goes_on (command x) xs)
       (taken_is (command x) xs ∙ unless_refused (whole_tests (command x) xs now_counts) (done (command x) xs (view b)) k n e)
 
   module _ (bs : List ℕ) (at : ℕ) where
-    pub turn_refused : (k : ℕ) → (k ≡ 0 → ⊥) → next_fault (drop at bs) now_counts ≡ k → read_from (drop at bs) 0 (view b) ≡ refused k
+    pub turn_refused : (k : ℕ) → (k ≡ 0 → ⊥) → next_fault (drop at bs) now_counts ≡ k → loose_from (drop at bs) 0 (view b) ≡ refused k
     turn_refused k n e = turn_refused_in (drop at bs) k n e
 
     module _ (fine : next_fault (drop at bs) now_counts ≡ 0) where
@@ -171,39 +201,40 @@ module _ (b : Book) (literals named : ℕ) (h : Held b literals named) where
             (passes (ltb (length (drop (suc at) bs)) (width c) refuses 1) (command_tests c (drop (suc at) bs) now_counts) (omega arith)
             fault_is).1
 
-        turn_done : read_from (drop at bs) 0 (view b)
+        turn_done : loose_from (drop at bs) 0 (view b)
             ≡ elim (is_end c) [
               | true ↦ accepted (done c (drop (suc at) bs) (view b))
-              | false ↦ read_from (drop (suc at) bs) (width c) (done c (drop (suc at) bs) (view b))
+              | false ↦ loose_from (drop (suc at) bs) (width c) (done c (drop (suc at) bs) (view b))
             ]
         turn_done =
-            ap (λ (xs : List ℕ). read_from xs 0 (view b)) (drop-cons bs at 0 some_left)
-            ∙ ap (λ (x : Command). go_on x (drop (suc at) bs) (whole_command x (drop (suc at) bs) (view b))) is
-            ∙ ap (go_on c (drop (suc at) bs))
+            ap (λ (xs : List ℕ). loose_from xs 0 (view b)) (drop-cons bs at 0 some_left)
+            ∙ loose_taken (command (byte bs at)) (drop (suc at) bs) (view b)
+            ∙ ap (λ (x : Command). goes_on x (drop (suc at) bs) (taken x (drop (suc at) bs) (view b))) is
+            ∙ ap (goes_on c (drop (suc at) bs))
             (taken_is c (drop (suc at) bs)
             ∙ unless_passed (whole_tests c (drop (suc at) bs) now_counts) (done c (drop (suc at) bs) (view b))
             (numbered c (drop (suc at) bs) now_counts) fault_is)
 
         -- the end command ends the reading
-        pub turn_end : is_end c ≡ true → read_from (drop at bs) 0 (view b) ≡ accepted (done c (drop (suc at) bs) (view b))
+        pub turn_end : is_end c ≡ true → loose_from (drop at bs) 0 (view b) ≡ accepted (done c (drop (suc at) bs) (view b))
         turn_end e =
             turn_done
             ∙ ap (λ (t : Bool). elim t [
               | true ↦ accepted (done c (drop (suc at) bs) (view b))
-              | false ↦ read_from (drop (suc at) bs) (width c) (done c (drop (suc at) bs) (view b))
+              | false ↦ loose_from (drop (suc at) bs) (width c) (done c (drop (suc at) bs) (view b))
             ]) e
 
         -- another leaves the rest to be read, with the book that it makes
         pub turn_on : is_end c ≡ false → (to : Book) → view to ≡ done c (drop (suc at) bs) (view b) → (next : ℕ) → next ≡ at + width c + 1
-            → read_from (drop next bs) 0 (view to) ≡ read_from (drop at bs) 0 (view b)
+            → loose_from (drop next bs) 0 (view to) ≡ loose_from (drop at bs) 0 (view b)
         turn_on e to v next q =
             let p : suc at + width c ≡ next = omega arith in
             sym (turn_done
             ∙ ap (λ (t : Bool). elim t [
               | true ↦ accepted (done c (drop (suc at) bs) (view b))
-              | false ↦ read_from (drop (suc at) bs) (width c) (done c (drop (suc at) bs) (view b))
+              | false ↦ loose_from (drop (suc at) bs) (width c) (done c (drop (suc at) bs) (view b))
             ]) e
             ∙ skip (drop (suc at) bs) (width c) (done c (drop (suc at) bs) (view b)) operands_there
-            ∙ ap (λ (xs : List ℕ). read_from xs 0 (done c (drop (suc at) bs) (view b)))
+            ∙ ap (λ (xs : List ℕ). loose_from xs 0 (done c (drop (suc at) bs) (view b)))
             (drop-drop (width c) (suc at) bs ∙ ap (λ (i : ℕ). drop i bs) p)
-            ∙ ap (read_from (drop next bs) 0) (sym v))
+            ∙ ap (loose_from (drop next bs) 0) (sym v))

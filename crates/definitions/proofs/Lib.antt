@@ -3,9 +3,11 @@ pub mod Lists
 pub mod Refusal
 pub mod Members
 pub mod Book
+pub mod Mend
 pub mod RoundTrip
 pub mod Prefix
 pub mod ReadKeeps
 pub mod ReadLimits
 pub mod ReadNumbers
 pub mod Desk
+pub mod Cut

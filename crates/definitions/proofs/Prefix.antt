@@ -6,7 +6,7 @@
 use Prim.Native.Nat.{ℕ, zero, suc, ◌+◌, ◌-◌, ◌*◌, ◌/◌, ◌%◌, ◌<◌, ◌≤◌}
 use native.Mathlib.Omega.{arith}
 use native.Mathlib.Decide.{dec_le}
-use mathlib.Core.Bool.{Bool, true, false, true≢false}
+use mathlib.Core.Bool.{Bool, true, false, not, true≢false}
 use mathlib.Core.Path.{◌≡◌, refl, sym, ap, ◌∙◌, subst}
 use mathlib.Core.List.{List, [], ◌∷◌, ◌++◌}
 use lib.ListN.{length, length-append, take, drop, take-append-drop}
@@ -17,8 +17,8 @@ use Rattle.definitions.specs.Refusal.{Refusable, refused, accepted, ◌refuses�
 use Rattle.definitions.specs.Book.{any, exactly, between, Literal, Positive, Negative, Clause, Goal, Book, clause_count}
 use Rattle.definitions.specs.Book.{byte, u16, bit0, bit1, want_of, crossed}
 use Rattle.definitions.specs.Book.{Command, goal, clause, positive, ranged, negative, end, unknown, command, width, is_end}
-use Rattle.definitions.specs.Book.{add_clause, add_literal, literals_so_far}
-use Rattle.definitions.specs.Book.{literal_command, apply_command, whole_command, read_from, read_loosely, named, read}
+use Rattle.definitions.specs.Book.{add_clause, add_literal, literals_so_far, goals_name}
+use Rattle.definitions.specs.Book.{literal_command, apply_command, whole_command, read_from, read}
 use Rattle.sizes.specs.Limits.{read_ahead}
 use Rattle.definitions.specs.Book.{largest_book}
 use Rattle.definitions.specs.Book.{flag, write_literals, write_clauses, write_goals, write, ClausesWithin, GoalsWithin, Within}
@@ -92,7 +92,7 @@ same_apply positive a b d e f g h rest more book = refl
 same_apply ranged a b d e f g h rest more book = refl
 same_apply negative a b d e f g h rest more book = refl
 same_apply end a b d e f g h rest more book =
-    ap (λ (t : Bool). unless (t refuses 7 ∷ eqb (length book) 0 refuses 8 ∷ []) book)
+    ap (λ (t : Bool). unless (t refuses 7 ∷ eqb (length book) 0 refuses 8 ∷ not (goals_name (length book) book) refuses 6 ∷ []) book)
     (lt-ltb 0 (length (a ∷ b ∷ d ∷ e ∷ f ∷ g ∷ h ∷ (rest ++ more))) (omega arith)
     ∙ sym (lt-ltb 0 (length (a ∷ b ∷ d ∷ e ∷ f ∷ g ∷ h ∷ rest)) (omega arith)))
 same_apply unknown a b d e f g h rest more book = refl
@@ -153,15 +153,15 @@ prefix (b ∷ bs) more zero book h =
     ∙ by_result (command b) bs more book (whole_command (command b) bs book) (omega arith) refl
     (λ next k. prefix bs more (width (command b)) next k)
 
-long_enough : (bytes : List ℕ) → Dec (read_ahead ≤ length bytes) → read_loosely (take read_ahead bytes) ≡ read_loosely bytes
+long_enough : (bytes : List ℕ) → Dec (read_ahead ≤ length bytes) → read (take read_ahead bytes) ≡ read bytes
 long_enough bytes (yes h) =
     let full : length (take read_ahead bytes) ≡ read_ahead = length-take-le read_ahead bytes h in
     sym (prefix (take read_ahead bytes) (drop read_ahead bytes) 0 [] (omega arith))
-    ∙ ap read_loosely (take-append-drop read_ahead bytes)
-long_enough bytes (no h) = ap read_loosely (take_all read_ahead bytes (omega arith))
+    ∙ ap read (take-append-drop read_ahead bytes)
+long_enough bytes (no h) = ap read (take_all read_ahead bytes (omega arith))
 
 pub read_take : (bytes : List ℕ) → read (take read_ahead bytes) ≡ read bytes
-read_take bytes = ap named (long_enough bytes (dec_le read_ahead (length bytes)))
+read_take bytes = long_enough bytes (dec_le read_ahead (length bytes))
 
 -- A book that is written has at most the bytes of the largest.
 

@@ -18,11 +18,13 @@ use Rattle.definitions.specs.Book.{Command, goal, clause, positive, ranged, nega
 use Rattle.definitions.specs.Book.{byte, u16, bit0, bit1, want_of, crossed, with_clauses, with_literals, add_clause, add_to_last}
 use Rattle.definitions.specs.Book.{add_literal, literals_so_far, literal_command, end_command, apply_command, whole_command}
 use Rattle.sizes.specs.Limits.{most_goals, most_clauses, most_literals}
-use Rattle.definitions.specs.Book.{read_from, read_loosely, named, read}
+use Rattle.definitions.specs.Book.{read_from, read}
+use Rattle.definitions.specs.Mend.{loose_end, loose_from, read_loosely}
 use Rattle.definitions.proofs.Refusal.{not_accepted, same_accepted, all_pass}
 use Rattle.definitions.proofs.Lists.{all_push}
 use Rattle.definitions.proofs.Members.{each_by}
 use Rattle.definitions.proofs.Book.{new_clause, applied}
+use Rattle.definitions.proofs.Mend.{named}
 
 pub is_the_end : (c : Command) → is_end c ≡ true → c ≡ end
 is_the_end goal e = absurd (false≢true e)
@@ -64,7 +66,8 @@ module _ (B : ℕ → Type 0) (P Q : Book → Type 0)
 -- what an accepted end command says
 pub end_passed : (after : List ℕ) (book next : Book) → end_command after book ≡ accepted next → (0 < length book) × (book ≡ next)
 end_passed after book next e =
-    let a = all_pass (ltb 0 (length after) refuses 7 ∷ eqb (length book) 0 refuses 8 ∷ []) book next e in
+    let a = all_pass (ltb 0 (length after) refuses 7 ∷ eqb (length book) 0 refuses 8 ∷ not (goals_name (length book) book) refuses 6 ∷ [])
+    book next e in
     (not_zero (length book) a.0.1.0, a.1)
 
 -- the test for 6 comes behind all others, and changes nothing of the book
@@ -75,21 +78,44 @@ named_passed (accepted b) book e =
     let a = all_pass (not (goals_name (length b) b) refuses 6 ∷ []) b book e in
     (ap accepted a.1, ap (λ (g : Book). goals_name (length g) g) (sym a.1) ∙ was_true (goals_name (length b) b) a.0.0)
 
--- whatever the bytes are: what each command keeps of the book so far, the whole book has
-pub loosely_keeps : (P : Book → Type 0)
-    → ((c : Command) (after : List ℕ) (book next : Book) → is_end c ≡ false → apply_command c after book ≡ accepted next → P book → P next)
-    → P [] → (bytes : List ℕ) (book : Book) → read_loosely bytes ≡ accepted book → P book
-loosely_keeps P keeps first bytes book e = read_keeps (λ b. Unit {0}) P P
-    (λ c after so_far next i b k x. keeps c after so_far next i k x)
-    (λ after so_far next k x. subst P (end_passed after so_far next k).1 x)
-    bytes 0 [] book (each_by (λ b. Unit {0}) bytes (λ b m. tt)) first e
+-- whatever the bytes are: what each command but the end keeps of the book so far, the whole book has
+module _ (P : Book → Type 0)
+    (keeps : (c : Command) (after : List ℕ) (book next : Book) → is_end c ≡ false → apply_command c after book ≡ accepted next → P book
+    → P next) where
+  loose_keeps : (bytes : List ℕ) (skip : ℕ) (book final : Book) → P book → loose_from bytes skip book ≡ accepted final → P final
+  loose_keeps [] skip book final x e = absurd (not_accepted e)
+  loose_keeps (c ∷ bs) (suc skip) book final x e = loose_keeps bs skip book final x e
+  loose_keeps (c ∷ bs) zero book final x e =
+      on (is_end (command c)) refl (λ next y z. loose_keeps bs (width (command c)) next final y z) e
+    where
+      Later : Type 0
+      Later = (next : Book) → P next → loose_from bs (width (command c)) next ≡ accepted final → P final
 
--- and a book that is read has a goal
+      given : (r : Refusable Book) → whole_command (command c) bs book ≡ r → is_end (command c) ≡ false → Later
+          → elim r [ refused n ↦ refused n | accepted next ↦ loose_from bs (width (command c)) next ] ≡ accepted final → P final
+      given (refused n) k i ih z = absurd (not_accepted z)
+      given (accepted next) k i ih z = ih next (keeps (command c) bs book next i (applied (command c) bs book next k) x) z
+
+      on : (ends : Bool) → is_end (command c) ≡ ends → Later
+          → elim ends [
+            | true ↦ loose_end bs book
+            | false ↦ elim (whole_command (command c) bs book) [
+              | refused n ↦ refused n
+              | accepted next ↦ loose_from bs (width (command c)) next
+            ]
+          ] ≡ accepted final → P final
+      on true i ih z = subst P (all_pass (ltb 0 (length bs) refuses 7 ∷ eqb (length book) 0 refuses 8 ∷ []) book final z).1 x
+      on false i ih z = given (whole_command (command c) bs book) refl i ih z
+
+  pub loosely_keeps : P [] → (bytes : List ℕ) (book : Book) → read_loosely bytes ≡ accepted book → P book
+  loosely_keeps first bytes book e = loose_keeps bytes 0 [] book first e
+
+-- whatever the bytes, a book that is read has a goal
 pub read_some : (bytes : List ℕ) (book : Book) → read bytes ≡ accepted book → 0 < length book
 read_some bytes book e = read_keeps (λ b. Unit {0}) (λ so_far. Unit {0}) (λ whole. 0 < length whole)
     (λ c after so_far next i b k x. tt)
     (λ after so_far next k x. let a = end_passed after so_far next k in subst (λ (l : Book). 0 < length l) a.1 a.0)
-    bytes 0 [] book (each_by (λ b. Unit {0}) bytes (λ b m. tt)) tt (named_passed (read_loosely bytes) book e).0
+    bytes 0 [] book (each_by (λ b. Unit {0}) bytes (λ b m. tt)) tt e
 
 -- Clauses.
 
@@ -146,8 +172,7 @@ module _ (B : ℕ → Type 0) (C : Clause → Type 0)
 
   pub read_clauses : (bytes : List ℕ) (book : Book) → Each B bytes → read bytes ≡ accepted book → EachClause C book
   read_clauses bytes book b e = read_keeps B (EachClause C) (EachClause C) command_keeps
-      (λ after so_far next k x. subst (EachClause C) (end_passed after so_far next k).1 x) bytes 0 [] book b All.end
-      (named_passed (read_loosely bytes) book e).0
+      (λ after so_far next k x. subst (EachClause C) (end_passed after so_far next k).1 x) bytes 0 [] book b All.end e
 
 -- Variants.
 

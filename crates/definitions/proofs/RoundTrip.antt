@@ -17,7 +17,7 @@ use Rattle.definitions.specs.Refusal.{Refusable, refused, accepted, ◌refuses�
 use Rattle.definitions.specs.Book.{any, exactly, between, Literal, Positive, Negative, Clause, Goal, Book, clause_count}
 use Rattle.definitions.specs.Book.{Command, end, command, width, is_end, bit0, bit1, flag, want_of, crossed}
 use Rattle.definitions.specs.Book.{literals_so_far, literals_name, clauses_name, goals_name}
-use Rattle.definitions.specs.Book.{apply_command, end_command, literal_command, whole_command, read_from, read_loosely, named, read}
+use Rattle.definitions.specs.Book.{apply_command, end_command, literal_command, whole_command, read_from, read}
 use Rattle.definitions.specs.Book.{write_literal, write_literals, write_clauses, write_goals, write}
 use Rattle.definitions.specs.Book.{LiteralWithin, LiteralsWithin, ClausesWithin, GoalsWithin, Within}
 use Rattle.definitions.proofs.Book.{clause_count_append, add_clause_last, add_to_last_last, last_literals_last, ends_in_clause}
@@ -245,28 +245,27 @@ read_end book =
 
 -- what is written is read up to the tests at the end: so far it does not matter how far the literals reach
 pub read_written : (n : ℕ) (book : Book) → GoalsWithin n book → length book ≤ 64 → clause_count book ≤ 256
-    → read_loosely (write book) ≡ end_command [] book
+    → read (write book) ≡ end_command [] book
 read_written n book w h k = read_goals n [] book (0x45 ∷ []) w (omega arith) (omega arith) ∙ read_end book
 
 -- every literal names a goal of the whole book, and there is one
-end_accepts : (book : Book) → 0 < length book → GoalsWithin (length book) book → named (end_command [] book) ≡ accepted book
+end_accepts : (book : Book) → 0 < length book → GoalsWithin (length book) book → end_command [] book ≡ accepted book
 end_accepts book h w =
-    ap (λ (t : Bool). named (unless (t refuses 8 ∷ []) book)) (ne_eqb (length book) 0 (λ e. omega arith))
-    ∙ ap (λ (t : Bool). unless (not t refuses 6 ∷ []) book) (goals_named (length book) book w)
+    unless_three _ _ _ 7 8 6 book refl (ne_eqb (length book) 0 (λ e. omega arith)) (ap not (goals_named (length book) book w))
 
 pub read_write : (book : Book) → Within book → read (write book) ≡ accepted book
 read_write book w =
-    ap named (read_written (length book) book w.clauses_fit w.few_goals w.few_clauses)
-    ∙ end_accepts book w.some_goal w.clauses_fit
+    read_written (length book) book w.clauses_fit w.few_goals w.few_clauses ∙ end_accepts book w.some_goal w.clauses_fit
 
 -- what stands behind a book's end is refused
 past_end : (book : Book) (b : ℕ) (more : List ℕ) → read_from (0x45 ∷ b ∷ more) 0 book ≡ refused 7
 past_end book b more =
     let told : apply_command end (b ∷ more) book ≡ refused 7 =
-    ap (λ (t : Bool). unless (t refuses 7 ∷ eqb (length book) 0 refuses 8 ∷ []) book) (lt-ltb 0 (length (b ∷ more)) (omega arith)) in
+    ap (λ (t : Bool). unless (t refuses 7 ∷ eqb (length book) 0 refuses 8 ∷ not (goals_name (length book) book) refuses 6 ∷ []) book)
+    (lt-ltb 0 (length (b ∷ more)) (omega arith)) in
     rw (whole_apply end (b ∷ more) book (omega arith) ∙ told, read_from)
 
 pub read_past : (book : Book) → Within book → (b : ℕ) (more : List ℕ) → read (write book ++ (b ∷ more)) ≡ refused 7
 read_past book w b more =
     rw (append_assoc (write_goals book) (0x45 ∷ []) (b ∷ more))
-    (ap named (read_goals (length book) [] book (0x45 ∷ b ∷ more) w.clauses_fit (omega arith) (omega arith) ∙ past_end book b more))
+    (read_goals (length book) [] book (0x45 ∷ b ∷ more) w.clauses_fit (omega arith) (omega arith) ∙ past_end book b more)

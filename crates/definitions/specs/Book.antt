@@ -191,12 +191,30 @@ literal_command l flags book =
     ∷ [])
     (add_literal l book)
 
+abbrev pub goal_of : Literal → ℕ
+goal_of (Positive g want outsized) = g
+goal_of (Negative g outsized) = g
+
+-- every literal names a goal of a book with n goals
+abbrev pub literals_name : ℕ → List Literal → Bool
+literals_name n [] = true
+literals_name n (l ∷ ls) = elim (ltb (goal_of l) n) [ true ↦ literals_name n ls | false ↦ false ]
+
+abbrev pub clauses_name : ℕ → List Clause → Bool
+clauses_name n [] = true
+clauses_name n (c ∷ cs) = elim (literals_name n c.literals) [ true ↦ clauses_name n cs | false ↦ false ]
+
+abbrev pub goals_name : ℕ → List Goal → Bool
+goals_name n [] = true
+goals_name n (g ∷ gs) = elim (clauses_name n g.clauses) [ true ↦ goals_name n gs | false ↦ false ]
+
 -- 45: what stands after it, and the book so far
 abbrev pub end_command : List ℕ → Book → Refusable Book
 end_command after book =
     unless
     (ltb 0 (length after) refuses 7
     ∷ eqb (length book) 0 refuses 8
+    ∷ not (goals_name (length book) book) refuses 6
     ∷ [])
     book
 
@@ -241,34 +259,8 @@ read_from (b ∷ bs) zero book = elim (whole_command (command b) bs book) [
   | accepted next ↦ elim (is_end (command b)) [ true ↦ accepted next | false ↦ read_from bs (width (command b)) next ]
 ]
 
--- without the test for 6, which is the last
-abbrev pub read_loosely : List ℕ → Refusable Book
-read_loosely bytes = read_from bytes 0 []
-
-abbrev pub goal_of : Literal → ℕ
-goal_of (Positive g want outsized) = g
-goal_of (Negative g outsized) = g
-
--- every literal names a goal of a book with n goals
-abbrev pub literals_name : ℕ → List Literal → Bool
-literals_name n [] = true
-literals_name n (l ∷ ls) = elim (ltb (goal_of l) n) [ true ↦ literals_name n ls | false ↦ false ]
-
-abbrev pub clauses_name : ℕ → List Clause → Bool
-clauses_name n [] = true
-clauses_name n (c ∷ cs) = elim (literals_name n c.literals) [ true ↦ clauses_name n cs | false ↦ false ]
-
-abbrev pub goals_name : ℕ → List Goal → Bool
-goals_name n [] = true
-goals_name n (g ∷ gs) = elim (clauses_name n g.clauses) [ true ↦ goals_name n gs | false ↦ false ]
-
--- "At 45: 7, 8, 6": the whole book is there, so each literal can be held to its goals
-abbrev pub named : Refusable Book → Refusable Book
-named (refused n) = refused n
-named (accepted book) = unless (not (goals_name (length book) book) refuses 6 ∷ []) book
-
 abbrev pub read : List ℕ → Refusable Book
-read bytes = named (read_loosely bytes)
+read bytes = read_from bytes 0 []
 
 -- Writing.
 

@@ -5,6 +5,7 @@ use Rattle.definitions.specs.Book.{Literal}
 use Rattle.definitions.specs.Fitting.{Subst}
 pub mod Refusal
 pub mod Book
+pub mod Mend
 pub mod Fitting
 pub mod Stop
 pub mod Lists

@@ -13,7 +13,7 @@ use Rattle.definitions.specs.Text.{ascii, decimal}
 use Rattle.definitions.specs.Desk as Desk
 use Rattle.definitions.specs.Desk.{repeat_of}
 use Rattle.definitions.specs.Refusal.{Refusable}
-use Rattle.definitions.specs.Book.{read_loosely}
+use Rattle.definitions.specs.Mend.{read_loosely}
 use Rattle.definitions.specs.Book as Said
 use Rattle.definitions.specs.Book.{Literal, Clause, Goal, bit0, bit1}
 use Rattle.pen.specs.Pen.{Pen, put, put_all}

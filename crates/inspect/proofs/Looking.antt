@@ -12,7 +12,7 @@ use Rattle.laws.specs.Spans.{span}
 use Rattle.definitions.specs.Text.{ascii, decimal}
 use Rattle.definitions.specs.Refusal.{Refusable}
 use Rattle.definitions.specs.Book as Said
-use Rattle.definitions.specs.Book.{read_loosely}
+use Rattle.definitions.specs.Mend.{read_loosely}
 use Rattle.pen.specs.Pen.{Pen, put_all}
 use Rattle.pen.proofs.Putting.{put_two, put_nothing, put_left, put_ended}
 use Rattle.book.specs.declared.Book.{Book}

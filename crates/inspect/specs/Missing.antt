@@ -3,7 +3,8 @@
 use Rattle.std.specs.Prelude.{ℕ, suc, Bool, true, false, List, [], ◌∷◌, ◌++◌, length, eqb, ltb}
 use Rattle.definitions.specs.Text.{ascii, decimal}
 use Rattle.definitions.specs.Refusal.{Refusable, refused, accepted}
-use Rattle.definitions.specs.Book.{Literal, goal_of, Clause, Goal, Book, read, read_loosely}
+use Rattle.definitions.specs.Book.{Literal, goal_of, Clause, Goal, Book, read}
+use Rattle.definitions.specs.Mend.{read_loosely}
 use Rattle.inspect.specs.Words.{goals_words, reading_words}
 
 -- the words of each member of a list, with its number from i on

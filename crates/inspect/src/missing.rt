@@ -3,7 +3,7 @@
 //
 //     goal 0, clause 2, literal 1: no goal 7
 ghost use Rattle.std.specs.Prelude.{◌≡◌, ◌<◌, ltb};
-ghost use Rattle.definitions.specs.Book.{read_loosely};
+ghost use Rattle.definitions.specs.Mend.{read_loosely};
 ghost use Rattle.pen.specs.Pen.{pen, put_all};
 ghost use Rattle.book.specs.View.{Formed, clause_viewed, goal_viewed, view};
 ghost use Rattle.inspect.specs.Missing.{missing_by, missing_clause, missing_goal, missing_from};

@@ -14,13 +14,15 @@ use Rattle.definitions.specs.Refusal.{Refusable, refused, accepted, ◌refuses�
 use Rattle.definitions.specs.Lists.{push, position}
 use Rattle.definitions.specs.Book.{Clause, Goal, Book, with_clauses, literals_name, clauses_name, goals_name, read}
 use Rattle.definitions.specs.Book.{Command, goal, clause, positive, ranged, negative, unknown, command, width}
-use Rattle.definitions.specs.Book.{end as end-of-book, read_loosely, named}
+use Rattle.definitions.specs.Book.{end as end-of-book}
+use Rattle.definitions.specs.Mend.{read_loosely}
 use Rattle.definitions.specs.Desk.{same_clause, Repeat, repeat_behind, repeat_from, at_desk, desk}
 use Rattle.papers.specs.Mend.{repeated, reason, reasons_behind, reasons_of, reasons}
 use Rattle.papers.specs.Mend.{kept_by, kept_behind, kept_goals, mended_book, Copying, has_none, at_clause, at_command}
 use Rattle.papers.specs.Mend.{if_stays, copy, copied, reason_line, clause_lines, goal_lines, Mended, mended_from, mend}
 use Rattle.definitions.proofs.Refusal.{not_accepted, same_accepted}
 use Rattle.definitions.proofs.Desk.{desk_took, desk_passes, none_found}
+use Rattle.definitions.proofs.Mend.{named, read_named}
 use Rattle.definitions.proofs.ReadKeeps.{named_passed}
 use Rattle.papers.proofs.MendBooks.{stay, staying}
 use Rattle.papers.proofs.MendReads.{Along}
@@ -165,7 +167,8 @@ mended_accepted bytes book e =
     let names : goals_name (length b) b ≡ true
     = ap (λ (n : ℕ). goals_name n b) (kept_length (length book) book) ∙ goals_kept_named (length book) book in
     let taken : read (copied bytes (reasons book)) ≡ accepted b
-    = ap named (loose_copied bytes book e) ∙ ap (λ (c : Bool). unless (not c refuses 6 ∷ []) b) names in
+    = read_named (copied bytes (reasons book)) 0 [] ∙ ap named (loose_copied bytes book e)
+    ∙ ap (λ (c : Bool). unless (not c refuses 6 ∷ []) b) names in
     ap at_desk taken ∙ desk_passes (accepted b) (goals_kept_once 0 (length book) book)
 
 -- A paper that has no such clause.
@@ -244,7 +247,7 @@ no_reasons_of g n (h ∷ hs) e f =
 pub mended_same : (bytes : List ℕ) (book : Book) → desk bytes ≡ accepted book → mend bytes ≡ accepted (record { bytes = bytes; lines = [] })
 mended_same bytes book e =
     let d = desk_took (read bytes) book e in
-    let l = named_passed (read_loosely bytes) book d.0 in
+    let l = named_passed (read_loosely bytes) book (sym (read_named bytes 0 []) ∙ d.0) in
     let n = no_reasons_of 0 (length book) book l.1 (none_found book d.1) in
     ap (mended_from bytes) l.0
     ∙ ap₂ (λ (a b : List ℕ). accepted (record { bytes = a; lines = b }))

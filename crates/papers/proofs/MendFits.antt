@@ -9,7 +9,8 @@ use mathlib.Core.List.{List, [], ◌∷◌, ◌++◌}
 use lib.ListN.{length, length-append}
 use Rattle.definitions.specs.Refusal.{Refusable, refused, accepted}
 use Rattle.definitions.specs.Lists.{push, position}
-use Rattle.definitions.specs.Book.{Clause, Goal, Book, clause_count, literals_name, command, width, read_loosely}
+use Rattle.definitions.specs.Book.{Clause, Goal, Book, clause_count, literals_name, command, width}
+use Rattle.definitions.specs.Mend.{read_loosely}
 use Rattle.definitions.specs.Desk.{same_clause, desk}
 use Rattle.definitions.specs.Text.{decimal}
 use Rattle.definitions.proofs.Refusal.{not_accepted, same_accepted, same_refused}

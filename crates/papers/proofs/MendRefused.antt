@@ -12,13 +12,14 @@ use lib.Dec.{eqb, ltb}
 use borrow.Author.Tests.{ltb-false}
 use Rattle.definitions.specs.Refusal.{Refusable, refused, accepted, ◌refuses◌, unless}
 use Rattle.sizes.specs.Limits.{read_ahead}
-use Rattle.definitions.specs.Book.{Book, Command, command, width, is_end, goals_name}
-use Rattle.definitions.specs.Book.{apply_command, whole_command, read_from, read_loosely, named, read}
+use Rattle.definitions.specs.Book.{Book, command, width, is_end, goals_name}
+use Rattle.definitions.specs.Book.{whole_command, read}
+use Rattle.definitions.specs.Mend.{loose_end, loose_from, read_loosely}
 use Rattle.definitions.specs.Desk.{repeats, at_desk, desk}
 use Rattle.definitions.proofs.Refusal.{not_accepted, same_accepted, same_refused, all_pass}
 use Rattle.definitions.proofs.Book.{applied}
-use Rattle.definitions.proofs.Prefix.{room, taken, go_on}
-use Rattle.definitions.proofs.ReadKeeps.{is_the_end}
+use Rattle.definitions.proofs.Mend.{named, read_named}
+use Rattle.definitions.proofs.Prefix.{room, taken}
 use Rattle.definitions.proofs.ReadNumbers.{RefusedBy, loosely_refused}
 use Rattle.definitions.proofs.Desk.{desk_take, desk_unread}
 use Rattle.papers.specs.Mend.{mended_book, Mended, mended_from, mend}
@@ -45,13 +46,13 @@ mend_refused bytes n e = on (read_loosely bytes) refl (loose_other bytes) e
         → (desk bytes ≡ refused n) × (n ≡ 6 → ⊥) × (n ≡ 36 → ⊥)
     on (refused m) k o f =
         let s : m ≡ n = same_refused f in
-        (desk_unread bytes n (ap named k ∙ ap refused s), λ z. other_than m 6 refl o (s ∙ z), λ z. other_than m 36 refl o (s ∙ z))
+        (desk_unread bytes n (read_named bytes 0 [] ∙ ap named k ∙ ap refused s), λ z. other_than m 6 refl o (s ∙ z), λ z. other_than m 36 refl o (s ∙ z))
     on (accepted book) k o f = absurd (not_accepted (sym f))
 
 -- a paper that the desk refuses by another number than these two is refused by it
 pub refused_mend : (bytes : List ℕ) (n : ℕ) → desk bytes ≡ refused n → (n ≡ 6 → ⊥) → (n ≡ 36 → ⊥) → mend bytes ≡ refused n
 refused_mend bytes n e not_6 not-36 =
-    ap (mended_from bytes) (loosely (read_loosely bytes) (at (read bytes) e))
+    ap (mended_from bytes) (loosely (read_loosely bytes) (sym (read_named bytes 0 []) ∙ at (read bytes) e))
   where
     by_one : (b : Bool) (m : ℕ) (book : Book) → unless (b refuses m ∷ []) book ≡ refused n → n ≡ m
     by_one true m book f = sym (same_refused f)
@@ -75,29 +76,33 @@ mend_accepted bytes m e book k =
 -- The first 20,480 bytes settle it.
 
 -- what is read loosely is no longer than the room of a book, and the end command
-pub loose_short : (bytes : List ℕ) (skip : ℕ) (book final : Book) → read_from bytes skip book ≡ accepted final
+pub loose_short : (bytes : List ℕ) (skip : ℕ) (book final : Book) → loose_from bytes skip book ≡ accepted final
     → length bytes ≤ room book + skip + 1
 loose_short [] skip book final e = absurd (not_accepted e)
 loose_short (b ∷ bs) (suc skip) book final e = omega (arith, loose_short bs skip book final e)
-loose_short (b ∷ bs) zero book final e =
-    given (whole_command (command b) bs book) refl (λ next. loose_short bs (width (command b)) next final) e
+loose_short (b ∷ bs) zero book final e = on (is_end (command b)) refl (loose_short bs (width (command b))) e
   where
-    Later : Type 0
-    Later = (next : Book) → read_from bs (width (command b)) next ≡ accepted final → length bs ≤ room next + width (command b) + 1
-
-    by_end : (last : Bool) → is_end (command b) ≡ last → (next : Book) → apply_command (command b) bs book ≡ accepted next → Later
-        → elim last [ true ↦ accepted next | false ↦ read_from bs (width (command b)) next ] ≡ accepted final
+    given : (r : Refusable Book) → whole_command (command b) bs book ≡ r → is_end (command b) ≡ false
+        → ((next f : Book) → loose_from bs (width (command b)) next ≡ accepted f → length bs ≤ room next + width (command b) + 1)
+        → elim r [ refused n ↦ refused n | accepted next ↦ loose_from bs (width (command b)) next ] ≡ accepted final
         → length (b ∷ bs) ≤ room book + 0 + 1
-    by_end true i next k ih f =
-        let ended = subst (λ (c : Command). apply_command c bs book ≡ accepted next) (is_the_end (command b) i) k in
-        let a = all_pass (ltb 0 (length bs) refuses 7 ∷ eqb (length book) 0 refuses 8 ∷ []) book next ended in
+    given (refused n) k z ih f = absurd (not_accepted f)
+    given (accepted next) k z ih f =
+        omega (arith, ih next final f, taken (command b) bs book next z (applied (command b) bs book next k))
+
+    on : (ends : Bool) → is_end (command b) ≡ ends
+        → ((next f : Book) → loose_from bs (width (command b)) next ≡ accepted f → length bs ≤ room next + width (command b) + 1)
+        → elim ends [
+          | true ↦ loose_end bs book
+          | false ↦ elim (whole_command (command b) bs book) [
+            | refused n ↦ refused n
+            | accepted next ↦ loose_from bs (width (command b)) next
+          ]
+        ] ≡ accepted final → length (b ∷ bs) ≤ room book + 0 + 1
+    on true z ih f =
+        let a = all_pass (ltb 0 (length bs) refuses 7 ∷ eqb (length book) 0 refuses 8 ∷ []) book final f in
         omega (arith, ltb-false 0 (length bs) a.0.0)
-    by_end false i next k ih f = omega (arith, ih next f, taken (command b) bs book next i k)
-
-    given : (r : Refusable Book) → whole_command (command b) bs book ≡ r → Later → go_on (command b) bs r ≡ accepted final
-        → length (b ∷ bs) ≤ room book + 0 + 1
-    given (refused n) k ih f = absurd (not_accepted f)
-    given (accepted next) k ih f = by_end (is_end (command b)) refl next (applied (command b) bs book next k) ih f
+    on false z ih f = given (whole_command (command b) bs book) refl z ih f
 
 pub mend_take : (bytes : List ℕ) → mend (take read_ahead bytes) ≡ mend bytes
 mend_take bytes = by_length (dec_le (length bytes) read_ahead)

@@ -11,7 +11,7 @@ use lib.ListN.{length}
 use lib.Dec.{eqb, ltb}
 use Rattle.definitions.specs.Refusal.{Refusable, refused, accepted}
 use Rattle.definitions.specs.Lists.{any_passes, Each}
-use Rattle.definitions.specs.Book.{Literal, Positive, Negative, Clause, Goal, Book, clause_count, end}
+use Rattle.definitions.specs.Book.{Literal, Positive, Negative, Clause, Goal, Book, clause_count}
 use Rattle.definitions.specs.Book.{literals_name, clauses_name, goals_name, read, write}
 use Rattle.definitions.specs.Book.{WantWithin, LiteralsWithin, ClausesWithin, GoalsWithin, Within}
 use Rattle.definitions.specs.Desk.{desk}

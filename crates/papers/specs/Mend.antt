@@ -7,7 +7,8 @@ use Rattle.std.proofs.Math.ListN.{get_elem?}
 use Rattle.definitions.specs.Refusal.{Refusable, refused, accepted}
 use Rattle.definitions.specs.Lists.{push, position}
 use Rattle.definitions.specs.Book.{Clause, Goal, Book, Command, goal, clause, positive, ranged, negative, end, unknown, command}
-use Rattle.definitions.specs.Book.{width, with_clauses, read_loosely, literals_name}
+use Rattle.definitions.specs.Book.{width, with_clauses, literals_name}
+use Rattle.definitions.specs.Mend.{read_loosely}
 use Rattle.definitions.specs.Desk.{same_clause}
 use Rattle.definitions.specs.Text.{ascii, decimal}
 

@@ -16,7 +16,7 @@ use Rattle.definitions.specs.Turn.{root_answer}
 use Rattle.definitions.specs.Forest.{make, is_marked, opened, open_goal, not_made, index_above, search, peek, peek_rounds, SearchMade}
 use Rattle.definitions.specs.Forest.{any_future_answer}
 use Rattle.definitions.specs.Calls.{Sitting, sitting, Call, opens, searches, peeks, asks_future, Reply, refusal, future, call}
-use Rattle.definitions.specs.Calls.{table, searched, peeked, searches_made, Called, calls}
+use Rattle.definitions.specs.Calls.{table, searched, peeked, searches_made, calls}
 use Rattle.papers.specs.Model.{Plain, Levelled, In}
 use Rattle.papers.specs.Claim.{MarkedSays, reply_stopped, AllSay, exceeded_among, exceeded, granted, all_granted, Demand3}
 use Rattle.papers.specs.Claim.{AsPromised, Demand3AtDesk}
@@ -185,15 +185,3 @@ demand_3 bytes limit f e level = let m = made_from bytes limit f e in
 -- through the desk: a forest that is made there is one that `make` gives
 pub demand_3_at_desk : Demand3AtDesk
 demand_3_at_desk bytes limit f e = demand_3 bytes limit f (made_as_read bytes limit f e)
-
--- No reply grants anything, so that the bound is that of the goals and clauses alone.
-none_granted : (r : Reply) → granted r ≡ 0
-none_granted (refusal n) = refl
-none_granted (table t) = refl
-none_granted (searched e turns) = refl
-none_granted (peeked e i turns k) = refl
-none_granted (future b) = refl
-
-pub nothing_granted : (cs : List Called) → all_granted cs ≡ 0
-nothing_granted [] = refl
-nothing_granted (c ∷ cs) = let x = none_granted c.reply in let y = nothing_granted cs in omega arith

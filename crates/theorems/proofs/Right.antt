@@ -24,7 +24,7 @@ use Rattle.definitions.proofs.Desk.{made_as_read}
 use Rattle.definitions.proofs.Refusal.{same_accepted, not_accepted, all_pass}
 use Rattle.asserts.proofs.Safe.{stop_go, same_go}
 use Rattle.promises.proofs.Demand as promised
-use Rattle.promises.proofs.Demand.{nothing_granted}
+use Rattle.promises.proofs.Before.{nothing_granted}
 use Rattle.forest.specs.declared.Forest.{Forest}
 use Rattle.forest.specs.declared.any_future_answer.Future.{Future}
 use Rattle.forest.specs.declared.any_future_answer.Future.TheVariants as futures

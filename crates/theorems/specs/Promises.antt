@@ -8,7 +8,8 @@ use Rattle.std.proofs.Math.Option.{Option, none, some}
 use Rattle.std.proofs.Math.ListN.{get_elem?}
 use Rattle.sizes.specs.Limits.{read_ahead}
 use Rattle.definitions.specs.{CompleteAnswer}
-use Rattle.definitions.specs.Book.{Book, Clause, Want, Positive, low, high, read, read_loosely, write, Within, clause_count}
+use Rattle.definitions.specs.Book.{Book, Clause, Want, Positive, low, high, read, write, Within, clause_count}
+use Rattle.definitions.specs.Mend.{read_loosely}
 use Rattle.definitions.specs.Calls.{calls}
 use Rattle.definitions.specs.Desk.{desk, Repeat, first_repeat, same_clause, NoRepeats, RepeatAt}
 use Rattle.definitions.specs.Fitting.{answer_fits}

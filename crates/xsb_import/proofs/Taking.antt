@@ -11,12 +11,12 @@ use borrow.Author.Tests.{eq-eqb, ne_eqb, le-ltb}
 use Rattle.definitions.specs.Refusal.{Refusable, refused, accepted, ◌refuses◌, unless}
 use Rattle.definitions.specs.Lists.{any_passes}
 use Rattle.definitions.specs.Book as said
-use Rattle.definitions.specs.Book.{write, end_command, named, goals_name, clause_count}
+use Rattle.definitions.specs.Book.{write, end_command, goals_name, clause_count}
 use Rattle.definitions.specs.Desk.{at_desk, desk}
 use Rattle.papers.specs.Xsb.{Rule, State, start, is_long, goals_for, book_of, parsed_book, bytes_of, check_import}
+use Rattle.definitions.proofs.Refusal.{all_pass}
 use Rattle.definitions.proofs.Desk.{desk_took}
 use Rattle.definitions.proofs.RoundTrip.{read_written}
-use Rattle.definitions.proofs.ReadKeeps.{end_passed, named_passed}
 use Rattle.papers.proofs.XsbBooks.{goals_for_length, rules_back}
 use Rattle.laws.specs.All.{All}
 use Rattle.papers.specs.XsbForm.{BareRule, Ordered}
@@ -76,32 +76,37 @@ taken_own : (book : said.Book) (x : Refusable said.Book) → ((b : said.Book) �
 taken_own book (refused n) f = refl
 taken_own book (accepted b) f = ap (λ (c : said.Book). accepted (write c)) (f b refl)
 
-abbrev ended : said.Book → Refusable said.Book
-ended book = named (end_command [] book)
-
-end_keeps : (book b : said.Book) → at_desk (ended book) ≡ accepted b → book ≡ b
-end_keeps book b e = (end_passed [] book b (named_passed (end_command [] book) b (desk_took (ended book) b e).0).0).1
+end_keeps : (book b : said.Book) → at_desk (end_command [] book) ≡ accepted b → book ≡ b
+end_keeps book b e =
+    (all_pass
+    (ltb 0 0 refuses 7
+    ∷ eqb (length book) 0 refuses 8
+    ∷ not (goals_name (length book) book) refuses 6
+    ∷ []) book b (desk_took (end_command [] book) b e).0).1
 
 -- with a literal that names no goal
 unnamed : (n : ℕ) (book : said.Book) → length book ≡ n → goals_name n book ≡ false
-    → ended book ≡ elim (eqb n 0) [ true ↦ refused 8 | false ↦ refused 6 ]
-unnamed n book l e = ap (λ (k : ℕ). named (unless (eqb k 0 refuses 8 ∷ []) book)) l ∙ on (eqb n 0)
+    → end_command [] book ≡ elim (eqb n 0) [ true ↦ refused 8 | false ↦ refused 6 ]
+unnamed n book l e =
+    ap (λ (k : ℕ). unless (false refuses 7 ∷ eqb k 0 refuses 8 ∷ not (goals_name k book) refuses 6 ∷ []) book) l
+    ∙ ap (λ (b : Bool). unless (false refuses 7 ∷ eqb n 0 refuses 8 ∷ not b refuses 6 ∷ []) book) e
+    ∙ on (eqb n 0)
   where
-    on : (c : Bool) → named (unless (c refuses 8 ∷ []) book) ≡ elim c [ true ↦ refused 8 | false ↦ refused 6 ]
+    on : (c : Bool) → unless (false refuses 7 ∷ c refuses 8 ∷ true refuses 6 ∷ []) book ≡ elim c [ true ↦ refused 8 | false ↦ refused 6 ]
     on true = refl
-    on false = ap (λ (b : Bool). unless (not b refuses 6 ∷ []) book) (ap (λ (k : ℕ). goals_name k book) l ∙ e)
+    on false = refl
 
 same_desk : (n : ℕ) (rs : List Rule) → n ≤ 65535
-    → taken_by (at_desk (ended (goals_for 0 n (map capped_rule rs)))) (write (goals_for 0 n (map capped_rule rs)))
-    ≡ bytes_of (at_desk (ended (goals_for 0 n rs)))
+    → taken_by (at_desk (end_command [] (goals_for 0 n (map capped_rule rs)))) (write (goals_for 0 n (map capped_rule rs)))
+    ≡ bytes_of (at_desk (end_command [] (goals_for 0 n rs)))
 same_desk n rs h = on (goals_name n (goals_for 0 n rs)) refl
   where
     on : (b : Bool) → goals_name n (goals_for 0 n rs) ≡ b
-        → taken_by (at_desk (ended (goals_for 0 n (map capped_rule rs)))) (write (goals_for 0 n (map capped_rule rs)))
-        ≡ bytes_of (at_desk (ended (goals_for 0 n rs)))
+        → taken_by (at_desk (end_command [] (goals_for 0 n (map capped_rule rs)))) (write (goals_for 0 n (map capped_rule rs)))
+        ≡ bytes_of (at_desk (end_command [] (goals_for 0 n rs)))
     on true e =
-        ap (λ (b : said.Book). taken_by (at_desk (ended b)) (write b)) (goals_same 65535 n 0 n rs h e)
-        ∙ taken_own (goals_for 0 n rs) (at_desk (ended (goals_for 0 n rs))) (end_keeps (goals_for 0 n rs))
+        ap (λ (b : said.Book). taken_by (at_desk (end_command [] b)) (write b)) (goals_same 65535 n 0 n rs h e)
+        ∙ taken_own (goals_for 0 n rs) (at_desk (end_command [] (goals_for 0 n rs))) (end_keeps (goals_for 0 n rs))
     on false e =
         ap (λ (x : Refusable said.Book). taken_by (at_desk x) (write (goals_for 0 n (map capped_rule rs))))
         (unnamed n (goals_for 0 n (map capped_rule rs)) (goals_for_length 0 n (map capped_rule rs)) (goals_names 65535 n 0 n rs h ∙ e))
@@ -116,7 +121,7 @@ same_desk n rs h = on (goals_name n (goals_for 0 n rs)) refl
 
 -- the desk's own tests, where no limit is passed
 book_ends : (n : ℕ) (rs : List Rule) → n ≤ 64 → length rs ≤ 256 → any_passes is_long rs ≡ false
-    → book_of n rs ≡ ended (goals_for 0 n rs)
+    → book_of n rs ≡ end_command [] (goals_for 0 n rs)
 book_ends n rs few fewer short =
     let b = goals_for 0 n rs in
     ap (λ (p : Bool). unless (p refuses 5 ∷ ltb 256 (length rs) refuses 5 ∷ any_passes is_long rs refuses 5 ∷ eqb n 0 refuses 8
@@ -125,19 +130,13 @@ book_ends n rs few fewer short =
     ∷ not (goals_name n b) refuses 6 ∷ []) b) (le-ltb 256 (length rs) fewer)
     ∙ ap (λ (p : Bool). unless (p refuses 5 ∷ eqb n 0 refuses 8 ∷ not (goals_name n b) refuses 6 ∷ []) b) short
     ∙ ap (λ (k : ℕ). unless (eqb k 0 refuses 8 ∷ not (goals_name k b) refuses 6 ∷ []) b) (sym (goals_for_length 0 n rs))
-    ∙ apart (eqb (length b) 0) b
-  where
-    apart : (c : Bool) (b : said.Book) → unless (c refuses 8 ∷ not (goals_name (length b) b) refuses 6 ∷ []) b
-        ≡ named (unless (c refuses 8 ∷ []) b)
-    apart true b = refl
-    apart false b = refl
 
 -- The bytes.
 
 -- as they are read
 capped_read : (n : ℕ) (rs : List Rule) → n ≤ 64 → length rs ≤ 256 → any_passes is_long rs ≡ false → (s : State) → RulesFit s
     → s.tables ≡ n → s.rules ≡ rs
-    → said.read (write (goals_for 0 n (map capped_rule rs))) ≡ ended (goals_for 0 n (map capped_rule rs))
+    → said.read (write (goals_for 0 n (map capped_rule rs))) ≡ end_command [] (goals_for 0 n (map capped_rule rs))
 capped_read n rs few fewer short s f t e =
     let ordered : Ordered n 0 (map capped_rule rs)
     = ordered_capped 65535 (subst (λ (k : ℕ). Ordered k 0 rs) t (subst (Ordered s.tables 0) e f.in_order)) in
@@ -145,8 +144,8 @@ capped_read n rs few fewer short s f t e =
     let count : clause_count book ≡ length rs
     = sym (rules_length 0 book) ∙ ap length (rules_back n (map capped_rule rs) ordered) ∙ length-map rs capped_rule in
     let size = goals_for_length 0 n (map capped_rule rs) in
-    ap named (read_written 65536 book (goals_within 0 n rs (subst (λ (qs : List Rule). All BareRule qs) e f.bare) short) (omega arith)
-    (omega arith))
+    read_written 65536 book (goals_within 0 n rs (subst (λ (qs : List Rule). All BareRule qs) e f.bare) short) (omega arith)
+    (omega arith)
 
 -- all that was written
 written_whole : (n : ℕ) (rs : List Rule) (k : Kept) (a b c : List ℕ) (u v : ℕ) → length a ≡ 13441 → Whole rs k a → n ≤ 64
@@ -194,7 +193,7 @@ finish_book text rd s k own b c u v r m br z j o few e f g d h =
     (subst (λ (x : ℕ). Writes own k.used (goal_bytes (x - k.goals)) b u) t f) g in
     let desks = d.1 all.1 in
     let few_rules : length rs ≤ 256 = omega (arith, kept.clauses_are, kept.few_clauses) in
-    let text_says : check_import text ≡ bytes_of (at_desk (ended (goals_for 0 n rs)))
+    let text_says : check_import text ≡ bytes_of (at_desk (end_command [] (goals_for 0 n rs)))
     = ap (λ (x : Option State). bytes_of (parsed_book x)) p.ends
     ∙ ap (λ (x : Refusable said.Book). bytes_of (at_desk x)) (book_ends n rs (omega arith) few_rules kept.short) in
     let bytes-say : taken_by (desk (take v c)) (take v c) ≡ check_import text

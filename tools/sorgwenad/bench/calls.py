@@ -198,7 +198,7 @@ def main(words):
     p.add_argument("--runs", type=int, default=7, help="of each script on each side (7)")
     p.add_argument("--short", action="store_true", help="turns and calls alone, three runs each")
     p.add_argument("--growth", action="store_true", help="how the cost of a turn grows, too")
-    p.add_argument("--program", metavar="PATH", help="a program in place of target/bin/replay")
+    p.add_argument("--program", metavar="PATH", help="a program in place of the proved replay")
     a = p.parse_args(words)
     both = Sides(a)
     print("least (median) of %d runs, ns" % both.runs)

@@ -1,4 +1,4 @@
-"""ns an operation of the stores, the reading of a book and its check, by the program `stores_bench` (after `rt check stores_bench`)."""
+"""ns an operation of the stores, the reading of a book and its check, by the program `stores_bench` (after `rt run` in its folder)."""
 import os
 import subprocess
 import time

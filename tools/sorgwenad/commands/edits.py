@@ -1,48 +1,43 @@
-"""Edits that must be refused, tried quickly: each crate is proved once, and each edit of it alone on top of that.
+"""Edits that must be refused, each tried alone on a copy of the tree.
 
-An edit is a file `NAME.edit` of crates/CRATE/refused/, or of must-fail/, where `rt ci` tries it too, from nothing (shared/edits.py has the
-form). It keeps the code's shape and makes it wrong, so that the check has to refuse it, and for the right reason: its first error must be a
-fact that no longer holds. A text that does not parse, a name that is gone, or a proof that asks for what is no longer there shows nothing.
-`NAME.same` beside an edit has the same form and has another way to write what is right: it must be accepted, so that the refusal of the
-edit beside it shows a fact and no misfit of the proof. Those of crates/CRATE/refused/more/ are tried with --all, or where they are named:
-they show what another one shows of a function nearby, and the gate has no time for them.
+An edit is a file `NAME.edit` of crates/CRATE/refused/, or of must-fail/, where `rt ci` tries it too (shared/edits.py has the form). It keeps
+the code's shape and makes it wrong, so that the check has to refuse it, and for the right reason: its first error must be a fact that no
+longer holds. A text that does not parse, a name that is gone, or a proof that asks for what is no longer there shows nothing. `NAME.same`
+beside an edit has the same form and has another way to write what is right: it must be accepted, so that the refusal of the edit beside it
+shows a fact and no misfit of the proof. Those of crates/CRATE/refused/more/ are tried with --all, or where they are named: they show what
+another one shows of a function nearby, and the gate has no time for them.
 
 With no crate named: those that have a folder refused/.
 
-The crates are proved first, in a copy of the tree (what `rt check` proved of these very files in the tree counts). Then some edits of a
-crate at a time get a folder of their own outside the tree, with what was proved. There the crate is checked as it stands (`rt dev`: over
-what was checked before, which is what makes it quick, and is why this is no verdict), then with edits, which are undone afterwards.
-Edits of different functions are put in together, since a function is proved from the contracts of those it calls and not from their
-code: each must be refused in the proof of the function that it changes. One that is not, one that changes more than one function or a
-definition, and all of them with --alone, is tried by itself.
-With --beside nothing is proved here: a process of that number, an `rt ci` of this tree, does it, and a crate's edits are tried once it is
-proved there. A line an edit; the last line counts. Status 0 only if all is as expected.
+An edit of its own crate is tried by `rt must-fail`, over what was proved, in a copy of the tree that has all these edits where that command
+looks for them; what it came to is kept on this machine as long as nothing that it stands on changes. What `rt must-fail` has no form for, an
+edit that changes a crate below too and a NAME.same, is tried by `rt check` of the crate in a copy that it is put into and taken out of
+again. A line an edit; the last line counts. Status 0 only if all is as expected.
 """
 import concurrent.futures
 import os
+import queue
 import re
 import shutil
 import subprocess
 import time
 
-from sorgwenad.shared import edits, kept, tree
+from sorgwenad.shared import edits, proofs, tree
 from sorgwenad.shared.command import parser, processors
-from sorgwenad.shared.crates import below, listed
+from sorgwenad.shared.crates import listed
 
-# Edits that are put in together, or share a folder one after the other.
-TOGETHER = 8
 # What a first error looks like where a fact no longer holds.
 FACT = [
+    r"^it is not proved that",
     r"the two types (first )?differ",
     r"the two indices (first )?differ",
     r"the two types are `",
     r"expected type `",
-    r"`search`: no proof of",
-    r"`omega`: the goal does not follow",
-    r"^it is not proved that",
+    r"`(search|grind|omega)`: (no proof of|the goal does not follow|the goal was not proved)",
 ]
 # A rewriting that gets stuck may be the fault of the fact or of the proof's form. Then a NAME.same beside the edit has to be accepted.
 STUCK = r"`simp`|`rw`|give a proof of that as the last argument|the two sides (first )?differ"
+REFUSED = "refused, as it must be"
 
 
 class Edit:
@@ -53,6 +48,10 @@ class Edit:
         self.has_same = os.path.exists(os.path.join(os.path.dirname(path), self.name + ".same"))
         self.label = "%s/%s%s" % (crate, self.name, "" if self.refused else " (the same)")
 
+    def is_for_rt(self):
+        """Whether `rt must-fail` can try it."""
+        return self.refused and all(crate == self.crate for crate, _, _, _ in edits.pairs(self.path, self.crate))
+
 
 def edits_of(crate, more):
     found = []
@@ -60,229 +59,142 @@ def edits_of(crate, more):
         where = os.path.join(tree.ROOT, "crates", crate, folder)
         if os.path.isdir(where):
             found += [Edit(crate, os.path.join(where, f)) for f in sorted(os.listdir(where)) if f.endswith((".edit", ".same"))]
-    names = {e.name for e in found if e.refused}
+    names = [e.name for e in found if e.refused]
     lone = [e.label for e in found if e.name not in names]
-    if lone:
-        tree.stop("no edit beside %s" % ", ".join(lone))
+    twice = sorted({"%s/%s" % (crate, name) for name in names if names.count(name) > 1})
+    if lone or twice:
+        tree.stop("no edit beside %s" % ", ".join(lone) if lone else "two edits with one name: %s" % ", ".join(twice))
     return found
 
 
-def copy_of_the_tree(folder, proved, crates):
-    """The crates' files, and what was proved of those named below `proved`: `rt` looks itself whether that is of these very files."""
-    tree.copy_of_the_crates(folder)
-    for crate in crates:
-        stamp = os.path.join(proved, "target", "stamp", crate)
-        rlib = os.path.join(proved, "target", "rlib", crate + ".rlib")
-        if os.path.isfile(stamp) and os.path.isdir(rlib):
-            os.makedirs(os.path.join(folder, "target", "stamp"), exist_ok=True)
-            shutil.copy(stamp, os.path.join(folder, "target", "stamp"))
-            shutil.copytree(rlib, os.path.join(folder, "target", "rlib", crate + ".rlib"))
+def place_and_message(line):
+    """Of an error's first line, the place and what it says; that of a function whose proof Rattle makes by itself is a note."""
+    m = re.match(r"(?:note: )?(?:\./)?(\S+?:\d+):\d+: (?:error: )?(.*)$", line)
+    return m.groups() if m else (None, None)
 
 
-def check(folder, crate):
-    """The status, what was printed, and the seconds."""
-    began = time.time()
-    run = subprocess.run(["rt", "dev", crate], cwd=folder, capture_output=True, text=True, env=dict(os.environ, RT_CUT="0"))
-    return run.returncode, run.stdout + run.stderr, time.time() - began
-
-
-def first_error(text):
-    """Its file, line and message; that of a function whose proof Rattle makes by itself is a note."""
-    m = re.search(r"^(?:note: )?(\S+?):(\d+):\d+: (?:error: (.*)|(it is not proved that .*))$", text, re.M)
-    return (m.group(1), m.group(2), m.group(3) or m.group(4)) if m else (None, None, None)
-
-
-def judged(edit, status, text):
-    """What is wrong with how an edit was taken, if anything, and where the first error is."""
-    path, line, message = first_error(text)
-    at = "%s:%s" % (re.sub(r"^.*?/crates/", "", path), line) if path else "nowhere"
-    unproved = re.search(r"^rt: (\w+) NOT PROVED", text, re.M)
-    if unproved:
-        return "the crate %s below it is refused already, at %s" % (unproved.group(1), at), at
-    if not edit.refused:
-        accepted = status == 0 and re.search(r"^logic=proved", text, re.M)
-        return "" if accepted else "NOT ACCEPTED, at %s: %s" % (at, (message or text[-300:])[:300]), at
-    if status == 0:
-        return "NOT REFUSED", at
-    if status != 1 or not re.search(r"^logic=not-proved", text, re.M):
-        return "it did not reach the prover: " + text[:300], at
-    if any(re.search(form, message or "") for form in FACT):
+def wrong_refusal(edit, line):
+    """What is wrong with the reason for which an edit was refused, if anything, and the place."""
+    at, message = place_and_message(line)
+    if not at:
+        return "refused for no error that is shown: %s" % line[:300], "nowhere"
+    if any(re.search(form, message) for form in FACT):
         return "", at
-    if re.search(STUCK, message or ""):
+    if re.search(STUCK, message):
         may_be_form = "a rewriting is stuck, at %s, which may be the form alone: write in a NAME.same what is right in another way" % at
         return "" if edit.has_same else may_be_form, at
-    return "refused for no fact, at %s: %s" % (at, (message or text)[:300]), at
+    return "refused for no fact, at %s: %s" % (at, message[:300]), at
 
 
-def tried(edit, folder):
+# By `rt must-fail`.
+
+def judged(edit, said):
+    """What is wrong with what `rt must-fail` said of an edit, if anything, and where the first error is."""
+    if not said.startswith(REFUSED):
+        return said[:600] or "nothing was said of it", ""
+    if said.startswith(REFUSED + " ("):
+        return said[:600], ""
+    return wrong_refusal(edit, said[len(REFUSED):].removeprefix(": "))
+
+
+def in_the_form_of_rt(edit):
+    lines = ["file: %s\nold: %s\nnew: %s\n" % (name, old, new) for _, name, old, new in edits.pairs(edit.path, edit.crate)]
+    return "".join(lines)
+
+
+def said_of(text):
+    """What `rt must-fail` said of each edit, by CRATE/NAME."""
+    found = {}
+    for part in re.split(r"^rt: must-fail (?=\S+\.edit: )", text, flags=re.M)[1:]:
+        label, _, said = part.partition(".edit: ")
+        found[label] = re.split(r"^rt: ", said, flags=re.M)[0].strip()
+    return found
+
+
+def tried_by_rt(some, folder, jobs):
+    """Tries them; returns how many were not as expected."""
+    crates = list(dict.fromkeys(e.crate for e in some))
+    print("%d edits of %d crates, by `rt must-fail`" % (len(some), len(crates)), flush=True)
+    tree.copy_of_the_crates(folder)
+    for crate in crates:
+        shutil.rmtree(os.path.join(proofs.crate_in(folder, crate), "must-fail"), ignore_errors=True)
+    for edit in some:
+        place = os.path.join(proofs.crate_in(folder, edit.crate), "must-fail", edit.name + ".edit")
+        os.makedirs(os.path.dirname(place), exist_ok=True)
+        tree.write(place, in_the_form_of_rt(edit))
+    own = dict(os.environ, RT_JOBS=str(jobs)) if jobs else None
+    run = subprocess.run(["rt", "must-fail", *crates], cwd=folder, capture_output=True, text=True, env=own)
+    tree.write(os.path.join(folder, "log"), run.stdout + run.stderr)
+    said, wrongs = said_of(run.stdout), 0
+    for edit in some:
+        wrong, at = judged(edit, said.get(edit.label, ""))
+        wrongs += bool(wrong)
+        print("%s: %s" % (edit.label, wrong or "refused at " + at), flush=True)
+    if not said:
+        print("`rt must-fail` ended with status %d:\n%s" % (run.returncode, (run.stdout + run.stderr)[-3000:]))
+    return wrongs
+
+
+# By `rt check`.
+
+def first_error(text):
+    """The first line of an error or of a goal that is not proved, but for what follows from another one."""
+    lines = re.findall(r"^(?:note: )?\S+:\d+:\d+: .*$", text, re.M)
+    told = [line for line in lines if ": error" in line or line.startswith("note: ")]
+    return next((line for line in told if not re.search(r"was not admitted|which was rejected", line)), "")
+
+
+def judged_by_its_check(edit, status, text):
+    """What is wrong with how an edit was taken, if anything, and where the first error is."""
+    below = re.search(r"^rt: the library (\w+) did not build", text, re.M)
+    if below:
+        return "the crate %s below it is refused already: %s" % (below.group(1), first_error(text)[:300]), ""
+    if not edit.refused:
+        return "" if status == 0 else "NOT ACCEPTED: %s" % (first_error(text) or text[-300:])[:300], ""
+    if status == 0:
+        return "NOT REFUSED", ""
+    if status != 1 or not re.search(r"^logic=not-proved", text, re.M):
+        return "it did not reach the prover (status %d): %s" % (status, text[-300:]), ""
+    return wrong_refusal(edit, first_error(text))
+
+
+def tried_alone(edit, rooms):
+    """Tries an edit in one of the rooms, when one is free; prints how it was taken, and returns whether that is not as expected."""
+    room, began, text, at = rooms.get(), time.time(), "", ""
     try:
-        before = edits.apply(edit.path, edit.crate, os.path.join(folder, "crates"))
-    except edits.Bad as bad:
-        return "BAD EDIT: %s" % bad, "", 0
-    status, text, seconds = check(folder, edit.crate)
-    edits.undo(before)
-    tree.write(os.path.join(folder, edit.name + (".edit" if edit.refused else ".same") + ".log"), text)
-    wrong, at = judged(edit, status, text)
-    return wrong, at, seconds
-
-
-def function_at(name, text):
-    """Where the proof stands of the function in which a file's text ends; None before the first."""
-    heads = re.findall(r"^ *(?:pub(?:\(crate\))? )?fn (\w+)", text, re.M)
-    module = name[len("src/"):-len(".rt")]
-    return None if not heads else heads[-1] if module == "lib" else "%s/%s" % (module, heads[-1])
-
-
-def proved_in(name):
-    """The function whose proof a file holds; None for any other file. One that calls itself has a sign before the name of its folder."""
-    proof = re.fullmatch(r"proofs/(.+)/Proof\.antt", name)
-    return proof.group(1).replace("/+", "/") if proof else None
-
-
-def function_of(edit):
-    """Where the proof of the one function stands that the edit changes; None where it changes more, or a definition."""
-    found = set()
-    for crate, name, old, _ in edits.pairs(edit.path, edit.crate):
-        path = os.path.join(tree.ROOT, "crates", crate, name)
-        text = tree.read(path) if os.path.isfile(path) else ""
-        if crate != edit.crate or text.count(old) != 1:
-            return None
-        if name.startswith("src/"):
-            found.add(function_at(name, text[:text.index(old) + len(old)]))
-        else:
-            # a proof by hand fits one code alone, so that an edit of the code may change it too
-            found.add(proved_in(name))
-    return found.pop() if len(found) == 1 else None
-
-
-def refused_there(edit, function, text):
-    """Where an edit that was put in with others is refused for a fact, in the proof of its own function; None where that can't be seen."""
-    for m in re.finditer(r"^(?:note: )?(\S+?):(\d+):\d+: (?:error: (.*)|(it is not proved that .*))$", text, re.M):
-        path, line, message, unproved = m.groups()
-        name = path.partition("/crates/%s/" % edit.crate)[2]
-        if unproved and name.startswith("src/"):
-            there = function_at(name, "\n".join(tree.read(path).split("\n")[:int(line)]))
-        else:
-            there = proved_in(name)
-        if there == function:
-            fact = any(re.search(form, message or unproved) for form in FACT)
-            return "%s/%s:%s" % (edit.crate, name, line) if fact else None
-    return None
-
-
-def together(tries, alone):
-    """The edits in groups, no two of a group of one function, and those that are tried by themselves."""
-    groups, single = [], []
-    for edit in tries:
-        function = None if alone or not edit.refused or edit.has_same else function_of(edit)
-        if not function:
-            single.append(edit)
-            continue
-        for group in groups:
-            if len(group) < TOGETHER and function not in [f for _, f in group]:
-                group.append((edit, function))
-                break
-        else:
-            groups.append([(edit, function)])
-    single += [group[0][0] for group in groups if len(group) == 1]
-    return [group for group in groups if len(group) > 1], single
-
-
-def tried_together(group, folder):
-    """Of a group, the edits that are refused so with where, and those that are left to be tried by themselves."""
-    before, crate = {}, group[0][0].crate
-    try:
-        for edit, _ in group:
-            for file, text in edits.apply(edit.path, crate, os.path.join(folder, "crates")).items():
-                before.setdefault(file, text)
-    except edits.Bad:
+        before = edits.apply(edit.path, edit.crate, os.path.join(room, "crates"))
+        status, text = proofs.check(room, edit.crate, ["--jobs", "1"])
         edits.undo(before)
-        return [], [edit for edit, _ in group], 0
-    status, text, seconds = check(folder, crate)
-    places = [(edit, refused_there(edit, function, text) if status == 1 else None) for edit, function in group]
-    edits.undo(before)
-    for edit, _ in group:
-        tree.write(os.path.join(folder, edit.name + ".edit.log"), text)
-    return [(e, at) for e, at in places if at], [e for e, at in places if not at], seconds
+        wrong, at = judged_by_its_check(edit, status, text)
+    except edits.Bad as bad:
+        wrong = "BAD EDIT: %s" % bad
+    tree.write(os.path.join(room, "%s-%s%s.log" % (edit.crate, edit.name, "" if edit.refused else "-same")), text)
+    rooms.put(room)
+    message = wrong or ("refused at %s" % at if edit.refused else "accepted")
+    print("%s: %s (%d s)" % (edit.label, message, time.time() - began), flush=True)
+    return bool(wrong)
 
 
-def runs(process):
-    """Whether a process of that number runs; one that has ended and was not waited for doesn't."""
-    try:
-        return tree.read("/proc/%d/stat" % process).rpartition(")")[2].split()[0] != "Z"
-    except OSError:
-        return False
-
-
-def awaited(crate, proved, beside):
-    """Waits until the crate is proved there; false where the process that should prove it has ended without."""
-    stamp = os.path.join(proved, "target", "stamp", crate)
-    while not os.path.isfile(stamp) and beside and runs(beside):
-        time.sleep(1)
-    return os.path.isfile(stamp)
-
-
-def run_part(crate, groups, single, folder, proved, beside):
-    """Returns how many were as expected and how many not; prints as it goes."""
-    total = len(single) + sum(len(group) for group in groups)
-    if not awaited(crate, proved, beside):
-        print("%s: NOT PROVED as it stands, so its edits show nothing" % crate, flush=True)
-        return 0, total
-    copy_of_the_tree(folder, proved, below([crate]))
-    kept.seed(crate, proved, folder, os.path.dirname(folder))
-    status, text, seconds = check(folder, crate)
-    if status != 0 or not re.search(r"^logic=proved", text, re.M):
-        print("%s: NOT PROVED as it stands, so its edits show nothing:\n%s" % (crate, text[-3000:]), flush=True)
-        return 0, total
-    print("%s: proved as it stands (%d s)" % (crate, seconds), flush=True)
-    good, left = 0, list(single)
-    for group in groups:
-        seen, others, seconds = tried_together(group, folder)
-        good += len(seen)
-        left += others
-        for edit, at in seen:
-            print("%s: refused at %s (with %d others)" % (edit.label, at, len(group) - 1), flush=True)
-        print("%s: %d of %d edits refused together (%d s)" % (crate, len(seen), len(group), seconds), flush=True)
-    for edit in left:
-        wrong, at, seconds = tried(edit, folder)
-        good += not wrong
-        message = wrong or ("refused at %s" % at if edit.refused else "accepted")
-        print("%s: %s (%d s)" % (edit.label, message, seconds), flush=True)
-    return good, total - good
-
-
-def prove(crates, folder):
-    """Proves the crates in the folder, and what they are built on."""
-    copy_of_the_tree(folder, tree.ROOT, set(below(crates)) | set(crates))
-    run = subprocess.run(["rt", "check"] + sorted(crates), cwd=folder, capture_output=True, text=True)
-    if run.returncode != 0:
-        tree.stop("a crate is not proved as it stands:\n" + (run.stdout + run.stderr)[-3000:])
-
-
-def parts(tries, a):
-    """What shares a folder, one after the other: as the crates get proved, or the most first, so that no long part is left for the end."""
-    found = []
-    for crate, edits_of_it in tries.items():
-        groups, single = together(edits_of_it, a.alone)
-        found += [(crate, groups[at:at + 2], []) for at in range(0, len(groups), 2)]
-        found += [(crate, [], single[at:at + TOGETHER]) for at in range(0, len(single), TOGETHER)]
-    order = list(listed())
-    return sorted(found, key=lambda p: order.index(p[0]) if a.beside else -order.index(p[0]))
-
-
-def all_tried(tries, a, folder):
-    """How many edits were as expected, and how many not."""
-    proved = tree.ROOT if a.beside else os.path.join(folder, "proved")
-    if not a.beside:
-        prove(tries, proved)
-    kept.name_of_the_folder(folder)
-    with concurrent.futures.ThreadPoolExecutor(max(1, a.jobs)) as pool:
-        running = []
-        for number, (crate, groups, single) in enumerate(parts(tries, a)):
-            room = os.path.join(folder, "%s-%d" % (crate, number))
-            running.append(pool.submit(run_part, crate, groups, single, room, proved, a.beside))
-        counts = [r.result() for r in running]
-    return sum(g for g, w in counts), sum(w for g, w in counts)
+def tried_by_checks(some, folder, jobs):
+    """Tries them, so many at once, each in a copy of the tree; returns how many were not as expected."""
+    rooms, unproved = queue.Queue(), set()
+    for number in range(min(jobs, len(some))):
+        room = os.path.join(folder, "room-%d" % number)
+        tree.copy_of_the_crates(room)
+        rooms.put(room)
+    # in the first, so that the others begin with what is kept there
+    first = os.path.join(folder, "room-0")
+    for crate in [crate for crate in listed() if crate in {e.crate for e in some}]:
+        began = time.time()
+        status, text = proofs.check(first, crate)
+        if status:
+            unproved.add(crate)
+            print("%s: NOT PROVED as it stands, so its edits show nothing:\n%s" % (crate, text[-3000:]), flush=True)
+        else:
+            print("%s: proved as it stands (%d s)" % (crate, time.time() - began), flush=True)
+    able = [e for e in some if e.crate not in unproved]
+    with concurrent.futures.ThreadPoolExecutor(max(1, jobs)) as pool:
+        return len(some) - len(able) + sum(pool.map(lambda edit: tried_alone(edit, rooms), able))
 
 
 def parsed(words):
@@ -290,29 +202,29 @@ def parsed(words):
     p.add_argument("crates", nargs="*", metavar="CRATE", help="these crates alone")
     p.add_argument("--only", metavar="NAME", help="the edits of this name alone")
     p.add_argument("--all", action="store_true", help="those of the folders more/ too")
-    p.add_argument("--alone", action="store_true", help="each edit by itself")
     p.add_argument("--list", action="store_true", help="print the edits that there are")
-    p.add_argument("--jobs", type=int, default=min(4, processors()), help="edits at a time (%d)" % min(4, processors()))
-    p.add_argument("--beside", type=int, metavar="PID", help="an `rt ci` of this tree that is running")
-    p.add_argument("--keep", metavar="DIR", help="work in this folder and leave it there, with what the checks printed")
+    p.add_argument("--jobs", type=int, metavar="N", help="edits at a time (by the processors and the memory that there are)")
+    p.add_argument("--keep", metavar="DIR", help="work in this folder and leave it there, with what was printed")
     return p.parse_args(words)
 
 
 def main(words):
     a = parsed(words)
-    known = sorted(os.listdir(os.path.join(tree.ROOT, "crates")))
+    known = listed()
     unknown = [c for c in a.crates if c not in known]
     if unknown:
         tree.stop("no crate %s" % ", ".join(unknown))
     chosen = a.crates or [c for c in known if os.path.isdir(os.path.join(tree.ROOT, "crates", c, "refused"))]
-    tries = {c: [e for e in edits_of(c, a.all or a.only) if a.only in (None, e.name)] for c in chosen}
-    tries = {c: es for c, es in tries.items() if es}
-    if not tries:
+    some = [e for c in chosen for e in edits_of(c, a.all or a.only) if a.only in (None, e.name)]
+    if not some:
         tree.stop("no such edit; --list has the names")
     if a.list:
-        print("\n".join(e.label for es in tries.values() for e in es))
+        print("\n".join(e.label for e in some))
         return True
+    by_rt = [e for e in some if e.is_for_rt()]
+    others = [e for e in some if not e.is_for_rt()]
     with tree.folder(a.keep) as folder:
-        good, wrong = all_tried(tries, a, folder)
-    print("edits: %d as expected, %d not" % (good, wrong))
-    return not wrong
+        wrongs = tried_by_rt(by_rt, os.path.join(folder, "must-fail"), a.jobs) if by_rt else 0
+        wrongs += tried_by_checks(others, folder, a.jobs or min(4, processors())) if others else 0
+    print("edits: %d as expected, %d not" % (len(some) - wrongs, wrongs))
+    return not wrongs

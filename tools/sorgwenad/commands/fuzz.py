@@ -246,7 +246,7 @@ def parsed(words):
     p.add_argument("--jobs", type=int, default=processors(), help="seeds at once (%d)" % processors())
     p.add_argument("--kilobytes", type=int, default=1024, help="the process stack that deep books are run with (1024)")
     for name in ("replay", "listing", "from_xsb", "mend"):
-        p.add_argument("--" + name.replace("_", "-"), metavar="PATH", help="a program in place of target/bin/" + name)
+        p.add_argument("--" + name.replace("_", "-"), metavar="PATH", help="a program in place of the proved " + name)
     return p.parse_args(words)
 
 

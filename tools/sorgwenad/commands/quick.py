@@ -1,10 +1,10 @@
-"""Builds a program with no proof, in seconds, and runs it on standard input and output with the words behind it and its exit status.
+"""Builds a program with no proof, in half a minute, and runs it on standard input and output with the words behind it and its exit status.
 
     tools/run quick listing <papers/p1.book
     tools/run rust pages --program $(tools/run quick --path listing)
 
 The program is kept as target/unproved/PROGRAM and built again when a source of it has changed. A line on standard error reports that it is
-unproved: `rt check PROGRAM` proves it, and leaves the proved program in target/bin.
+unproved: `rt run` in crates/PROGRAM proves it, and leaves the proved program as out/PROGRAM there.
 """
 import argparse
 import os
@@ -49,6 +49,6 @@ def main(words):
     if a.path:
         print(path)
         return True
-    print("quick: %s is built with no proof: a wrong result is not ruled out; rt check %s proves it" % (a.program, a.program),
-          file=sys.stderr, flush=True)
+    print("quick: %s is built with no proof: a wrong result is not ruled out; rt run in crates/%s proves it" % (
+        a.program, a.program), file=sys.stderr, flush=True)
     os.execv(path, [path] + a.words[a.words[:1] == ["--"]:])

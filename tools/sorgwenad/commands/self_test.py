@@ -1,8 +1,8 @@
 """Wrong stand-ins for the programs, kept as tests of the commands: each must fail the subcommand that is to find it.
 
 Without a name: all of them. A stand-in is right but for one fault (sorgwenad/stand_ins has a file for each program); the cases by hand of
-its subcommand are compared with what it returns, and have to show a difference. With the right answers, of the program of target/bin where
-it is built and of the Rust, the same comparison has to pass. And every file of tools/cases has tables alone. Prints a line for each
+its subcommand are compared with what it returns, and have to show a difference. With the right answers, of the proved program where it
+is built and of the Rust, the same comparison has to pass. And every file of tools/cases has tables alone. Prints a line for each
 program, and for each stand-in that is not found; --list prints the stand-ins. Status 0 only if all are found and all that is right passes.
 """
 import ast

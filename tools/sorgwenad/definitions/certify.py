@@ -1,4 +1,4 @@
-"""Compares the definitions of which yes can be printed (order 2), `check-spoilers` and `spoil`, with cases by hand and with the Rust, by
+"""Compares the definitions of which yes can be printed (order 2), `check_spoilers` and `spoil`, with cases by hand and with the Rust, by
 computation.
 
 The books of `tools/run rust certify` that are short enough, each with what is expected by hand, and N random books, with what the Rust
@@ -14,28 +14,26 @@ from sorgwenad.shared.computed import HOMES, cons
 from sorgwenad.shared.oracle import find_oracle, in_lines
 
 HEADER = """-- written by tools/run definitions certify
-use mathlib.Core.Path.{_≡_, refl}
-use mathlib.Core.Option.{none, some}
-use mathlib.Core.List.{List, [], _∷_}
+use Rattle.std.specs.Prelude.{◌≡◌, refl, List, [], ◌∷◌}
+use Rattle.std.proofs.Math.Option.{none, some}
 use %(d)s.Refusal.{refused, accepted}
-use %(p)s.Spoilt.{a-coinductive-goal, a-not, check-spoilers}
+use %(p)s.Spoilt.{a_coinductive_goal, a_not, check_spoilers}
 use %(p)s.Shown.{spoils}
 """ % HOMES
 SHOWN = """-- what each goal of a book spoils by itself
-use Prim.Native.Nat.{ℕ}
-use mathlib.Core.Option.{Option}
-use mathlib.Core.List.{List, [], map}
+use Rattle.std.specs.Prelude.{ℕ, List, [], map}
+use Rattle.std.proofs.Math.Option.{Option}
 use %(d)s.Refusal.{Refusable, refused, accepted}
 use %(d)s.Book.{Book}
 use %(d)s.Desk.{desk}
 use %(p)s.Spoilt.{Spoil, spoil}
 
-abbrev pub spoils-of : Refusable Book → List (Option Spoil)
-spoils-of (refused n) = []
-spoils-of (accepted book) = map spoil book
+abbrev pub spoils_of : Refusable Book → List (Option Spoil)
+spoils_of (refused n) = []
+spoils_of (accepted book) = map spoil book
 
 abbrev pub spoils : List ℕ → List (Option Spoil)
-spoils bytes = spoils-of (desk bytes)
+spoils bytes = spoils_of (desk bytes)
 """ % HOMES
 LINE = re.compile(r'(\d+) (?:clean|spoilt by goal (\d+): (?:(coinductive)|a "not" in clause (\d+), literal (\d+)))')
 
@@ -44,7 +42,7 @@ def own(goal, by, coinductive, clause, literal):
     """What a goal spoils by itself, out of its line."""
     if by != goal:
         return "none"
-    return "some a-coinductive-goal" if coinductive else "some (a-not %s %s)" % (clause, literal)
+    return "some a_coinductive_goal" if coinductive else "some (a_not %s %s)" % (clause, literal)
 
 
 def equation(name, data, text):
@@ -53,7 +51,7 @@ def equation(name, data, text):
     found = "accepted (%s)" % cons("some %s" % by if by else "none" for _, by, _, _, _ in lines)
     right = text.split("\n")[0] if text.startswith("refused") else found
     given = cons(map(str, data))
-    return "%s : (check-spoilers (%s) ≡ %s) × (spoils (%s) ≡ %s)\n%s = (refl, refl)\n" % (
+    return "%s : (check_spoilers (%s) ≡ %s) × (spoils (%s) ≡ %s)\n%s = (refl, refl)\n" % (
         name, given, right, given, cons(own(*one) for one in lines), name)
 
 

@@ -7,32 +7,28 @@ from sorgwenad.shared import computed, pages
 from sorgwenad.shared.computed import HOMES, cons
 from sorgwenad.shared.script import BOOK, calls_of
 
-HEADER = """use Prim.Native.Nat.{ℕ}
-use mathlib.Core.Path.{_≡_, refl}
-use mathlib.Core.Bool.{true, false}
-use mathlib.Core.Option.{none, some}
-use mathlib.Core.List.{List, [], _∷_}
+HEADER = """use Rattle.std.specs.Prelude.{ℕ, ◌≡◌, refl, true, false, List, [], ◌∷◌}
+use Rattle.std.proofs.Math.Option.{none, some}
 use %(d)s.{Complete, Ambiguous}
 use %(d)s.Refusal.{refused, accepted}
 use %(d)s.Stop.{stop, go}
 use %(d)s.Book.{any, exactly, between, Positive, Negative}
 use %(d)s.Logic.{NoMoreSolutions, Floundered, QuantumExceeded, NegativeCycle, InvalidAnswer}
 use %(d)s.Turn.{found, fail, cut, stopped}
-use %(d)s.Calls.{opens, searches, peeks, asks-future, refusal, table, searched, peeked, future}
+use %(d)s.Calls.{opens, searches, peeks, asks_future, refusal, table, searched, peeked, future}
 use %(p)s.Listing.{fields, listing}
-use %(p)s.Levels.{check-levels}
-use %(p)s.NotPlain.{in-goal, in-clause, in-literal, a-flag, a-variant, a-want, a-range, not-plain-place}
-use %(p)s.Shown.{Line, Sat, shown, shown-at-desk, placed, blank-ones}
+use %(p)s.Levels.{check_levels}
+use %(p)s.NotPlain.{in_goal, in_clause, in_literal, a_flag, a_variant, a_want, a_range, not_plain_place}
+use %(p)s.Shown.{Line, Sat, shown, shown_at_desk, placed, blank_ones}
 """ % HOMES
 SHOWN = """-- what the comparison looks at
-use Prim.Native.Nat.{ℕ, zero, suc}
-use mathlib.Core.Option.{Option}
-use mathlib.Core.List.{List, [], _∷_, map}
+use Rattle.std.specs.Prelude.{ℕ, zero, suc, List, [], ◌∷◌, map}
+use Rattle.std.proofs.Math.Option.{Option}
 use %(d)s.Refusal.{Refusable, refused, accepted}
 use %(d)s.Tables.{Forest, Tables}
 use %(d)s.Book.{read}
 use %(d)s.Forest.{make}
-use %(d)s.Desk.{Repeat, first-repeat, make-at-desk}
+use %(d)s.Desk.{Repeat, first_repeat, make_at_desk}
 use %(d)s.Calls.{Call, Reply, sitting, Called, calls}
 
 pub record Line : Type 0 where
@@ -42,7 +38,7 @@ pub record Line : Type 0 where
   pub tables : Tables
 
 abbrev pub line : Called → Line
-line c = record { reply = c .reply; mark = c .after .forest .mark; clock = c .after .forest .clock; tables = c .after .forest .tables }
+line c = record { reply = c.reply; mark = c.after.forest.mark; clock = c.after.forest.clock; tables = c.after.forest.tables }
 
 -- what making returned, 0 or the number of a refusal, and the calls
 pub record Sat : Type 0 where
@@ -53,25 +49,25 @@ abbrev pub sat : ℕ → Forest → List Call → Sat
 sat n f cs = record { number = n; lines = map line (calls (sitting f) cs) }
 
 -- what a refused book leaves
-abbrev pub left-by : ℕ → Forest
-left-by n = record { book = []; clock-limit = 0; mark = n; tables = []; clock = 0 }
+abbrev pub left_by : ℕ → Forest
+left_by n = record { book = []; clock_limit = 0; mark = n; tables = []; clock = 0 }
 
 abbrev pub on : Refusable Forest → List Call → Sat
-on made cs = elim made [ refused n ↦ sat n (left-by n) cs | accepted f ↦ sat 0 f cs ]
+on made cs = elim made [ refused n ↦ sat n (left_by n) cs | accepted f ↦ sat 0 f cs ]
 
 abbrev pub shown : List ℕ → ℕ → List Call → Sat
 shown bytes limit cs = on (make bytes limit) cs
 
-abbrev pub shown-at-desk : List ℕ → ℕ → List Call → Sat
-shown-at-desk bytes limit cs = on (make-at-desk bytes limit) cs
+abbrev pub shown_at_desk : List ℕ → ℕ → List Call → Sat
+shown_at_desk bytes limit cs = on (make_at_desk bytes limit) cs
 
 abbrev pub placed : List ℕ → Refusable (Option Repeat)
-placed bytes = elim (read bytes) [ refused n ↦ refused n | accepted book ↦ accepted (first-repeat book) ]
+placed bytes = elim (read bytes) [ refused n ↦ refused n | accepted book ↦ accepted (first_repeat book) ]
 
 -- the blank lines of a page
-abbrev pub blank-ones : ℕ → List ℕ
-blank-ones zero = []
-blank-ones (suc n) = %(blank)s blank-ones n
+abbrev pub blank_ones : ℕ → List ℕ
+blank_ones zero = []
+blank_ones (suc n) = %(blank)s blank_ones n
 """ % dict(HOMES, blank="32 ∷ " * pages.WIDTH + "10 ∷")
 
 
@@ -96,7 +92,7 @@ class Script:
 
     def equation(self, name, upto=None):
         calls = self.calls[:upto]
-        left = "%s (%s) %s (%s)" % ("shown-at-desk" if self.way == "desk" else "shown", cons(str(b) for b in self.data), self.limit,
+        left = "%s (%s) %s (%s)" % ("shown_at_desk" if self.way == "desk" else "shown", cons(str(b) for b in self.data), self.limit,
                                     cons("(%s)" % called(c) for c, _, _ in calls))
         goals, number = (goal_flags(self.data), "0") if self.made == "made" else ([], self.made.split()[1])
         lines = ("(record { reply = %s; %s })" % (reply(c.split()[0], r)[0], state(d, goals)) for c, r, d in calls)
@@ -128,7 +124,7 @@ class Listing:
     def pages(self):
         """Byte by byte, but the blank lines by their number."""
         parts = re.fullmatch(rb"(.*?\n)(( {26}\n)*)", pages.paged(self.text), re.S)
-        return "".join("%d ∷ " % byte for byte in parts.group(1)) + "blank-ones %d" % (len(parts.group(2)) // 27)
+        return "".join("%d ∷ " % byte for byte in parts.group(1)) + "blank_ones %d" % (len(parts.group(2)) // 27)
 
     def equation(self, name):
         book = cons(map(str, self.data))
@@ -172,13 +168,13 @@ class Profile:
             return "none"
         words, _, fault = self.lines[-1].partition(": a ")
         numbers = re.findall(r"\d+", words)
-        return "some (%s %s a-%s)" % (("in-goal", "in-clause", "in-literal")[len(numbers) - 1], " ".join(numbers), fault)
+        return "some (%s %s a_%s)" % (("in_goal", "in_clause", "in_literal")[len(numbers) - 1], " ".join(numbers), fault)
 
     def equation(self, name):
         inside = self.lines[0] == "within demand 3"
         lines = self.lines[0 if self.lines[0].startswith("refused") else 1:]
         right = "accepted (%s)" % cons(line.split()[1] for line in lines) if inside else lines[0]
-        return "%s : (check-levels (%s) ≡ %s) × (not-plain-place (%s) ≡ %s)\n%s = (refl, refl)\n" % (
+        return "%s : (check_levels (%s) ≡ %s) × (not_plain_place (%s) ≡ %s)\n%s = (refl, refl)\n" % (
             name, cons(map(str, self.data)), right, cons(map(str, self.data)), self.place(), name)
 
     def show(self, folder):

@@ -11,8 +11,7 @@ from sorgwenad.shared.computed import HOMES, cons
 from sorgwenad.shared.oracle import find_oracle, mended, random_books
 
 HEADER = """-- written by tools/run definitions mend
-use mathlib.Core.Path.{_≡_, refl}
-use mathlib.Core.List.{List, [], _∷_}
+use Rattle.std.specs.Prelude.{◌≡◌, refl, List, [], ◌∷◌}
 use %(d)s.Refusal.{refused, accepted}
 use %(p)s.Mend.{mend, Mended}
 """ % HOMES

@@ -2,11 +2,11 @@
 
 Takes scripts from the oracle (`oracle gen S N P`, or files), has the oracle run them, and writes each as a closed equation between what
 `calls` of the crate `definitions` gives and what the oracle printed: replies, turns, how many searches of a peek ended in QuantumExceeded,
-clock, mark and every table, after each call. A forest is made by `make`, or by `make-at-desk` where the script has `desk`. The definitions
+clock, mark and every table, after each call. A forest is made by `make`, or by `make_at_desk` where the script has `desk`. The definitions
 have no forest of a refused book; the calls on it are computed on one without goals and tables, marked with the number, which is put
 together here. The listing of each book (`oracle lists`, settled) is compared with `fields` the same way, and as pages with `listing`; the
-place of the first clause that is there twice (`oracle read`) with `first-repeat`, and the levels of its goals, or why it has none (`oracle
-levels`), with `check-levels`, with the first place that is not plain as `not-plain-place`. The equations are in a copy of the crate outside
+place of the first clause that is there twice (`oracle read`) with `first_repeat`, and the levels of its goals, or why it has none (`oracle
+levels`), with `check_levels`, with the first place that is not plain as `not_plain_place`. The equations are in a copy of the crate outside
 the tree, and the checker computes them (`rt check`). Prints how many scripts, calls, turns, listings, places and profiles agreed, how many
 of the listings have `unsettled`, how often each stop and refusal came, and the first call that did not agree, with both sides. The format
 of scripts and dumps is that of `oracle run`. Status 0 only if all agree and there was a call.

@@ -34,27 +34,27 @@ def strand(text):
     fl = []
     for x in listed(f):
         l, time = x.split("@")
-        fl.append("record { floundered-literal = %s; floundered-time = %s }" % (literal(l), time))
+        fl.append("record { floundered_literal = %s; floundered_time = %s }" % (literal(l), time))
     if sel == "-":
         chosen = "none"
     else:
-        chosen = "some (record { subgoal-index = %s; subgoal-table = %s; answer-index = %s })" % tuple(sel.split(":"))
-    ex = "record { subst = record { variant = %s; outsized = %s }; ambiguous = %s; subgoals = %s; delayed-subgoals = %s; " \
-        "answer-time = %s; floundered-subgoals = %s }" % (
+        chosen = "some (record { subgoal_index = %s; subgoal_table = %s; answer_index = %s })" % tuple(sel.split(":"))
+    ex = "record { subst = record { variant = %s; outsized = %s }; ambiguous = %s; subgoals = %s; delayed_subgoals = %s; " \
+        "answer_time = %s; floundered_subgoals = %s }" % (
             v, boolean(o), boolean(a), cons(literal(x) for x in listed(s)), cons(listed(d)), t, cons("(%s)" % x for x in fl))
-    return "record { ex-clause = %s; selected-subgoal = %s; last-pursued-time = %s }" % (ex, chosen, p)
+    return "record { ex_clause = %s; selected_subgoal = %s; last_pursued_time = %s }" % (ex, chosen, p)
 
 
 def answer(text):
     v, d, a = re.fullmatch(r"v(\d+) D\[(.*?)\] a([01])", text).groups()
-    return "record { variant = %s; delayed-subgoals = %s; ambiguous = %s }" % (v, cons(listed(d)), boolean(a))
+    return "record { variant = %s; delayed_subgoals = %s; ambiguous = %s }" % (v, cons(listed(d)), boolean(a))
 
 
 def table(text, goals):
     m = re.fullmatch(r"t\d+ g(\d+) f([01]) m([ca]) A\d+(.*?) Q\d+(.*)", text)
     g, f, mode, answers, strands = m.groups()
     inner = lambda part: re.findall(r"\(([^()]*)\)", part)
-    return "record { table-goal = %s; coinductive-goal = %s; floundered = %s; answers = %s; strands = %s; answer-mode = %s }" % (
+    return "record { table_goal = %s; coinductive_goal = %s; floundered = %s; answers = %s; strands = %s; answer_mode = %s }" % (
         g, boolean(goals[int(g)]), boolean(f), cons("(%s)" % answer(x) for x in inner(answers)),
         cons("(%s)" % strand(x) for x in inner(strands)), "Complete" if mode == "c" else "Ambiguous")
 
@@ -95,7 +95,7 @@ def reply(call, text):
 
 def called(line):
     w = line.split()
-    name = {"open": "opens", "search": "searches", "peek": "peeks", "future": "asks-future"}[w[0]]
+    name = {"open": "opens", "search": "searches", "peek": "peeks", "future": "asks_future"}[w[0]]
     return " ".join([name] + w[1:])
 
 

@@ -1,4 +1,4 @@
-"""Compares the definitions of order 13, `check-export` and `import`, with cases by hand and with the Rust, by computation.
+"""Compares the definitions of order 13, `check_export` and `import`, with cases by hand and with the Rust, by computation.
 
 The books and texts of `tools/run rust xsb` that are short enough, each with what is expected by hand, and N damaged texts, with what the
 Rust returns for them (`oracle from-xsb`), are written as closed equations, which the checker computes (`rt check`) in a copy of the crate
@@ -15,11 +15,10 @@ from sorgwenad.shared.damage import damaged_text
 from sorgwenad.shared.oracle import find_oracle, in_xsb, random_books
 
 HEADER = """-- written by tools/run definitions xsb
-use mathlib.Core.Path.{_≡_, refl}
-use mathlib.Core.List.{List, [], _∷_}
+use Rattle.std.specs.Prelude.{◌≡◌, refl, List, [], ◌∷◌}
 use %(d)s.Refusal.{refused, accepted}
 use %(d)s.Desk.{desk}
-use %(p)s.Xsb.{check-export, import}
+use %(p)s.Xsb.{check_export, import}
 """ % HOMES
 # Longer ones are more than the checker computes.
 LONGEST = 1100
@@ -27,7 +26,7 @@ LONGEST = 1100
 
 def equation(name, one):
     """Of a book to its text, or of a text to its book."""
-    left = "%s (%s)" % ({"to_xsb": "check-export", "from_xsb": "import"}[one.program], cons(map(str, one.data)))
+    left = "%s (%s)" % ({"to_xsb": "check_export", "from_xsb": "import"}[one.program], cons(map(str, one.data)))
     right = "refused %d" % one.result if isinstance(one.result, int) else "%s (%s)" % (
         "accepted" if one.program == "to_xsb" else "desk", cons(map(str, one.result)))
     return "%s : %s ≡ %s\n%s = refl\n" % (name, left, right, name)

@@ -6,17 +6,15 @@ import shutil
 from sorgwenad.faults import demand3, demand3_modules, order2, order2_modules
 from sorgwenad.shared import tree
 from sorgwenad.shared.computed import THEOREMS
+from sorgwenad.shared.crates import below, listed
 from sorgwenad.shared.tables import rows
 
-# where the modules of a crate stand: definitions state, the others prove
-MODULES = {"definitions": "specs", "papers": "specs", "asserts": "proofs", "promises": "proofs", "derivable": "proofs"}
+
+def module_file(folder, crate, module, part="proofs"):
+    return os.path.join(folder, "crates", crate, part, module + ".antt")
 
 
-def module_file(folder, crate, module, part=None):
-    return os.path.join(folder, "crates", crate, part or MODULES[crate], module + ".antt")
-
-
-def leave_out(folder, crate, wanted, part=None):
+def leave_out(folder, crate, wanted, part="proofs"):
     """Leaves out the modules of the crate that are not wanted, with what is below them."""
     root = module_file(folder, crate, "Lib", part)
     here = os.path.dirname(root)
@@ -59,20 +57,16 @@ class Claim:
 
     def copy(self, folder):
         """The crate, and those below it."""
-        for crate in self.crates():
-            shutil.copytree(os.path.join(tree.ROOT, "crates", crate), os.path.join(folder, "crates", crate))
-            for beside in ("must-fail", "refused"):
-                shutil.rmtree(os.path.join(folder, "crates", crate, beside), ignore_errors=True)
-        below = ["%s: %s\n" % (crate, " ".join(self.crates()[:k])) for k, crate in enumerate(self.crates())]
-        tree.write(os.path.join(folder, "crates.txt"), "".join(below))
-
-    def crates(self):
-        return ["laws", "definitions", "papers", "asserts", self.crate]
+        wanted = below([self.crate]) + [self.crate]
+        for crate in wanted:
+            tree.copy_of_a_crate(crate, folder, ("must-fail", "refused"))
+        lines = ["%s: %s\n" % (crate, " ".join(deps)) for crate, deps in listed().items() if crate in wanted]
+        tree.write(os.path.join(folder, "crates.txt"), "".join(lines))
 
     def trim(self, folder):
         """Leaves out what runs the definitions on examples, and of the other crates what the claim doesn't stand on."""
-        leave_out(folder, "papers", lambda module: not re.fullmatch(THEOREMS, module))
-        leave_out(folder, "papers", lambda module: module in ("Passes", "Spoilt"), "proofs")
+        leave_out(folder, "papers", lambda module: not re.fullmatch(THEOREMS, module), "specs")
+        leave_out(folder, "papers", lambda module: module in ("Passes", "Spoilt"))
         self.trim_proofs(folder)
 
     def without(self, fault):
@@ -81,7 +75,7 @@ class Claim:
 
 
 class Demand3(Claim):
-    crate, theorem, statement, proved = "promises", "Demand.demand-3", "Demand3", "demand 3 is proved"
+    crate, theorem, statement, proved = "promises", "Demand.demand_3", "Demand3", "demand 3 is proved"
     also_right, faults = ", and the two sides of each theorem are the same", rows("DEMAND3_FAULTS")
 
     def trim_proofs(self, folder):
@@ -89,7 +83,7 @@ class Demand3(Claim):
         leave_out(folder, "promises", lambda module: module in ("Plain", "Link", "Demand"))
 
     def plant(self, folder, fault):
-        path = module_file(folder, "definitions", fault.file)
+        path = module_file(folder, "definitions", fault.file, "specs")
         text = tree.read(path)
         if text.count(fault.old) != 1:
             tree.stop("%s: the text to replace is there %d times in %s.antt" % (fault.name, text.count(fault.old), fault.file))
@@ -127,7 +121,7 @@ class Demand3(Claim):
 
 class Order2(Claim):
     """Faults of the engine."""
-    crate, theorem, statement, proved = "derivable", "Theorem.book-certified", "BookCertified", "order 2 is proved"
+    crate, theorem, statement, proved = "derivable", "Theorem.book_certified", "BookCertified", "order 2 is proved"
     also_right, faults = "", rows("ORDER2_FAULTS")
 
     def trim_proofs(self, folder):
@@ -166,7 +160,7 @@ class Order2(Claim):
 
 class Order2Beforehand(Order2):
     """Faults of the check which goals are spoilt."""
-    theorem, statement = "Theorem.unspoilt-certified", "UnspoiltCertified"
+    theorem, statement = "Theorem.unspoilt_certified", "UnspoiltCertified"
     also_right, faults = ", and the check returns by which goal each goal is spoilt", rows("SPOILT_FAULTS")
 
     def without(self, fault):

@@ -24,26 +24,23 @@ Prints a table. Ends with 0 only if every fault is refused and every counterexam
 import concurrent.futures
 import os
 import re
-import subprocess
 import textwrap
 import time
 
 from sorgwenad.faults.claims import CLAIMS, shown
-from sorgwenad.shared import tree
+from sorgwenad.shared import proofs, tree
 from sorgwenad.shared.command import parser, processors
 
 
 def check(folder, crate):
-    """Whether each crate is proved, and what is refused: module and name. Those refused since they cite a refused one stand apart."""
-    run = subprocess.run(["rt", "check", crate], cwd=folder, capture_output=True, text=True)
-    text = run.stdout + run.stderr + "(status %d)" % run.returncode
-    proved = re.findall(r"^rt: (\w+) proved", text, re.M)
+    """Whether the crate is proved, and what is refused: module and name. Those refused since they cite a refused one stand apart."""
+    status, text = proofs.check(folder, crate)
     refused, cited = [], []
     for path, message in re.findall(r"^.*?/?(?:specs|proofs)/(\S+)\.antt:\d+:\d+: error: (.*)", text, re.M):
         named = re.match(r"`([^`]*)`:", message)
         full = path.replace("/", ".") + ("." + named.group(1) if named else "")
         (cited if "was not admitted" in message else refused).append(full)
-    return proved, refused, cited, text
+    return status == 0, refused, cited, "%s(status %d)" % (text, status)
 
 
 def without_fault(claim, faults, folder):
@@ -52,7 +49,7 @@ def without_fault(claim, faults, folder):
     for k, fault in enumerate(faults):
         claim.add_right(folder, k, fault)
     proved, refused, cited, text = check(folder, claim.crate)
-    good = proved == claim.crates() and not refused
+    good = proved and not refused
     seen = "%s; the calls below get their right replies%s" % (claim.proved, claim.also_right)
     print("no fault: %s" % (seen if good else "REFUSED\n" + text[-3000:]), flush=True)
     return good
@@ -64,11 +61,12 @@ def with_fault(claim, fault, folder):
     claim.plant(folder, fault)
     claim.trim(folder)
     claim.add_wrong(folder, fault)
+    computes, refused, cited, text = check(folder, "papers")
+    if not computes:
+        return ["the counterexample does not compute: " + (", ".join(refused) or text[-2000:])], False, refused, cited
     proved, refused, cited, text = check(folder, claim.crate)
     complaints = []
-    if "papers" not in proved:
-        complaints.append("the counterexample does not compute: " + (", ".join(refused) or text[-2000:]))
-    elif claim.crate in proved:
+    if proved:
         complaints.append("the claim is proved all the same")
     elif not refused or claim.theorem not in refused + cited:
         complaints.append("%s is not among what is refused: %s" % (claim.theorem, text[-2000:]))
@@ -76,7 +74,7 @@ def with_fault(claim, fault, folder):
         if refused[0] != fault.theorem:
             complaints.append("the first theorem refused is %s" % refused[0])
         complaints += claim.complaints(refused, cited)
-    return complaints, "papers" in proved, refused, cited
+    return complaints, True, refused, cited
 
 
 def line(head, text):

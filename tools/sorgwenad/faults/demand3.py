@@ -40,8 +40,8 @@ def pairs(items):
 def plain_term(book):
     def clause(c):
         literals = pairs("refl" if isinstance(l, Not) else "(refl, refl)" for l in c)
-        return "record { as-a-whole = refl; provable = refl; small = refl; literals-plain = %s }" % literals
-    return pairs("record { inductive = refl; unfloundered = refl; clauses-plain = %s }" % pairs(clause(c) for c in cs) for cs in book)
+        return "record { as_a_whole = refl; provable = refl; small = refl; literals_plain = %s }" % literals
+    return pairs("record { inductive = refl; unfloundered = refl; clauses_plain = %s }" % pairs(clause(c) for c in cs) for cs in book)
 
 
 def levelled_term(book):
@@ -63,24 +63,24 @@ def in_model(book, goal):
     by = stages(book)
 
     def member(k):
-        return "(List·Memᴰ·head refl)" if k == 0 else "(List·Memᴰ·tail %s)" % member(k - 1)
+        return "(Memᴰ.head refl)" if k == 0 else "(Memᴰ.tail %s)" % member(k - 1)
 
     def literals(ls):
         if not ls:
-            return "holds-end"
+            return "holds_end"
         c = book[ls[0]][by[ls[0]]]
-        return "(holds-here (%s) refl %s %s %s)" % (clause_term(c), member(by[ls[0]]), literals(c), literals(ls[1:]))
+        return "(holds_here (%s) refl %s %s %s)" % (clause_term(c), member(by[ls[0]]), literals(c), literals(ls[1:]))
     return literals([goal])
 
 
 # Ways in which a reply breaks the claim: what it is in words, and the term of ⊥ drawn from `d`, what demand 3 states of the calls.
 
 def reply_at(k):
-    return "d .0%s .0" % (" .1" * k)
+    return "d.0%s.0" % (".1" * k)
 
 
 def names(k, goal):
-    return "(opened 0 (left-by %d) %d, refl, refl)" % (k, goal)
+    return "(opened 0 (left_by %d) %d, refl, refl)" % (k, goal)
 
 
 class DeniedTruth:
@@ -93,7 +93,7 @@ class DeniedTruth:
 
     def term(self, fault):
         k = len(fault.calls) - 1
-        return "%s refl .1 %d %s %s" % (reply_at(k), self.goal, names(k, self.goal), in_model(fault.book, self.goal))
+        return "(%s refl).1 %d %s %s" % (reply_at(k), self.goal, names(k, self.goal), in_model(fault.book, self.goal))
 
 
 class AffirmedFalsehood:
@@ -106,7 +106,7 @@ class AffirmedFalsehood:
 
     def term(self, fault):
         k = len(fault.calls) - 1
-        return "out (%s .1 .1 %d %s)" % (reply_at(k), self.goal, names(k, self.goal))
+        return "out (%s.1.1 %d %s)" % (reply_at(k), self.goal, names(k, self.goal))
 
 
 class OtherStop:
@@ -118,7 +118,7 @@ class OtherStop:
         return "the last search ends in stop %d, and no stop but 21 may come" % self.number
 
     def term(self, fault):
-        return "let e : _≡_ {A = ℕ} %d 21 = %s .0 in omega arith" % (self.number, reply_at(len(fault.calls) - 1))
+        return "let e : ◌≡◌ {A = ℕ} %d 21 = %s.0 in omega arith" % (self.number, reply_at(len(fault.calls) - 1))
 
 
 class TooManyExceeded:
@@ -130,7 +130,7 @@ class TooManyExceeded:
         return "%d searches end in QuantumExceeded, and the book has %d goals and clauses together" % (self.number, fault.bound())
 
     def term(self, fault):
-        return "let e : %d ≤ %d = d .1 in omega arith" % (self.number, fault.bound())
+        return "let e : %d ≤ %d = d.1 in omega arith" % (self.number, fault.bound())
 
 
 class Fault:

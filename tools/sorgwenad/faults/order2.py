@@ -38,7 +38,7 @@ def literal_term(l):
 
 
 def clause_term(c):
-    return "record { variant = %d; cannot-prove = %s; outsized = %s; literals = %s }" % (
+    return "record { variant = %d; cannot_prove = %s; outsized = %s; literals = %s }" % (
         c.variant, bool_term(c.cannot_prove), bool_term(c.outsized), cons(map(literal_term, c.literals)))
 
 

@@ -261,7 +261,7 @@ def parsed(words):
     p.add_argument("--books", type=int, default=250, help="of each profile, and of the rich ones (250)")
     p.add_argument("--calls", type=int, default=50, help="forests of each profile whose calls are compared (50)")
     p.add_argument("--seed", type=int, default=1)
-    p.add_argument("--replay", metavar="PATH", help="a program in place of target/bin/replay")
+    p.add_argument("--replay", metavar="PATH", help="a program in place of the proved replay")
     return with_listing(with_jobs(p)).parse_args(words)
 
 

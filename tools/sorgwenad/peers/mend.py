@@ -7,7 +7,7 @@ are not levelled, of few goals, with clauses put in once more: all stable models
 smallest papers from which a clause is removed for 6, where the model may be another (cases/peers.py).
 
 Where clingo is not installed that is printed and ends the run; with --installed it is left out. With --rust the oracle takes the place of
-target/bin/mend. Status 0 only if all is as expected.
+the proved `mend`. Status 0 only if all is as expected.
 """
 import random
 import re

@@ -11,7 +11,7 @@ here, from the last goal to the first, and by clingo where it is installed: a li
 or `h(1,0)`. The goals that have an answer must be the same.
 
 A solver that is not installed is named and ends the run, with --installed it is left out. With --rust the oracle's listing takes the place
-of target/bin/listing. With --time whole processes are timed side by side, start included: median and least of several runs, on a small
+of the proved `listing`. With --time whole processes are timed side by side, start included: median and least of several runs, on a small
 paper, on the largest plain one and on the ladder of 20 goals, whose searches double in length with each goal (the listing gives up its
 goals at 10,000 turns; `replay` peeks at goal 0 without a limit).
 """
@@ -157,7 +157,7 @@ def whole_ladder(data):
     old entry."""
     replay = tree.built_or_none("replay")
     if not replay:
-        print("the whole ladder was not timed: no target/bin/replay; to build it: rt check replay")
+        print("the whole ladder was not timed: no proved replay; to build it: rt run </dev/null, in crates/replay")
         return
     script = "book %s clock 18446744073709551614\nopen 0\npeek 0 0 1000 18446744073709551615\n" % data.hex()
     printed = subprocess.run([replay, "quiet"], input=script.encode(), capture_output=True).stdout.decode().split("\n")

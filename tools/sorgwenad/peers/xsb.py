@@ -16,7 +16,7 @@ well-founded model, which is worked out here. Last the smallest texts that show 
 levelled comes to (cases/peers.py).
 
 XSB itself was not available, and was never run. A solver that is not installed is named and ends the run, with --installed it is left out.
-With --rust the oracle takes the place of target/bin/to_xsb and target/bin/listing. Status 0 only if all is as expected.
+With --rust the oracle takes the place of the proved `to_xsb` and `listing`. Status 0 only if all is as expected.
 """
 import os
 import re
@@ -195,7 +195,7 @@ def main(words):
     p = parser(__doc__)
     p.add_argument("--books", type=int, default=300, help="how many levelled ones (300)")
     p.add_argument("--seed", type=int, default=1)
-    p.add_argument("--to-xsb", metavar="PATH", help="a program in place of target/bin/to_xsb")
+    p.add_argument("--to-xsb", metavar="PATH", help="a program in place of the proved to_xsb")
     a = with_listing(p).parse_args(words)
     there = installed(a)
     with tree.folder() as folder:

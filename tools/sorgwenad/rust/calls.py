@@ -201,7 +201,7 @@ def parsed(words):
     p.add_argument("--lent", action="store_true", help="call the functions that are lent a forest")
     p.add_argument("--script", nargs="+", metavar="FILE", help="compare these files instead")
     p.add_argument("--time", action="store_true", help="time both sides too")
-    p.add_argument("--program", metavar="PATH", help="a program in place of target/bin/replay")
+    p.add_argument("--program", metavar="PATH", help="a program in place of the proved replay")
     a = with_oracle(p).parse_args(words)
     unknown = [w for w in a.profile.split(",") if w not in SCRIPTS and w != "all"]
     if unknown:

@@ -2,7 +2,7 @@
 
 --rust     the Rust (`oracle certify`) on the books by hand and on every paper; then compared with shared/clean.py, which goes another way,
            on N random books and on every way in which three goals can name each other
---program  target/bin/certify, or a program in its place, on the same books by hand; then compared with the Rust on N random books and on
+--program  the proved `certify`, or a program in its place, on the same books by hand; then compared with the Rust on N random books and on
            every way in which two goals can name each other; last, where its input or its output fails
 
 Of a paper that the desk accepts a line for each goal is printed: `GOAL clean`, or `GOAL spoilt by goal S: ` and what S spoils by,

@@ -1,7 +1,7 @@
 """The same clause twice (cases/desk.py), and every paper at the exam desk: whether each book is read and listed as expected.
 
 --rust     by the Rust: both entries, the place of the first repeat, and the listing
---program  the listing of target/bin/listing, or of a program in its place
+--program  the listing of the proved `listing`, or of a program in its place
 
 The place: the goal, the clause's number in it, and that of the first clause that it is equal to. `tools/run papers` writes the same books
 as scripts, and `tools/run definitions scripts --faults` has the definitions compute them. The papers are in no script: two of them are more

@@ -1,7 +1,7 @@
 """The levelled profile: books by hand (cases/levels.py), every paper, and random books; and times.
 
 --rust     the Rust on the books by hand and on every paper, and compared with all numberings (`oracle numberings`)
---program  target/bin/levels, or a program in its place, on the same books; then compared with the Rust on N random books: plain ones with
+--program  the proved `levels`, or a program in its place, on the same books; then compared with the Rust on N random books: plain ones with
            few goals, which the Rust compares with all numberings, plain and spoilt ones with up to 64, damaged ones and those of the
            scripts of every profile; and on every way in which two goals can name each other; last, where its input or its output fails
 --time     whole processes on the worst books, `levels` (where it is built), the Rust and clingo (Debian's package gringo) side by side,

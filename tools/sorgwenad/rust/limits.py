@@ -1,7 +1,7 @@
 """What document 01 has at each limit and beside it (cases/limits.py), as a script of calls.
 
 --rust     whether the Rust replies to each call as expected
---program  whether target/bin/replay, or a program in its place, does: the calls by value, handed over together, and by &mut
+--program  whether the proved `replay`, or a program in its place, does: the calls by value, handed over together, and by &mut
 --print    the script, each call with the reply that is expected
 
 The script is in the form that `oracle run` reads; a line that begins with # is a title.

@@ -69,7 +69,7 @@ def counted(words, many, text):
 
 def main(words):
     p = with_oracle(with_jobs(with_random(parser(__doc__), 2000, "random books")))
-    p.add_argument("--program", metavar="PATH", help="a program in place of target/bin/listing")
+    p.add_argument("--program", metavar="PATH", help="a program in place of the proved listing")
     a = p.parse_args(words)
     oracle, listing = find_oracle(a.oracle), tree.built("listing", a.program)
     books = all_books(oracle, a.seed, a.count)

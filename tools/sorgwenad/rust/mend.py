@@ -2,7 +2,7 @@
 
 --rust     the Rust (`oracle mend`) on the papers by hand and on every one of papers/, and on damaged ones, whose results it compares with
            its reader and its desk (`oracle mend damaged`)
---program  target/bin/mend, or a program in its place, on the same papers; then compared with the Rust on N random papers: torn ones (with
+--program  the proved `mend`, or a program in its place, on the same papers; then compared with the Rust on N random papers: torn ones (with
            clauses twice, with literals of no goal, with goals before literals of an earlier clause), damaged ones, plain ones. What is left
            of each goes to the Rust's desk, and is mended again; and some to `levels`, which reads as the desk does. Last, papers that come
            in pieces of 1, 7, 4095 and 4097 bytes, and what is printed where the input or the output fails
@@ -105,7 +105,7 @@ def refused_by_levels(a, left):
     """`levels` reads what is left as the desk does: 37 and 38 are numbers of its own."""
     program = tree.built_or_none("levels")
     if not program:
-        print("mend: no target/bin/levels to read what is left; to build it: rt check levels")
+        print("mend: no proved `levels` to read what is left; to build it: rt run </dev/null, in crates/levels")
         return []
     first = [out.split(b"\n")[0] for out, _, _ in run_each([program], left, a.jobs)]
     print("mend: %d of what is left read by levels" % len(first))

@@ -1,9 +1,9 @@
 """Books whose pages are written by hand (cases/pages.py), and pages that can't be written.
 
 --rust     whether what the Rust lists of each book, settled and as pages, is as expected
---program  whether target/bin/listing, or a program in its place, prints just that, byte by byte, and reports where a page can't be written:
-           to a full device, to a closed output, and where a page is lost and later ones are not; and whether at a terminal the goal at hand
-           is shown and the pages stay
+--program  whether the proved `listing`, or a program in its place, prints just that, byte by byte, and reports where a page can't be
+           written: to a full device, to a closed output, and where a page is lost and later ones are not; and whether at a terminal the
+           goal at hand is shown and the pages stay
 
 Status 0 only if all is as expected.
 """

@@ -1,7 +1,7 @@
 """Wants that are ranges, at their edges (cases/ranges.py): whether each book is listed as expected.
 
 --rust     by the Rust
---program  by target/bin/listing, or a program in its place
+--program  by the proved `listing`, or a program in its place
 
 `tools/run papers` writes the same books as scripts, and `tools/run definitions scripts --faults` has the definitions compute them. A paper,
 named as a file, is in no script: the largest ones are more than the definitions are computed on. Status 0 only if all is as expected.

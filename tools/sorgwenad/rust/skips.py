@@ -3,7 +3,7 @@
 --rust     by the Rust: the books by hand; then the rule of pages.py, which sees by the index that an answer was skipped, compared with
            `oracle skips`, which makes the searches of each peek one by one and counts those that end in InvalidAnswer; and whether wrong
            rules are found
---program  by target/bin/listing, or a program in its place: the books by hand, and N random books compared with the Rust
+--program  by the proved `listing`, or a program in its place: the books by hand, and N random books compared with the Rust
 --script   a script with the books, by hand and random, on standard output: `tools/run definitions scripts --script` has the definitions
            compute the listing of each short one
 

@@ -74,7 +74,7 @@ def replied(oracle, scripts):
 
 def main(words):
     p = with_oracle(with_random(parser(__doc__), 200, "books of each profile"))
-    p.add_argument("--program", metavar="PATH", help="a program in place of target/bin/in_place_run")
+    p.add_argument("--program", metavar="PATH", help="a program in place of the proved in_place_run")
     a = p.parse_args(words)
     oracle, program = find_oracle(a.oracle), tree.built("in_place_run", a.program)
     some = books(oracle, a.seed, a.count)

@@ -1,7 +1,7 @@
 """Out to a Prolog with tabling, and back: books and texts by hand (cases/levels.py, cases/xsb.py), random ones, and times.
 
 --rust               the Rust (`oracle to-xsb`, `oracle from-xsb`) on the books and texts by hand and on every paper
---program [TO FROM]  target/bin/to_xsb and target/bin/from_xsb, or two programs in their place, on the same; then compared with the Rust:
+--program [TO FROM]  the proved `to_xsb` and `from_xsb`, or two programs in their place, on the same; then compared with the Rust:
                      N random books, plain and spoilt ones and damaged ones, out and back; a short text with each byte changed, left out or
                      put in; texts of megabytes; input that comes in pieces of 1, 7, 4095 and 4097 bytes; input without an end, once 39 is
                      settled; last, where the input or the output fails
@@ -115,7 +115,7 @@ def parsed(words):
 
 
 def the_programs(a):
-    """The programs that are named; otherwise those of target/bin."""
+    """The programs that are named; otherwise the proved ones."""
     paths = a.program or [None, None]
     return Side("the programs", *([tree.built(name, path)] for name, path in zip(("to_xsb", "from_xsb"), paths)))
 

@@ -14,7 +14,7 @@ def with_sides(p, program, many=False):
     """`--rust` and `--program`: who is compared with what is expected. `many`: more than one program can be named."""
     how = dict(nargs="*") if many else dict(nargs="?", const="")
     p.add_argument("--rust", action="store_true", help="check the Rust; without this word and --program: both")
-    p.add_argument("--program", metavar="PATH", help="check %s: of target/bin, or at PATH" % program, **how)
+    p.add_argument("--program", metavar="PATH", help="check %s: the proved one, or that at PATH" % program, **how)
     return p
 
 

@@ -2,15 +2,17 @@
 import os
 import re
 import shutil
-import subprocess
 
-from sorgwenad.shared import tree
+from sorgwenad.shared import proofs, tree
 from sorgwenad.shared.command import with_oracle, with_random
 
-# Where a module that is put into the copy finds the solver's definitions (`%(d)s`), and those of papers and the other modules (`%(p)s`).
-HOMES = {"d": "Rattle·definitions.specs", "p": "Rattle·papers·specs.specs"}
+# Where a module that is put into the copy finds the solver's definitions (`%(d)s`), those of papers and the other modules (`%(p)s`), and
+# modules that are put beside the proofs (`%(q)s`).
+HOMES = {"d": "Rattle.definitions.specs", "p": "Rattle.papers.specs", "q": "Rattle.papers.proofs"}
 # Modules that have computed cases, and nothing that another one needs.
 THEOREMS = r"(?:\w*Cases|Instances)"
+# How an equation's error says that it is more than the checker computes.
+LIMIT = r"(?:stopped at the step limit|outgrew the memory limit|antt ran out of)"
 
 
 def cons(items):
@@ -36,28 +38,26 @@ def check(folder, header, parts):
     shown = ["Shown"] * os.path.exists(module(folder, "Shown"))
     mods = "".join("pub mod %s\n" % n for n in shown + names)
     tree.write(root, re.sub(r"(pub mod Listing\n)(pub mod (Shown|Part\d+)\n)*", r"\1" + mods, text))
-    run = subprocess.run(["rt", "check", "papers"], cwd=folder, capture_output=True, text=True, env=dict(os.environ, RT_CUT="0"))
-    text = run.stdout + run.stderr
-    bad = re.findall(r"Part\d+\.antt:\d+:\d+: error: `(\w+)`(?!.*stopped at the step limit)", text)
-    beyond = re.findall(r"Part\d+\.antt:\d+:\d+: error: `(\w+)`.*stopped at the step limit", text)
+    status, text = proofs.check(folder, "papers")
+    bad = re.findall(r"Part\d+\.antt:\d+:\d+: error: `(\w+)`(?!.*%s)" % LIMIT, text)
+    beyond = re.findall(r"Part\d+\.antt:\d+:\d+: error: `(\w+)`.*%s" % LIMIT, text)
     others = [e for e in re.findall(r"^\S+:\d+:\d+: error: .*", text, re.M) if not re.search(r"/Part\d+\.antt:", e)]
-    if run.returncode != 0 and (others or not bad + beyond):
-        tree.stop("the check failed with status %d:\n" % run.returncode + ("\n".join(others) or text)[-4000:])
+    if status != 0 and (others or not bad + beyond):
+        tree.stop("the check failed with status %d:\n" % status + ("\n".join(others) or text)[-4000:])
     return bad, beyond, text
 
 
 def copy_of_the_definitions(folder):
-    """The solver's definitions and those of papers, without proofs and cases."""
-    for name in ("definitions", "papers"):
+    """The sizes, and the solver's definitions and those of papers, without proofs and cases."""
+    for name in ("sizes", "definitions", "papers"):
         crate = os.path.join(folder, "crates", name)
-        shutil.copytree(os.path.join(tree.ROOT, "crates", name), crate, dirs_exist_ok=True)
-        for beside in ("must-fail", "refused", "proofs"):
-            shutil.rmtree(os.path.join(crate, beside), ignore_errors=True)
+        for part in ("src", "specs"):
+            shutil.copytree(os.path.join(tree.ROOT, "crates", name, part), os.path.join(crate, part), dirs_exist_ok=True)
         specs = os.path.join(crate, "specs")
         for theorems in os.listdir(specs):
             if re.fullmatch(THEOREMS + r"\.antt", theorems):
                 os.remove(os.path.join(specs, theorems))
-    tree.write(os.path.join(folder, "crates.txt"), "definitions:\npapers: definitions\n")
+    tree.write(os.path.join(folder, "crates.txt"), "sizes:\ndefinitions: sizes\npapers: sizes definitions\n")
 
 
 def with_words(p, count, what):

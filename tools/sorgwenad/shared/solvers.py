@@ -17,7 +17,7 @@ def with_listing(p, program="listing"):
     """The words that the commands with other solvers have in common."""
     p.add_argument("--installed", action="store_true", help="leave out a solver that is not installed")
     p.add_argument("--rust", action="store_true", help="the oracle in place of %s" % program)
-    p.add_argument("--program", metavar="PATH", help="a program in place of target/bin/%s" % program)
+    p.add_argument("--program", metavar="PATH", help="a program in place of the proved %s" % program)
     return with_oracle(p)
 
 

@@ -25,7 +25,7 @@ def sources(name):
 
 def stamp(name):
     """What a build depends on: the sources, and the toolchain."""
-    sum_of_it = hashlib.sha256(unproved.kit().encode())
+    sum_of_it = hashlib.sha256(tree.read_bytes(unproved.kit(), "KIT-ID"))
     for path in sources(name):
         sum_of_it.update(path.encode() + b"\0" + tree.read_bytes(path) + b"\0")
     return sum_of_it.hexdigest()

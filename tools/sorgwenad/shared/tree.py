@@ -26,16 +26,20 @@ def program(path, how):
     return path
 
 
+def place_of(name):
+    """Where `rt ci`, and `rt run` in the crate's folder, leave a proved program."""
+    return os.path.join(ROOT, "crates", name, "out", name)
+
+
 def built(name, path=None):
-    """A program of the repository as `rt check` left it, or the program at a path in its place."""
-    quickly = "rt check %s; with no proof, in seconds: tools/run quick --path %s" % (name, name)
-    return program(path or os.path.join(ROOT, "target", "bin", name), quickly)
+    """A program of the repository as it was proved and built, or the program at a path in its place."""
+    quickly = "rt run </dev/null, in crates/%s; with no proof, in half a minute: tools/run quick --path %s" % (name, name)
+    return program(path or place_of(name), quickly)
 
 
 def built_or_none(name):
     """The same; None where it is not there."""
-    path = os.path.join(ROOT, "target", "bin", name)
-    return path if os.access(path, os.X_OK) else None
+    return place_of(name) if os.access(place_of(name), os.X_OK) else None
 
 
 @contextlib.contextmanager
@@ -73,7 +77,14 @@ def paper(name):
     return read_bytes(PAPERS, name)
 
 
+def copy_of_a_crate(crate, folder, without=()):
+    """A crate's files in a copy of the tree, without what checks keep of it."""
+    shutil.copytree(os.path.join(ROOT, "crates", crate), os.path.join(folder, "crates", crate), ignore=shutil.ignore_patterns("out", *without))
+
+
 def copy_of_the_crates(folder):
     """The crates and their list in a folder."""
-    shutil.copytree(os.path.join(ROOT, "crates"), os.path.join(folder, "crates"))
+    for crate in os.listdir(os.path.join(ROOT, "crates")):
+        if os.path.isdir(os.path.join(ROOT, "crates", crate)):
+            copy_of_a_crate(crate, folder)
     shutil.copy(os.path.join(ROOT, "crates.txt"), folder)

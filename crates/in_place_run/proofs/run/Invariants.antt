@@ -1,6 +1,7 @@
 -- `run` is safe, and ends since the steps that are left fall.
 use mathlib.Core.Path.{◌≡◌}
 use lib.ListN.{length}
+use borrow.Author.Rules.{rules}
 use Rattle.in_place_run.proofs.run.Given as goal
 
 abbrev pub invariant-loop-left : goal.invariant-loop-left

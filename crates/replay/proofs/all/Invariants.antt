@@ -1,5 +1,5 @@
 -- `all` is safe, and ends since the turns that are left fall. A book's bytes are a part of their buffer.
-use Rattle.std.proofs.Common.{◌≡◌, length}
+use Rattle.std.proofs.Common.{◌≡◌, length, sym, ◌∙◌, length-take-le, rules}
 use Rattle.replay.proofs.all.Given as goal
 
 abbrev pub invariant-loop-turns : goal.invariant-loop-turns

@@ -1,5 +1,5 @@
 -- `told_none` is safe, and ends since the calls that are left fall.
-use Rattle.std.proofs.Common.{◌≡◌, ◌-◌, ◌≤◌, length}
+use Rattle.std.proofs.Common.{◌≡◌, ◌-◌, ◌≤◌, length, rules}
 use Rattle.replay.proofs.batches.told_none.Given as goal
 
 abbrev pub invariant-loop-k : goal.invariant-loop-k

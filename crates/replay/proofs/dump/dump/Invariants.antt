@@ -1,5 +1,5 @@
 -- `dump` is safe, and ends: what is left of a table's answers, of its strands and of the tables falls.
-use Rattle.std.proofs.Common.{◌≡◌, ◌-◌, ◌≤◌, length}
+use Rattle.std.proofs.Common.{◌≡◌, ◌-◌, ◌≤◌, length, rules}
 use Rattle.replay.proofs.dump.dump.Given as goal
 
 abbrev pub invariant-loop-left : goal.invariant-loop-left

@@ -1,5 +1,5 @@
 -- `floundered` is safe, and ends since the elements that are left fall.
-use Rattle.std.proofs.Common.{◌≡◌, ◌-◌, ◌≤◌, length}
+use Rattle.std.proofs.Common.{◌≡◌, ◌-◌, ◌≤◌, length, rules}
 use Rattle.replay.proofs.dump.floundered.Given as goal
 
 abbrev pub invariant-loop-i : goal.invariant-loop-i

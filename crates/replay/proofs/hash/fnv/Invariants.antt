@@ -1,5 +1,5 @@
 -- `fnv` is safe, and ends since the bytes that are left fall.
-use Rattle.std.proofs.Common.{◌-◌, ◌≤◌, length}
+use Rattle.std.proofs.Common.{◌-◌, ◌≤◌, length, rules}
 use Rattle.replay.proofs.hash.fnv.Given as goal
 
 abbrev pub invariant-loop-i : goal.invariant-loop-i

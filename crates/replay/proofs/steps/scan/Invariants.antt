@@ -1,5 +1,5 @@
 -- `scan` is safe, and ends since the bytes that are left fall.
-use Rattle.std.proofs.Common.{◌≡◌, ◌-◌, ◌≤◌, length}
+use Rattle.std.proofs.Common.{◌≡◌, ◌-◌, ◌≤◌, length, rules}
 use Rattle.replay.proofs.steps.scan.Given as goal
 
 abbrev pub invariant-loop-i : goal.invariant-loop-i
