@@ -231,7 +231,8 @@ module _ (f : Forest) (s : Pen) (g : Forest) (p : Place) (q : Pen) (a : Along f 
       abbrev here : Line
       here = line goal x.made.index x.made.ending (skips p x.made.index)
 
-      says_here : reply_line goal (get_or replies 2 0) (settled_word (get_or replies 0 0) (skips p (get_or replies 2 0))) (get_or replies 1 0)
+      says_here :
+          reply_line goal (get_or replies 2 0) (settled_word (get_or replies 0 0) (skips p (get_or replies 2 0))) (get_or replies 1 0)
           ≡ page_line here
       says_here =
           x.says_line goal (skips p (get_or replies 2 0))

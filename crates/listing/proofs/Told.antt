@@ -52,6 +52,7 @@ pub record OnePeek (f : Forest) (table index : ℕ) (g : Forest) (replies : List
 -- what the first five numbers ask
 first_call : (table index : ℕ) (l : List ℕ) → 5 ≤ length l
     → call_means (call_at (peek_put table index l) 0) ≡ calls.peeks table index listing_rounds listing_turns
+first_call table index [] h = elim h [ ]
 first_call table index (a ∷ []) h = absurd (omega arith)
 first_call table index (a ∷ b ∷ []) h = absurd (omega arith)
 first_call table index (a ∷ b ∷ c ∷ []) h = absurd (omega arith)
@@ -61,6 +62,7 @@ first_call table index (a ∷ b ∷ c ∷ d ∷ e ∷ l) h = refl
 -- what the first reply tells
 first_reply : (m : Reply) (l : List ℕ) → 3 ≤ length l → let after = reply_put 0 m l in
     (get_or after 0 0 ≡ m.word) × (get_or after 1 0 ≡ m.value) × (get_or after 2 0 ≡ m.index)
+first_reply m [] h = elim h [ ]
 first_reply m (a ∷ []) h = absurd (omega arith)
 first_reply m (a ∷ b ∷ []) h = absurd (omega arith)
 first_reply m (a ∷ b ∷ c ∷ l) h = (refl, refl, refl)

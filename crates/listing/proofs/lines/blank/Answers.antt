@@ -1,6 +1,5 @@
 -- `blank`: the blanks, then the line's end.
 use Rattle.listing.proofs.Words.{blank_said}
-use borrow.Author.Rules.{rules}
 use Rattle.listing.proofs.lines.blank.Goals as goal
 
 pub returns : goal.returns

@@ -1,6 +1,5 @@
 -- `field`: the number in its column, then the space.
 use Rattle.listing.proofs.Words.{field_said}
-use borrow.Author.Rules.{rules}
 use Rattle.listing.proofs.lines.field.Goals as goal
 
 pub returns : goal.returns

@@ -1,7 +1,3 @@
-use mathlib.Core.Path.{◌≡◌}
-use lib.ListN.{length}
-use Rattle.papers.specs.Listing.{blank_lines, lines_left}
-use Rattle.pen.specs.Pen.{pen, put_all}
 use Rattle.listing.proofs.Words.{fill_step, fill_done}
 use borrow.Author.Rules.{rules}
 use Rattle.listing.proofs.lines.fill.Goals as goal

@@ -1,6 +1,5 @@
 -- `line`: six texts, one after the other.
 use Rattle.listing.proofs.Words.{line_said}
-use borrow.Author.Rules.{rules}
 use Rattle.listing.proofs.lines.line.Goals as goal
 
 pub returns : goal.returns

@@ -1,7 +1,6 @@
 -- `number`: each number by its arm.
 use Rattle.listing.specs.Lines.{number_of, number_column}
 use Rattle.listing.proofs.Words.{number_is, no_number}
-use borrow.Author.Rules.{rules}
 use Rattle.listing.proofs.lines.number.Goals as goal
 
 pub returns-in-2 : goal.returns-in-2

@@ -1,6 +1,5 @@
 -- `one_line_more`: by whether the page has room.
 use Rattle.listing.proofs.Words.{one_more_line, page_full}
-use borrow.Author.Rules.{rules}
 use Rattle.listing.proofs.lines.one_line_more.Goals as goal
 
 pub returns-then-lines : goal.returns-then-lines

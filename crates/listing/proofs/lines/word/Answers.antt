@@ -1,7 +1,6 @@
 -- `word`: each number by its arm.
 use Rattle.listing.specs.Lines.{word_of, word_column}
 use Rattle.listing.proofs.Words.{word_is, no_word}
-use borrow.Author.Rules.{rules}
 use Rattle.listing.proofs.lines.word.Goals as goal
 
 pub returns-in-2 : goal.returns-in-2
