@@ -3,8 +3,9 @@ import hashlib
 import os
 import shutil
 
-from sorgwenad.shared import tree, unproved
+from sorgwenad.shared import tree
 from sorgwenad.shared.crates import below
+from sorgwenad.shared.proofs import kit
 
 CRATES = os.path.join(tree.ROOT, "crates")
 
@@ -25,7 +26,7 @@ def sources(name):
 
 def stamp(name):
     """What a build depends on: the sources, and the toolchain."""
-    sum_of_it = hashlib.sha256(tree.read_bytes(unproved.kit(), "KIT-ID"))
+    sum_of_it = hashlib.sha256(tree.read_bytes(kit(), "KIT-ID"))
     for path in sources(name):
         sum_of_it.update(path.encode() + b"\0" + tree.read_bytes(path) + b"\0")
     return sum_of_it.hexdigest()

@@ -11,7 +11,7 @@ import stat
 import subprocess
 
 from sorgwenad.shared import tree
-from sorgwenad.shared.proofs import crate_in
+from sorgwenad.shared.proofs import crate_in, kit
 
 CLANG = """#!/bin/sh
 case " $* " in *" -fsanitize=address "*)
@@ -48,14 +48,6 @@ for word; do
 done
 exec '%(real)s' "$@"
 """
-
-
-def kit():
-    """The folder of the kit that `rt` is of."""
-    rt = shutil.which("rt")
-    if not rt:
-        tree.stop("no `rt` here: the Rattle kit is not installed")
-    return os.path.dirname(os.path.dirname(os.path.realpath(rt)))
 
 
 def linked(source, folder, without=()):
