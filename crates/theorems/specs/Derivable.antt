@@ -6,7 +6,6 @@ use Rattle.definitions.specs.Book as books
 use Rattle.papers.specs.Certified.{StoredDerivable}
 use Rattle.papers.specs.Derive.{Derivable}
 use Rattle.forest.specs.declared.Forest.{Forest}
-use Rattle.forest.specs.declared.make.Making.TheVariants as makings
 use Rattle.forest.specs.declared.searches.Outcome.{Outcome}
 use Rattle.forest.specs.declared.searches.Outcome.TheVariants as outcomes
 use Rattle.forest.specs.Sittings.{Told, opens, searches, peeks, asks_future, left}

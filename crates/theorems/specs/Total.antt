@@ -5,7 +5,6 @@ use Rattle.promises.specs.Total.{OneOf, open_numbers, search_numbers, future_num
 use Rattle.forest.specs.declared.Forest.{Forest}
 use Rattle.forest.specs.declared.any_future_answer.Future.{Future}
 use Rattle.forest.specs.declared.any_future_answer.Future.TheVariants as futures
-use Rattle.forest.specs.declared.make.Made.{Made}
 use Rattle.forest.specs.declared.make.Making.{Making}
 use Rattle.forest.specs.declared.make.Making.TheVariants as makings
 use Rattle.forest.specs.declared.open.Opening.{Opening}
