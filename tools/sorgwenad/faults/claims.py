@@ -5,7 +5,7 @@ import shutil
 
 from sorgwenad.faults import demand3, demand3_modules, order2, order2_modules
 from sorgwenad.shared import tree
-from sorgwenad.shared.computed import THEOREMS
+from sorgwenad.shared.computed import HOMES, THEOREMS
 from sorgwenad.shared.crates import below, listed
 from sorgwenad.shared.tables import rows
 
@@ -52,6 +52,15 @@ def shown(call, reply):
     return "%s: %s" % (call, re.sub(r"^table \(go (\d+)\)$", r"table \1", reply))
 
 
+CLAIMED = """-- the claim
+use %(p)s.%(stated_in)s.{%(statement)s}
+use %(home)s.{%(name)s}
+
+pub claimed : %(statement)s
+claimed = %(name)s
+"""
+
+
 class Claim:
     """What is claimed of the definitions: the crate that proves it, its theorem and its statement, and the faults that make it false."""
 
@@ -67,7 +76,19 @@ class Claim:
         """Leaves out what runs the definitions on examples, and of the other crates what the claim doesn't stand on."""
         leave_out(folder, "papers", lambda module: not re.fullmatch(THEOREMS, module), "specs")
         leave_out(folder, "papers", lambda module: module in ("Passes", "Spoilt"))
+        leave_out(folder, "definitions", lambda module: module != "Cut")
         self.trim_proofs(folder)
+
+    def add_claimed(self, folder):
+        """A module that has the claim by its theorem alone, so that the check says of that theorem whether it is admitted."""
+        module, name = self.theorem.split(".")
+        add(folder, self.crate, "Claimed", CLAIMED % dict(HOMES, home="Rattle.%s.proofs.%s" % (self.crate, module), name=name,
+                                                          stated_in=self.stated_in, statement=self.statement))
+
+    def refuses_claim(self, text):
+        """Whether the theorem is refused, by what is said of that module."""
+        name = re.escape(self.theorem.split(".")[1])
+        return re.search(r"proofs/Claimed\.antt:\d+:\d+: error: .*`%s`, which was (not admitted|rejected)" % name, text) is not None
 
     def without(self, fault):
         """What is so without the fault."""
@@ -75,7 +96,7 @@ class Claim:
 
 
 class Demand3(Claim):
-    crate, theorem, statement, proved = "promises", "Demand.demand_3", "Demand3", "demand 3 is proved"
+    crate, theorem, statement, stated_in, proved = "promises", "Demand.demand_3", "Demand3", "Claim", "demand 3 is proved"
     also_right, faults = ", and the two sides of each theorem are the same", rows("DEMAND3_FAULTS")
 
     def trim_proofs(self, folder):
@@ -121,7 +142,7 @@ class Demand3(Claim):
 
 class Order2(Claim):
     """Faults of the engine."""
-    crate, theorem, statement, proved = "derivable", "Theorem.book_certified", "BookCertified", "order 2 is proved"
+    crate, theorem, statement, stated_in, proved = "derivable", "Theorem.book_certified", "BookCertified", "Certified", "order 2 is proved"
     also_right, faults = "", rows("ORDER2_FAULTS")
 
     def trim_proofs(self, folder):

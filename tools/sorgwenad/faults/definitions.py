@@ -33,19 +33,23 @@ from sorgwenad.shared.command import parser, processors
 
 
 def check(folder, crate):
-    """Whether the crate is proved, and what is refused: module and name. Those refused since they cite a refused one stand apart."""
+    """Whether the crate is proved, and what is refused: module and name. Of those refused since they cite a refused one, the modules."""
     status, text = proofs.check(folder, crate)
     refused, cited = [], []
     for path, message in re.findall(r"^.*?/?(?:specs|proofs)/(\S+)\.antt:\d+:\d+: error: (.*)", text, re.M):
-        named = re.match(r"`([^`]*)`:", message)
-        full = path.replace("/", ".") + ("." + named.group(1) if named else "")
-        (cited if "was not admitted" in message else refused).append(full)
+        module, named = path.replace("/", "."), re.match(r"`([^`]*)`:", message)
+        many = re.match(r"(\d+) declarations? that depends? on .*, which was (?:rejected|not admitted)", message)
+        if many:
+            cited += [module] * int(many.group(1))
+        else:
+            refused.append(module + ("." + named.group(1) if named else ""))
     return status == 0, refused, cited, "%s(status %d)" % (text, status)
 
 
 def without_fault(claim, faults, folder):
     claim.copy(folder)
     claim.trim(folder)
+    claim.add_claimed(folder)
     for k, fault in enumerate(faults):
         claim.add_right(folder, k, fault)
     proved, refused, cited, text = check(folder, claim.crate)
@@ -63,6 +67,7 @@ def with_fault(claim, fault, folder):
     except edits.Bad as bad:
         return ["BAD EDIT: %s" % bad], False, [], []
     claim.trim(folder)
+    claim.add_claimed(folder)
     claim.add_wrong(folder, fault)
     computes, refused, cited, text = check(folder, "papers")
     if not computes:
@@ -71,7 +76,7 @@ def with_fault(claim, fault, folder):
     complaints = []
     if proved:
         complaints.append("the claim is proved all the same")
-    elif not refused or claim.theorem not in refused + cited:
+    elif not refused or not claim.refuses_claim(text):
         complaints.append("%s is not among what is refused: %s" % (claim.theorem, text[-2000:]))
     else:
         if refused[0] != fault.theorem:
