@@ -237,8 +237,6 @@ peek_count I limit made G t i index turns k outcomes.InvalidAnswer z x = at_most
 peek_count I limit made G t i index turns k outcomes.Cut z x = at_most (sym x.1.count_is)
 peek_count I limit made G t i index turns k (outcomes.Stopped n) z x = at_most (sym x.1.count_is)
 
--- WHAT A REPLY GRANTS is what the result does
-
 -- ONE CALL, and then all of them
 module _ (I : ℕ → Type 0) (limit : ℕ) where
   told : (marked : Bool) (f : Forest) (t : Told) → Sound (left f t) → claim.CallSays I limit marked (told_call f t)
