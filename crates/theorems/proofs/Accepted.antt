@@ -17,6 +17,8 @@ use Rattle.papers.proofs.Levels.{check_accepted}
 use Rattle.paper_checks.specs.declared.Profile.{Profile}
 use Rattle.paper_checks.specs.Profile.{profile_by, Profiles}
 use Rattle.theorems.specs.Promises.{AcceptedTells}
+use Rattle.theorems.specs.Before as before
+use Rattle.theorems.proofs.Before.{demand_3}
 use Rattle.theorems.proofs.Right.{steps_right}
 
 -- the levels are as many as there are goals, and behind them the array has zeros
@@ -36,4 +38,13 @@ accepted_right bytes p says z limit m made is book took =
     sym says.means ∙ ap (λ b. profile_by b p) (eq-eqb p.number 0 z) in
     let a = check_accepted book (take p.goals p.levels) (sym (ap levels_at_desk took) ∙ checked) in
     steps_right bytes limit m (inr made) is book (desk_reads bytes book took).0 (level_in p.levels) a.plain
+    (subst (Levelled book) (λ i g. level_there bytes p says g i) a.levelled)
+
+-- the same with the allowance
+pub accepted_tells_before : before.AcceptedTells
+accepted_tells_before bytes p says z limit m made is book took =
+    let checked : check_levels bytes ≡ accepted (take p.goals p.levels) =
+    sym says.means ∙ ap (λ b. profile_by b p) (eq-eqb p.number 0 z) in
+    let a = check_accepted book (take p.goals p.levels) (sym (ap levels_at_desk took) ∙ checked) in
+    demand_3 bytes limit m (inr made) is book (desk_reads bytes book took).0 (level_in p.levels) a.plain
     (subst (Levelled book) (λ i g. level_there bytes p says g i) a.levelled)
