@@ -2,7 +2,7 @@
 // standard error: goal, clause among the goal's in the old paper, and reason (6 or 36). Of a paper that is refused by another number
 // nothing goes to standard output, and to standard error `refused` and that number.
 // No contract can speak of what is read or written: the program's run on its file `stdin`, held to its file `stdout`, guards that, and
-// tools/mend.py holds both outputs to those of the Rust.
+// `tools/run rust mend` compares both outputs with those of the Rust.
 #![tactic(auto)]
 
 use intake::input;
