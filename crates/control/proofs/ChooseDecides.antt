@@ -12,7 +12,7 @@ use borrow.Author.Tests.{ltb-true}
 use Rattle.definitions.specs.{TimeStamp, is_complete}
 use Rattle.definitions.specs as said
 use Rattle.definitions.specs.Stack.{Stack}
-use Rattle.definitions.specs.Stack as said-stack
+use Rattle.definitions.specs.Stack as said_stack
 use Rattle.definitions.specs.Stop.{Stops, go, ◌>>=◌}
 use Rattle.definitions.specs.Strand as held
 use Rattle.definitions.specs.Table.{Table, equal_answer}
@@ -39,7 +39,7 @@ use Rattle.strands.proofs.AnswerViews.{answer_of_view, answer_of_sound, blank_an
 use Rattle.book.specs.View.{meant}
 use Rattle.stores.specs.Numbers.{flag, within}
 use Rattle.stores.specs.Places.{ring}
-use Rattle.stores.specs.Sound as sound-stores
+use Rattle.stores.specs.Sound as sound_stores
 use Rattle.stores.specs.Sound.{GoodAnswer}
 use Rattle.stores.specs.Tables.{table_goal_at}
 use Rattle.stores.specs.View.{FirstStrands, answer_at, unread_answer}
@@ -200,7 +200,7 @@ module _ (root index first : ℕ) (z : Stores) (o : SoundStores root index first
         let under = below_top z.answers.places.next z.answers.places.tail z.answers.places.len z.answers.places.top
         rings t q h in
         omega (arith, rings.room)))
-        (all_times (sound-stores.Stored z.answers) answers (λ q h. o.answers.stored t q made h))
+        (all_times (sound_stores.Stored z.answers) answers (λ q h. o.answers.stored t q made h))
 
     gives_is : gives ≡ answer_of s (table_held z t).table_goal
     gives_is = ap (answer_of s) (goal_view fresh z.tables z.strands z.answers o.tables t made)
@@ -363,7 +363,7 @@ module _ (root index first : ℕ) (z : Stores) (o : SoundStores root index first
         >>= λ deed. go (takes origin (noted_goals c.made) deed)
 
     pub strand_decides : acting (top_read root index first z o n d)
-        ≡ deciding (forests.queued f + said-stack.active (top_entry z n ∷ entries_below z n))
+        ≡ deciding (forests.queued f + said_stack.active (top_entry z n ∷ entries_below z n))
     strand_decides =
         act_is s.selected (length (clause s).subgoals) kept_in_book.1 choice choice_known origin
         ∙ ap (then_deed s.selected (length (clause s).subgoals) kept_in_book.1 choice choice_known origin) choice_is

@@ -9,7 +9,7 @@ use mathlib.Core.Path.{◌≡◌, refl, sym, ap, ap₂, subst, ◌∙◌}
 use lib.Dec.{eqb, leb, ltb}
 use lib.ListN.{length, get_or, get_elem?}
 use borrow.Author.Tests.{lt-ltb, le-ltb, ltb-true, ltb-false, leb-true, leb-false, eqb-true, eqb-false}
-use Rattle.definitions.specs as said-answers
+use Rattle.definitions.specs as said_answers
 use Rattle.definitions.specs.Stack as said
 use Rattle.definitions.specs.Stop.{Stops, go, ◌>>=◌}
 use Rattle.definitions.specs.Strand as held
@@ -182,7 +182,7 @@ module _ (root index first : ℕ) (z : Stores) (o : SoundStores root index first
               ap (λ (x : Table). answer x i) (table_still root index first z o t (ltb-true t z.tables.count e) made)
               ∙ answer_past fresh z.tables z.strands z.answers t i wanted_place refl o.answers.places h
           at false e =
-              ap (λ (l : List said-answers.Answer). get_elem? l i)
+              ap (λ (l : List said_answers.Answer). get_elem? l i)
               (new_unanswered (forest z) made t (omega (arith, ltb-false t z.tables.count e, counted root index first z o)))
 
       -- THE LOOK, by the answer at the wanted_place that it names

@@ -8,7 +8,7 @@ use mathlib.Core.Path.{◌≡◌, refl, sym, ap, subst, ◌∙◌}
 use lib.Dec.{eqb, ltb}
 use lib.ListN.{get_or}
 use borrow.Author.Tests.{ltb-true, ltb-false}
-use Rattle.definitions.specs as said-numbers
+use Rattle.definitions.specs as said_numbers
 use Rattle.definitions.specs.{MAX}
 use Rattle.definitions.specs.Logic as logic
 use Rattle.definitions.specs.Logic.{SolveState}
@@ -183,7 +183,7 @@ module _ (root index first : ℕ) (z : Stores) (o : SoundStores root index first
       (ap (λ (u : ℕ). go (logic.return_err logic.QuantumExceeded (state (with_tables (moded u false z.tables) z)))) top_table_is
       ∙ ap (λ (s : SolveState). go (logic.return_err logic.QuantumExceeded s))
       (state_is (with_tables (moded t false z.tables) z) n d ∙ mode_changed z n d [] sounds
-      ∙ sym (ap (splits.top_table (λ u. with_mode u said-numbers.Ambiguous)) (state_is z n d))))
+      ∙ sym (ap (splits.top_table (λ u. with_mode u said_numbers.Ambiguous)) (state_is z n d))))
       (λ m e. no_stop (left z idles.ChangesMode).flow m refl e)
       (subst (λ (u : ℕ). Sounds [] (with_tables (moded u false z.tables) z)) (sym top_table_is) (moded_sounds z n d [] sounds))
 

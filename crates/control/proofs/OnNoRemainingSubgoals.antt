@@ -13,7 +13,7 @@ use Rattle.small_steps.specs.Acts as split
 use Rattle.small_steps.specs.Decide.{decide_answer, decide_no_remaining}
 use Rattle.strands.specs.declared.Answer.{Answer}
 use Rattle.strands.specs.declared.Strand.{Strand}
-use Rattle.strands.specs.Answers.{answer-from, answer_of}
+use Rattle.strands.specs.Answers.{answer_from, answer_of}
 use Rattle.strands.specs.View.{Sound, SoundAnswer, seen, clause, answer}
 use Rattle.strands.proofs.AnswerViews.{answer_of_view}
 use Rattle.control.specs.Decision.{meaning, SoundDecision, Leaves}
@@ -61,7 +61,7 @@ module _ (time : TimeStamp) (clock_at : ℕ → TimeStamp) (s : Strand) (was x :
     pursue_by_view true false false h = again_by_view s.ambiguous was.ambiguous ∙ ap (stored_by (answer x)) (sym h)
 
     module _ (o : Sound s) (x_is : x ≡ answer_of s table.table_goal) (is_new : Bool) (h : Stored is_new was x table) where
-      x_means : answer x ≡ answer-from s table.table_goal
+      x_means : answer x ≡ answer_from s table.table_goal
       x_means = ap answer x_is ∙ answer_of_view s table.table_goal o.delayed_long
 
       pub pursue_answer_means : meaning time clock_at (pursue_answer s was x is_new held) ≡ decide_answer held (seen time s) table

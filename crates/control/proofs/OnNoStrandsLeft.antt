@@ -9,7 +9,7 @@ use mathlib.Core.Path.{◌≡◌, refl, sym, ap, ap₂, subst, ◌∙◌}
 use lib.Dec.{eqb, leb, ltb}
 use lib.ListN.{length, get_or, get_elem?}
 use borrow.Author.Tests.{lt-ltb, le-ltb, ltb-true, ltb-false, le-leb, lt-leb, eq-eqb, ne_eqb}
-use Rattle.definitions.specs as said-numbers
+use Rattle.definitions.specs as said_numbers
 use Rattle.definitions.specs.{TimeStamp, MAX, is_complete}
 use Rattle.definitions.specs.Book as books
 use Rattle.definitions.specs.Lists.{is_empty}
@@ -224,7 +224,7 @@ module _ (root index first : ℕ) (z : Stores) (o : SoundStores root index first
   abbrev clock : TimeStamp
   clock = (top_entry z n).clock
 
-  abbrev least : said-numbers.Minimums
+  abbrev least : said_numbers.Minimums
   least = (top_entry z n).cyclic_minimums
 
   abbrev head_decided : (negative : Bool) → Stops Act

@@ -120,12 +120,12 @@ pursue_answer f t strand = do
         delayed_subgoals = other_than table.table_goal x.delayed_subgoals;
         ambiguous = x.ambiguous;
       }
-      let is-trivial-answer = is_trivial x.subst.variant
+      let is_trivial_answer = is_trivial x.subst.variant
       pushed ← push_answer (held f) a table
       elim pushed.0 [
         | none ↦ go (none, f)
         | some index ↦ do
-          let table' : Table = elim (not x.ambiguous && is-trivial-answer) [ true ↦ take_strands pushed.1 | false ↦ pushed.1 ]
+          let table' : Table = elim (not x.ambiguous && is_trivial_answer) [ true ↦ take_strands pushed.1 | false ↦ pushed.1 ]
           f' ← change_table f t (λ _. table')
           go (some index, f')
       ]

@@ -7,7 +7,7 @@ use mathlib.Core.Path.{◌≡◌, refl, sym, ap, ◌∙◌, subst}
 use lib.Dec.{eqb, leb}
 use borrow.Author.Tests.{le-leb, lt-leb, eq-eqb, ne_eqb}
 use Rattle.definitions.specs.{MAX}
-use Rattle.definitions.specs.Book as said-book
+use Rattle.definitions.specs.Book as said_book
 use Rattle.definitions.specs.Desk.{desk}
 use Rattle.definitions.specs.Forest as said
 use Rattle.definitions.specs.Refusal.{Refusable, refused, accepted, ◌refuses◌, unless}
@@ -93,10 +93,10 @@ refused_says what n e = record {
 -- OF A READING
 
 module _ (limit : ℕ) where
-  abbrev begun : said-book.Book → tables.Forest
+  abbrev begun : said_book.Book → tables.Forest
   begun book = record { book = book; clock_limit = limit; mark = 0; tables = []; clock = 0 }
 
-  abbrev limited : (zero large : Bool) → said-book.Book → Refusable tables.Forest
+  abbrev limited : (zero large : Bool) → said_book.Book → Refusable tables.Forest
   limited zero large book = unless ((zero || large) refuses 13 ∷ []) (begun book)
 
   module _ (r : Reading) where
@@ -143,7 +143,7 @@ module _ (limit : ℕ) where
                   forest = subst (λ (n : ℕ). SoundForest n (view (bare r.book limit 0)))
                       (length_span (books.goal_viewed r.book) 0 r.book.goals)
                       (made_sound from.0 limit (view (bare r.book limit 0))
-                      (ap (λ (o : Refusable said-book.Book). said.make_of o limit) from.1 ∙ sym is_made));
+                      (ap (λ (o : Refusable said_book.Book). said.make_of o limit) from.1 ∙ sym is_made));
                 }
 
             pub says_made : (f : Forest) → f ≡ bare r.book limit 0
@@ -158,8 +158,8 @@ module _ (limit : ℕ) where
 
 module _ (bytes : List ℕ) (r : Reading) where
   -- of a reading that gives a book only if `read` does
-  gives_stems : (given : Refusable said-book.Book) → books.Gives given r
-      → ((b : said-book.Book) → given ≡ accepted b → said-book.read bytes ≡ accepted b) → Stems r
+  gives_stems : (given : Refusable said_book.Book) → books.Gives given r
+      → ((b : said_book.Book) → given ≡ accepted b → said_book.read bytes ≡ accepted b) → Stems r
   gives_stems given h as_read = record {
     sound = h.sound;
     from = λ e. (
@@ -169,16 +169,16 @@ module _ (bytes : List ℕ) (r : Reading) where
     bare = h.bare;
   }
 
-  gives_says : (given : Refusable said-book.Book) → books.Gives given r → (limit : ℕ) (m : Made) → MakeOfSays r limit m
+  gives_says : (given : Refusable said_book.Book) → books.Gives given r → (limit : ℕ) (m : Made) → MakeOfSays r limit m
       → MadeSays (said.make_of given limit) m
   gives_says given h limit m says =
-      subst (λ (o : Refusable said-book.Book). MadeSays (said.make_of o limit) m) h.means says
+      subst (λ (o : Refusable said_book.Book). MadeSays (said.make_of o limit) m) h.means says
 
   pub read_stems : books.Read bytes r → Stems r
-  read_stems h = gives_stems (said-book.read bytes) h (λ b e. e)
+  read_stems h = gives_stems (said_book.read bytes) h (λ b e. e)
 
   pub says_read : books.Read bytes r → (limit : ℕ) (m : Made) → MakeOfSays r limit m → MakeSays bytes limit m
-  says_read h limit m says = gives_says (said-book.read bytes) h limit m says
+  says_read h limit m says = gives_says (said_book.read bytes) h limit m says
 
   pub taken_stems : books.Taken bytes r → Stems r
   taken_stems h = gives_stems (desk bytes) h (λ b e. (desk_reads bytes b e).0)

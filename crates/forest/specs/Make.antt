@@ -1,6 +1,6 @@
 -- What making says.
 use Rattle.std.specs.Prelude.{ℕ, List, ◌≡◌}
-use Rattle.definitions.specs.Book as said-book
+use Rattle.definitions.specs.Book as said_book
 use Rattle.definitions.specs.Desk.{make_at_desk}
 use Rattle.definitions.specs.Forest as said
 use Rattle.definitions.specs.Refusal.{Refusable, refused, accepted}
@@ -60,7 +60,7 @@ MakeAtDeskSays bytes limit r = MadeSays (make_at_desk bytes limit) r
 -- such.
 pub record Stems (r : Reading) : Type 0 where
   pub sound : r.number ≡ 0 → books.Sound r.book
-  pub from : r.number ≡ 0 → (bytes : List ℕ) × (said-book.read bytes ≡ accepted (books.view r.book))
+  pub from : r.number ≡ 0 → (bytes : List ℕ) × (said_book.read bytes ≡ accepted (books.view r.book))
   pub bare : (r.number ≡ 0 → ⊥) → r.book ≡ books.blank
 
 -- what is made of a reading: the two ways in differ in the reading alone

@@ -14,7 +14,7 @@ use Rattle.definitions.specs.Refusal.{Refusable, refused, accepted, ◌refuses�
 use Rattle.definitions.specs.Lists.{push, position}
 use Rattle.definitions.specs.Book.{Clause, Goal, Book, with_clauses, literals_name, clauses_name, goals_name, read}
 use Rattle.definitions.specs.Book.{Command, goal, clause, positive, ranged, negative, unknown, command, width}
-use Rattle.definitions.specs.Book.{end as end-of-book}
+use Rattle.definitions.specs.Book.{end as end_of_book}
 use Rattle.definitions.specs.Mend.{read_loosely}
 use Rattle.definitions.specs.Desk.{same_clause, Repeat, repeat_behind, repeat_from, at_desk, desk}
 use Rattle.papers.specs.Mend.{repeated, reason, reasons_behind, reasons_of, reasons}
@@ -206,7 +206,7 @@ copy_whole (b ∷ bs) zero c s l x = on (command b) (copy_whole bs)
     on positive ih = as_whole positive l l x ih
     on ranged ih = as_whole ranged l l x ih
     on negative ih = as_whole negative l l x ih
-    on end-of-book ih = as_whole end-of-book refl l x ih
+    on end_of_book ih = as_whole end_of_book refl l x ih
     on unknown ih = as_whole unknown refl l x ih
 
 no_clause_line : (g i : ℕ) (rs : List (Option ℕ)) → NoReason rs → clause_lines g i rs ≡ []

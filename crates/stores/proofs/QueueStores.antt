@@ -8,7 +8,7 @@ use mathlib.Core.List.{List, [], ◌∷◌, ◌++◌, map, append_assoc, append-
 use lib.ListN.{length, get_or, set, length-map, length-append}
 use borrow.Author.Tests.{lt-ltb}
 use Rattle.definitions.specs.Lists.{push, total}
-use Rattle.definitions.specs.Strand as said-strand
+use Rattle.definitions.specs.Strand as said_strand
 use Rattle.definitions.specs.Table.{with_strands, enqueue_strand}
 use Rattle.rings.specs.Lists.{times}
 use Rattle.laws.specs.Spans.{span}
@@ -40,19 +40,19 @@ abbrev pub HeldStill : FirstStrands → (s s'' : Strands) → (held : List ℕ) 
 HeldStill fresh s s'' held = (u : ℕ) → 1 ≤ times u held → strand_at fresh s'' u ≡ strand_at fresh s u
 
 -- THE QUEUE OF TABLE t GROWS at its end: every other queue, and what the held places show, is as it was
-pub record Grown (fresh : FirstStrands) (s s'' : Strands) (n : ℕ) (held : List ℕ) (t : ℕ) (new : List said-strand.Strand) : Type 0 where
+pub record Grown (fresh : FirstStrands) (s s'' : Strands) (n : ℕ) (held : List ℕ) (t : ℕ) (new : List said_strand.Strand) : Type 0 where
   pub sound : SoundStrands fresh s'' n held
   pub own : strands_of fresh s'' t ≡ strands_of fresh s t ++ new
   pub others : (u : ℕ) → u < n → (u ≡ t → ⊥) → strands_of fresh s'' u ≡ strands_of fresh s u
   pub holds : HeldStill fresh s s'' held
 
-module _ (fresh : FirstStrands) (s s'' : Strands) (n : ℕ) (held : List ℕ) (t : ℕ) (new : List said-strand.Strand) (h : t < n)
+module _ (fresh : FirstStrands) (s s'' : Strands) (n : ℕ) (held : List ℕ) (t : ℕ) (new : List said_strand.Strand) (h : t < n)
     (grown : Grown fresh s s'' n held t new) where
   pub grown_view : (ts : Tables) (a : Answers) → ts.count ≡ n
       → tables fresh ts s'' a ≡ set (tables fresh ts s a) t (with_strands (held_table fresh ts s a t) (strands_of fresh s t ++ new))
   grown_view ts a e =
       tables_changed fresh ts a s s'' t (omega arith) (λ u k d. grown.others u (omega arith) d)
-      ∙ ap (λ (l : List said-strand.Strand). set (tables fresh ts s a) t (with_strands (held_table fresh ts s a t) l)) grown.own
+      ∙ ap (λ (l : List said_strand.Strand). set (tables fresh ts s a) t (with_strands (held_table fresh ts s a t) l)) grown.own
 
   -- so many more are live
   pub grown_count : waiting s''.places n ≡ waiting s.places n + length new
@@ -67,11 +67,11 @@ module _ (fresh : FirstStrands) (s s'' : Strands) (n : ℕ) (held : List ℕ) (t
       omega (arith, a, w, l t, m t)
 
 -- it grows, and grows again
-pub grown_on : (fresh : FirstStrands) (s s'' s''' : Strands) (n : ℕ) (held : List ℕ) (t : ℕ) (new more : List said-strand.Strand)
+pub grown_on : (fresh : FirstStrands) (s s'' s''' : Strands) (n : ℕ) (held : List ℕ) (t : ℕ) (new more : List said_strand.Strand)
     → Grown fresh s s'' n held t new → Grown fresh s'' s''' n held t more → Grown fresh s s''' n held t (new ++ more)
 grown_on fresh s s'' s''' n held t new more g m = record {
   sound = m.sound;
-  own = m.own ∙ ap (λ (l : List said-strand.Strand). l ++ more) g.own ∙ append_assoc (strands_of fresh s t) new more;
+  own = m.own ∙ ap (λ (l : List said_strand.Strand). l ++ more) g.own ∙ append_assoc (strands_of fresh s t) new more;
   others = λ u k d. m.others u k d ∙ g.others u k d;
   holds = λ u k. m.holds u k ∙ g.holds u k;
 }
@@ -86,7 +86,7 @@ module _ (fresh : FirstStrands) (s : Strands) (n : ℕ) (held : List ℕ) (t : �
   ready = freed_ready fresh s n held sound room
 
   -- w is what was written there
-  enqueued_grown : (w : Strands) (x : said-strand.Strand) → SoundStrands fresh w n (q ∷ held) → strand_at fresh w q ≡ x
+  enqueued_grown : (w : Strands) (x : said_strand.Strand) → SoundStrands fresh w n (q ∷ held) → strand_at fresh w q ≡ x
       → ((u : ℕ) → times q (ring (freed_strands s).places u) ≡ 0 → strands_of fresh w u ≡ strands_of fresh (freed_strands s) u)
       → ((u : ℕ) → (u ≡ q → ⊥) → strand_at fresh w u ≡ strand_at fresh s u)
       → Grown fresh s (enqueued_strand t q w) n held t (x ∷ [])
@@ -98,7 +98,7 @@ module _ (fresh : FirstStrands) (s : Strands) (n : ℕ) (held : List ℕ) (t : �
         sound = enqueue_sound fresh w n held t q h put;
         own =
             enqueue_own fresh w n held t q h put.places
-            ∙ ap₂ (λ (l : List said-strand.Strand) (y : said-strand.Strand). push l y) (same t h) shown;
+            ∙ ap₂ (λ (l : List said_strand.Strand) (y : said_strand.Strand). push l y) (same t h) shown;
         others = λ u k d. enqueue_other fresh w n held t q h put.places u d ∙ same u k;
         holds = λ u k. away u (λ e. omega (arith, k, ap (λ (v : ℕ). times v held) e, times_self q, ready.places.once q));
       }

@@ -14,7 +14,7 @@ use Rattle.laws.proofs.All.{all_map}
 use Rattle.definitions.specs as said
 use Rattle.definitions.specs.Book as books
 use Rattle.definitions.specs.Lists.{push, position, rotate_left}
-use Rattle.definitions.specs.Strand as said-strand
+use Rattle.definitions.specs.Strand as said_strand
 use Rattle.definitions.specs.Table.{with_strands, enqueue_strand, take_strands, pop_front, dequeue_next_strand_that}
 use Rattle.definitions.specs.Turn as turns
 use Rattle.rings.specs.Lists.{first_index, times, turned}
@@ -103,8 +103,8 @@ module _ (fresh : FirstStrands) (s : Strands) (q time : ℕ) (x : Strand) where
       (λ u d. get_or-set_other s.strands q u x unread_strand d)
 
 -- a fresh place shows the first strand of its clause
-unpursued : (x : said-strand.Strand) → x.last_pursued_time ≡ 0 → said-strand.with_pursued x 0 ≡ x
-unpursued x e = ap (said-strand.with_pursued x) (sym e)
+unpursued : (x : said_strand.Strand) → x.last_pursued_time ≡ 0 → said_strand.with_pursued x 0 ≡ x
+unpursued x e = ap (said_strand.with_pursued x) (sym e)
 
 module _ (fresh : FirstStrands) (s : Strands) (q c variant flags : ℕ) where
   pub made_fresh_here : q < 256 → Long s → FirstOf (fresh c) variant flags → strand_at fresh (made_fresh q c variant flags s) q ≡ fresh c
@@ -140,7 +140,7 @@ module _ (fresh : FirstStrands) (s : Strands) (n : ℕ) (held : List ℕ) (t q :
       (enqueue_strand (strand_at fresh s q) (held_table fresh ts s a t))
   enqueue_view ts a e =
       tables_changed fresh ts a s (enqueued_strand t q s) t (omega arith) (λ u k d. enqueue_other u d)
-      ∙ ap (λ (l : List said-strand.Strand). set (tables fresh ts s a) t (with_strands (held_table fresh ts s a t) l)) enqueue_own
+      ∙ ap (λ (l : List said_strand.Strand). set (tables fresh ts s a) t (with_strands (held_table fresh ts s a t) l)) enqueue_own
 
 -- GIVE BACK, and a place taken: no queue changes
 pub given_view : (fresh : FirstStrands) (ts : Tables) (a : Answers) (s : Strands) (held : List ℕ) (q : ℕ)
@@ -174,7 +174,7 @@ is_mode k = go (flag k)
     go true = refl
     go false = refl
 
-shown_time : (unwritten : Bool) (time : ℕ) (first : said-strand.Strand) (x : Strand)
+shown_time : (unwritten : Bool) (time : ℕ) (first : said_strand.Strand) (x : Strand)
     → (strand_by unwritten time first x).last_pursued_time ≡ time
 shown_time true time first x = refl
 shown_time false time first x = refl
@@ -193,7 +193,7 @@ module _ (fresh : FirstStrands) (ts : Tables) (a : Answers) (s : Strands) (held 
   abbrev complete : Bool
   complete = flag (get_or ts.complete t 0)
 
-  abbrev test : said-strand.Strand → Bool
+  abbrev test : said_strand.Strand → Bool
   test = turns.eligible clock (mode (get_or ts.complete t 0))
 
   abbrev places : List ℕ
@@ -238,18 +238,18 @@ module _ (fresh : FirstStrands) (ts : Tables) (a : Answers) (s : Strands) (held 
     pub taken_view : dequeue_next_strand_that test (held_table fresh ts s a t) ≡ some
         (strand_at fresh s (strand_place clock complete t s), held_table fresh ts (taken_strand clock complete t s) a t)
     taken_view =
-        let l : List said-strand.Strand = strands_of fresh s t in
-        let d : said-strand.Strand = strand_at fresh s 256 in
+        let l : List said_strand.Strand = strands_of fresh s t in
+        let d : said_strand.Strand = strand_at fresh s 256 in
         let k : j < length l = omega (arith, there, length-map places (strand_at fresh s)) in
         let f : rotate_left l j ≡ strand_at fresh s (get_or places j 0) ∷ turned j l = rotate_front l j d k
-        ∙ ap (λ (x : said-strand.Strand). x ∷ turned j l) (map_at (strand_at fresh s) places j 0 d there) in
+        ∙ ap (λ (x : said_strand.Strand). x ∷ turned j l) (map_at (strand_at fresh s) places j 0 d there) in
         ap (λ (o : Option ℕ). elim o [
           | none ↦ none
           | some first ↦ pop_front
               (with_strands (held_table fresh ts s a t) (rotate_left l first))
         ]) (first_eligible true e)
-        ∙ ap (λ (m : List said-strand.Strand). pop_front (with_strands (held_table fresh ts s a t) m)) f
-        ∙ ap₂ (λ (x : said-strand.Strand) (m : List said-strand.Strand). some (x, with_strands (held_table fresh ts s a t) m))
+        ∙ ap (λ (m : List said_strand.Strand). pop_front (with_strands (held_table fresh ts s a t) m)) f
+        ∙ ap₂ (λ (x : said_strand.Strand) (m : List said_strand.Strand). some (x, with_strands (held_table fresh ts s a t) m))
         (ap (strand_at fresh s) (sym place_is))
         (sym took.leaves ∙ ap (λ (r : Strands). strands_of fresh r t) (sym taken_is))
 

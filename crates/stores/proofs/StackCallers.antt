@@ -22,7 +22,7 @@ use Rattle.definitions.specs.Stack.{
   active,
   active_count,
 }
-use Rattle.definitions.specs.Strand as said-strand
+use Rattle.definitions.specs.Strand as said_strand
 use Rattle.rings.specs.Lists.{times}
 use Rattle.sizes.specs.Limits.{most_places}
 use Rattle.rings.specs.Rings.{place_if}
@@ -85,7 +85,7 @@ module _ (fresh : FirstStrands) (k : Stack) (s : Strands) (sound : SoundStack k)
 
   module _ (some_strand : caller_place k.depth k.active ≡ 256 → ⊥) where
     is_some : active_strand_at fresh s p ≡ some (strand_at fresh s p)
-    is_some = ap (λ (b : Bool). elim b as (λ (c : Bool). Option said-strand.Strand) [ true ↦ none | false ↦ some (strand_at fresh s p) ])
+    is_some = ap (λ (b : Bool). elim b as (λ (c : Bool). Option said_strand.Strand) [ true ↦ none | false ↦ some (strand_at fresh s p) ])
         (ne_eqb p 256 (λ e. some_strand (caller_place_is ∙ e)))
 
     popped_top : entered fresh (popped k) s ≡ entry_at fresh k s j ∷ entries fresh k s j
@@ -96,7 +96,7 @@ module _ (fresh : FirstStrands) (k : Stack) (s : Strands) (sound : SoundStack k)
     taken_top =
         let e : k.depth - 1 ≡ suc j = omega arith in
         ap (λ (r : Stack). entered fresh r s) taken_is ∙ ap (entries fresh k' s) e
-        ∙ ap₂ (λ (x : Option said-strand.Strand) (es : List StackEntry). with_active (entry_at fresh k s j) x ∷ es)
+        ∙ ap₂ (λ (x : Option said_strand.Strand) (es : List StackEntry). with_active (entry_at fresh k s j) x ∷ es)
         (ap (active_strand_at fresh s) (get_or-set_same k.active j 256 0 (omega (arith, sound.few, sound.long_active))))
         (entries_same fresh k k' s s j (λ i h. ap (λ (q : ℕ). with_active (entry_at fresh k s i) (active_strand_at fresh s q))
         (get_or-set_other k.active j i 256 0 (λ e. omega arith))))
@@ -105,17 +105,17 @@ module _ (fresh : FirstStrands) (k : Stack) (s : Strands) (sound : SoundStack k)
         (caller (strand_at fresh s (caller_place k.depth k.active)) (entered fresh (popped k) s))
     borrow_caller_view =
         ap pop_and_borrow_caller_strand whole
-        ∙ ap (λ (o : Option said-strand.Strand). unwrap o >>= λ x. go (caller x (entry_at fresh k s j ∷ entries fresh k s j))) is_some
-        ∙ ap₂ (λ (x : said-strand.Strand) (es : List StackEntry). go (caller x es)) (ap (strand_at fresh s) (sym caller_place_is))
+        ∙ ap (λ (o : Option said_strand.Strand). unwrap o >>= λ x. go (caller x (entry_at fresh k s j ∷ entries fresh k s j))) is_some
+        ∙ ap₂ (λ (x : said_strand.Strand) (es : List StackEntry). go (caller x es)) (ap (strand_at fresh s) (sym caller_place_is))
         (sym popped_top)
 
     pub take_caller_view : pop_and_take_caller_strand (entered fresh k s) ≡ go
         (caller (strand_at fresh s (caller_place k.depth k.active)) (entered fresh (caller_taken k) s))
     take_caller_view =
         ap pop_and_take_caller_strand whole
-        ∙ ap (λ (o : Option said-strand.Strand). unwrap o >>= λ x. go
+        ∙ ap (λ (o : Option said_strand.Strand). unwrap o >>= λ x. go
         (caller x (with_active (entry_at fresh k s j) none ∷ entries fresh k s j))) is_some
-        ∙ ap₂ (λ (x : said-strand.Strand) (es : List StackEntry). go (caller x es)) (ap (strand_at fresh s) (sym caller_place_is))
+        ∙ ap₂ (λ (x : said_strand.Strand) (es : List StackEntry). go (caller x es)) (ap (strand_at fresh s) (sym caller_place_is))
         (sym taken_top)
 
   pub take_caller_sound : SoundStack (caller_taken k)
@@ -192,7 +192,7 @@ active_is fresh k s zero = refl
 active_is fresh k s (suc n) = at (eqb (get_or k.active n 0) 256) (active_is fresh k s n)
   where
     at : (b : Bool) → active (entries fresh k s n) ≡ length (active_places k.active n)
-        → active_count (elim b as (λ (c : Bool). Option said-strand.Strand) [
+        → active_count (elim b as (λ (c : Bool). Option said_strand.Strand) [
           | true ↦ none
           | false ↦ some
               (strand_at fresh s (get_or k.active n 0))

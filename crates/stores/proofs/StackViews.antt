@@ -12,7 +12,7 @@ use lib.Dec.{eqb}
 use borrow.Author.Tests.{lt-ltb, le-ltb, eqb-true, eqb-false}
 use Rattle.definitions.specs.Stop.{go}
 use Rattle.definitions.specs.Stack.{StackEntry, with_active, with_minimums, top, change_top, push_entry}
-use Rattle.definitions.specs.Strand as said-strand
+use Rattle.definitions.specs.Strand as said_strand
 use Rattle.sizes.specs.Limits.{most_places}
 use Rattle.strands.specs.declared.Strand.{Strand}
 use Rattle.stores.specs.declared.queue.Strands.{Strands}
@@ -31,7 +31,7 @@ entries_same fresh k k' s s'' zero h = refl
 entries_same fresh k k' s s'' (suc n) h = ap₂ (λ (e : StackEntry) (es : List StackEntry). e ∷ es) (h n (omega arith))
     (entries_same fresh k k' s s'' n (λ i j. h i (omega arith)))
 
-abbrev entry_of : (t c p n : ℕ) → Option said-strand.Strand → StackEntry
+abbrev entry_of : (t c p n : ℕ) → Option said_strand.Strand → StackEntry
 entry_of t c p n a = record { table = t; clock = c; cyclic_minimums = record { positive = p; negative = n }; active_strand = a }
 
 entry_is : (fresh : FirstStrands) (s : Strands) (t t' c c' p p' n n' a a' : ℕ) → t ≡ t' → c ≡ c' → p ≡ p' → n ≡ n' → a ≡ a'
@@ -241,7 +241,7 @@ entered_kept fresh k s s'' kept =
     (λ i h. ap (with_active (entry_at fresh k s i)) (active_kept i h (eqb (get_or k.active i 0) most_places) refl))
   where
     active_kept : (i : ℕ) → i < k.depth → (b : Bool) → eqb (get_or k.active i 0) most_places ≡ b
-        → ◌≡◌ {A = Option said-strand.Strand} (elim b [ true ↦ none | false ↦ some (strand_at fresh s'' (get_or k.active i 0)) ])
+        → ◌≡◌ {A = Option said_strand.Strand} (elim b [ true ↦ none | false ↦ some (strand_at fresh s'' (get_or k.active i 0)) ])
         (elim b [ true ↦ none | false ↦ some (strand_at fresh s (get_or k.active i 0)) ])
     active_kept i h true e = refl
     active_kept i h false e = ap some (kept i h (eqb-false (get_or k.active i 0) most_places e))

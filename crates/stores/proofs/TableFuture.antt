@@ -10,7 +10,7 @@ use lib.ListN.{drop, get_or, get_elem?}
 use lib.Dec.{eqb, ltb}
 use Rattle.definitions.specs as said
 use Rattle.definitions.specs.Lists.{any_passes}
-use Rattle.definitions.specs.Strand as said-strand
+use Rattle.definitions.specs.Strand as said_strand
 use Rattle.definitions.specs.Table.{Table}
 use Rattle.definitions.specs.Tables.{Forest}
 use Rattle.definitions.specs.Forest.{future}
@@ -42,7 +42,7 @@ module _ (fresh : FirstStrands) (ts : Tables) (s : Strands) (a : Answers) (held 
   abbrev stored_test : said.Answer → Bool
   stored_test b = eqb b.variant v
 
-  abbrev queued_test : said-strand.Strand → Bool
+  abbrev queued_test : said_strand.Strand → Bool
   queued_test r = eqb r.ex_clause.subst.variant v
 
   -- one store: the places of ring t that the numbers find are those whose view passes the test

@@ -12,7 +12,7 @@ use lib.Dec.{ltb}
 use borrow.Author.Tests.{lt-ltb, ne_eqb, ltb-true, ltb-false}
 use Rattle.definitions.specs as said
 use Rattle.definitions.specs.Lists.{push, total}
-use Rattle.definitions.specs.Strand as said-strand
+use Rattle.definitions.specs.Strand as said_strand
 use Rattle.definitions.specs.Table.{Table, with_answers, mark_floundered, answer, next_answer_index}
 use Rattle.rings.specs.Lists.{one, times}
 use Rattle.rings.specs.Rings.{place_if}
@@ -222,7 +222,7 @@ module _ (fresh : FirstStrands) (ts : Tables) (s : Strands) (a : Answers) (held 
     long_complete = sound.long_complete;
   })
 
-  abbrev table_with : ℕ → (floundered : ℕ) → List said.Answer → List said-strand.Strand → Table
+  abbrev table_with : ℕ → (floundered : ℕ) → List said.Answer → List said_strand.Strand → Table
   table_with u f l m = record {
     table_goal = get_or ts.goal u 0;
     coinductive_goal = flag (get_or ts.coinductive u 0);
@@ -232,9 +232,9 @@ module _ (fresh : FirstStrands) (ts : Tables) (s : Strands) (a : Answers) (held 
     answer_mode = (held_table fresh ts s a u).answer_mode;
   }
 
-  table_is : (u f f' : ℕ) (l l' : List said.Answer) (m m' : List said-strand.Strand) → f ≡ f' → l ≡ l' → m ≡ m'
+  table_is : (u f f' : ℕ) (l l' : List said.Answer) (m m' : List said_strand.Strand) → f ≡ f' → l ≡ l' → m ≡ m'
       → table_with u f l m ≡ table_with u f' l' m'
-  table_is u f f' l l' m m' e c d = ap₂ (λ (x : List said.Answer) (y : List said-strand.Strand). table_with u f x y) c d
+  table_is u f f' l l' m m' e c d = ap₂ (λ (x : List said.Answer) (y : List said_strand.Strand). table_with u f x y) c d
       ∙ ap (λ (x : ℕ). table_with u x l' m') e
 
   pub marked_view : tables fresh (marked t ts) (cleared t s) (cleared_answers t a) ≡ set (tables fresh ts s a) t

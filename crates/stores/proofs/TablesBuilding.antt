@@ -8,7 +8,7 @@ use mathlib.Core.List.{List, [], ◌++◌, map}
 use lib.ListN.{length, get_or, set}
 use lib.Seq.{set-append_seam}
 use Rattle.definitions.specs.Lists.{push}
-use Rattle.definitions.specs.Strand as said-strand
+use Rattle.definitions.specs.Strand as said_strand
 use Rattle.definitions.specs.Table.{Table, new, with_strands}
 use Rattle.definitions.specs.Tables.{insert_table}
 use Rattle.sizes.specs.Limits.{most_places}
@@ -68,7 +68,7 @@ module _ (fresh : FirstStrands) (ts : Tables) (s : Strands) (a : Answers) (held 
     abbrev s'' : Strands
     s'' = fresh_each variants flags n count first s
 
-    abbrev queue : List said-strand.Strand
+    abbrev queue : List said_strand.Strand
     queue = span fresh first count
 
     -- the new table's ring is empty
@@ -90,7 +90,7 @@ module _ (fresh : FirstStrands) (ts : Tables) (s : Strands) (a : Answers) (held 
       means =
           grown_view fresh s s'' (suc n) held n queue (omega arith) grown ts' a (inserted_count fresh ts s a g co false sound room)
           ∙ ap₂ (λ (l : List Table) (t : Table). set l n t) (inserted_view fresh ts s a g co false sound room no_answers no_strands)
-          (ap₂ (λ (t : Table) (l : List said-strand.Strand). with_strands t (l ++ queue))
+          (ap₂ (λ (t : Table) (l : List said_strand.Strand). with_strands t (l ++ queue))
           (inserted_new fresh ts s a g co false sound room no_answers no_strands) (ap (map (strand_at fresh s)) no_strands))
           ∙ ap (λ (k : ℕ). set (push (tables fresh ts s a) (new g co)) k (with_strands (new g co) queue))
           (sym (length_span (held_table fresh ts s a) 0 n))

@@ -11,7 +11,7 @@ use lib.ListN.{get_or, set, length-set, get_elem?, length-replicate}
 use lib.Seq.{get_or-set_same, get_or-set_other}
 use borrow.Author.Tests.{lt-ltb}
 use Rattle.definitions.specs as said
-use Rattle.definitions.specs.Strand as said-strand
+use Rattle.definitions.specs.Strand as said_strand
 use Rattle.definitions.specs.Table.{Table, new, with_mode, mark_floundered}
 use Rattle.definitions.specs.Stop.{Stops, go, ◌>>=◌, unwrap}
 use Rattle.definitions.specs.Tables.{insert_table, Forest, with_tables, table_at, change_table}
@@ -73,7 +73,7 @@ module _ (fresh : FirstStrands) (ts : Tables) (s : Strands) (a : Answers) (sound
   pub goal_view : table_goal_at t ts.goal ≡ (held_table fresh ts s a t).table_goal
   goal_view = sym (goal_near t ts.goal near)
 
-abbrev table_of : (goal coinductive floundered complete : ℕ) → List said.Answer → List said-strand.Strand → Table
+abbrev table_of : (goal coinductive floundered complete : ℕ) → List said.Answer → List said_strand.Strand → Table
 table_of g c f m rs ss = record {
   table_goal = g;
   coinductive_goal = flag c;
@@ -83,7 +83,7 @@ table_of g c f m rs ss = record {
   answer_mode = mode m;
 }
 
-table_is : (g g' c c' f f' m m' : ℕ) (rs rs' : List said.Answer) (ss ss' : List said-strand.Strand) → g ≡ g' → c ≡ c' → f ≡ f' → m ≡ m'
+table_is : (g g' c c' f f' m m' : ℕ) (rs rs' : List said.Answer) (ss ss' : List said_strand.Strand) → g ≡ g' → c ≡ c' → f ≡ f' → m ≡ m'
     → rs ≡ rs' → ss ≡ ss'
     → table_of g c f m rs ss ≡ table_of g' c' f' m' rs' ss'
 table_is g g' c c' f f' m m' rs rs' ss ss' a b d e r q = cc

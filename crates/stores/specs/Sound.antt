@@ -1,7 +1,7 @@
 -- When the stores are sound: all that an operation rests on.
 use Rattle.std.specs.Prelude.{ℕ, zero, suc, ◌+◌, ◌≤◌, ◌<◌, ◌≡◌, false, List, [], ◌∷◌, length, get_or, eqb}
 use Rattle.definitions.specs.Book as books
-use Rattle.definitions.specs.Strand as said-strand
+use Rattle.definitions.specs.Strand as said_strand
 use Rattle.laws.specs.All.{All}
 use Rattle.rings.specs.Lists.{times}
 use Rattle.sizes.specs.Limits.{most_goals, most_tables, most_entries, most_places}
@@ -43,7 +43,7 @@ pub record Written (x : Strand) (waits wants : ℕ) : Type 0 where
   pub is_wants : wants ≡ wants_of x
 
 -- A place in use shows a strand, and the numbers that are read without it are that strand's; it is fresh, or its strand is written.
-pub record OwnNumbers (shown : said-strand.Strand) (x : Strand) (ambiguous variant waits wants : ℕ) : Type 0 where
+pub record OwnNumbers (shown : said_strand.Strand) (x : Strand) (ambiguous variant waits wants : ℕ) : Type 0 where
   pub is_ambiguous : ambiguous ≡ flag_number shown.ex_clause.ambiguous
   pub is_variant : variant ≡ shown.ex_clause.subst.variant
   pub is_written : eqb waits waits_fresh ≡ false → Written x waits wants
@@ -53,7 +53,7 @@ InUse fresh s q = OwnNumbers (strand_at fresh s q) (get_or s.strands q unread_st
     (get_or s.waits q 0) (get_or s.wants q 0)
 
 -- what the book says of a clause is so of its first strand, which nobody has pursued
-pub record FirstOf (first : said-strand.Strand) (variant flags : ℕ) : Type 0 where
+pub record FirstOf (first : said_strand.Strand) (variant flags : ℕ) : Type 0 where
   pub is_variant : first.ex_clause.subst.variant ≡ variant
   pub is_ambiguous : first.ex_clause.ambiguous ≡ books.bit0 flags
   pub is_unpursued : first.last_pursued_time ≡ 0

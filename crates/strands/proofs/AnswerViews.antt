@@ -10,7 +10,7 @@ use Rattle.definitions.specs.Turn.{other_than}
 use Rattle.definitions.proofs.Lists.{length_other_than}
 use Rattle.laws.proofs.Takes.{take_sets}
 use Rattle.strands.specs.declared.Strand.{Strand}
-use Rattle.strands.specs.Answers.{blank_answer, answer-from, answer_of}
+use Rattle.strands.specs.Answers.{blank_answer, answer_from, answer_of}
 use Rattle.strands.specs.View.{SoundAnswer, clause, answer}
 
 pub blank_answer_view : answer blank_answer ≡ record { variant = 0; delayed_subgoals = []; ambiguous = false }
@@ -26,7 +26,7 @@ module _ (s : Strand) (goal : ℕ) (long : length s.delayed ≡ 8) where
   others_few : length others ≤ 8
   others_few = omega (arith, length_other_than goal (clause s).delayed_subgoals, length-take s.delayed_count s.delayed)
 
-  pub answer_of_view : answer (answer_of s goal) ≡ answer-from s goal
+  pub answer_of_view : answer (answer_of s goal) ≡ answer_from s goal
   answer_of_view =
       let whole = length-replicate {A = ℕ} 8 0 in
       ap (λ (ds : List ℕ). record { variant = s.variant; delayed_subgoals = ds; ambiguous = s.ambiguous })

@@ -17,8 +17,8 @@ abbrev pub goals_of : List ℕ → Goals
 goals_of goals = record { count = length goals; goals = sets (replicate 8 0) 0 goals }
 
 -- the answer that `pursue_answer` of the definitions makes of a strand, in the table of this goal; and the struct that says it
-abbrev pub answer-from : Strand → (goal : ℕ) → said.Answer
-answer-from s goal = record {
+abbrev pub answer_from : Strand → (goal : ℕ) → said.Answer
+answer_from s goal = record {
   variant = (clause s).subst.variant;
   delayed_subgoals = other_than goal (clause s).delayed_subgoals;
   ambiguous = (clause s).ambiguous;
