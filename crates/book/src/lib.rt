@@ -13,10 +13,7 @@ mod repeats;
 pub mod same;
 pub mod widths;
 
-pub use crate::reader::read;
-pub use crate::reader::read_loosely;
-pub use crate::reader::refused;
-
+pub use crate::reader::{read, read_loosely, refused};
 use sizes::{BOOK_LITERALS, MOST_CLAUSES, MOST_GOALS};
 
 // Goals, clauses and literals by number, so that each array can be lent alone. The clauses of goal g are the goal_len[g] clauses
