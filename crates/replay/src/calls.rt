@@ -1,82 +1,88 @@
-// The calls of a script, each by itself, on the forest at hand: by value, or lent by `&mut`.
+// The calls of a script on the forest at hand: each by itself, by value or lent by `&mut`, or those that wait together. Each of these
+// functions stays by itself (`inline(never)`): where the compiler puts them into one, that one's part of the stack has a place for each
+// forest of each.
 use crate::line::Line;
 use crate::words::Reply;
+use batch::calls::NUMBERS;
 use forest::Forest;
 use forest::any_future_answer::any_future_answer;
-use forest::make::{Made, make, make_at_desk};
-use forest::open::{Opened, open};
-use forest::searches::{Peeked, Searched, peek, search};
-
-#[derive(Clone, Copy)]
-pub(crate) struct Called {
-    pub reply: Reply,
-    pub forest: Forest,
-}
+use forest::make::{Making, make, make_at_desk};
+use forest::open::open;
+use forest::searches::{peek, search};
+use forest::serve_calls::serve_calls;
 
 // What stands where there is no forest yet, before the first book.
+#[inline(never)]
 pub(crate) fn no_forest() -> Forest {
-    let m = make(b"", 0);
-    m.forest
+    make(b"", 0).forest
 }
 
 // A book's forest, by the old entry or as the desk takes it; and the one that a refused book leaves.
-pub(crate) fn take_book(bytes: &[u8], clock_limit: u64, desk: bool) -> Made {
-    if desk {
-        return make_at_desk(bytes, clock_limit);
+#[inline(never)]
+pub(crate) fn take_book(f: &mut Forest, bytes: &[u8], clock_limit: u64, desk: bool) -> Making {
+    let made = if desk {
+        make_at_desk(bytes, clock_limit)
+    } else {
+        make(bytes, clock_limit)
+    };
+    *f = made.forest;
+    made.making
+}
+
+#[inline(never)]
+fn opened(f: &mut Forest, l: Line, is_lent: bool) -> Reply {
+    let r = if is_lent {
+        in_place::by_value::open(*f, l.a)
+    } else {
+        open(*f, l.a)
+    };
+    *f = r.forest;
+    Reply::Opened(r.opening)
+}
+
+#[inline(never)]
+fn searched(f: &mut Forest, l: Line, is_lent: bool) -> Reply {
+    let r = if is_lent {
+        in_place::by_value::search(*f, l.a, l.b, l.c)
+    } else {
+        search(*f, l.a, l.b, l.c)
+    };
+    *f = r.forest;
+    Reply::Searched(r.outcome, r.turns)
+}
+
+#[inline(never)]
+fn peeked(f: &mut Forest, l: Line, is_lent: bool) -> Reply {
+    let r = if is_lent {
+        in_place::by_value::peek(*f, l.a, l.b, l.c, l.d)
+    } else {
+        peek(*f, l.a, l.b, l.c, l.d)
+    };
+    *f = r.forest;
+    Reply::Peeked(r.outcome, r.index, r.turns)
+}
+
+#[inline(never)]
+fn asked(f: &mut Forest, l: Line) -> Reply {
+    Reply::Asked(any_future_answer(*f, l.a, l.b, l.c))
+}
+
+pub(crate) fn call(f: &mut Forest, l: Line, is_lent: bool) -> Reply {
+    match l.call {
+        2 => opened(f, l, is_lent),
+        3 => searched(f, l, is_lent),
+        4 => peeked(f, l, is_lent),
+        _ => asked(f, l),
     }
-    make(bytes, clock_limit)
 }
 
-fn opened(r: Opened) -> Called {
-    let o = r.opening;
-    let forest = r.forest;
-    let reply = Reply::Opened(o);
-    Called { reply, forest }
-}
-
-fn searched(r: Searched) -> Called {
-    let o = r.outcome;
-    let forest = r.forest;
-    let reply = Reply::Searched(o, r.turns);
-    Called { reply, forest }
-}
-
-fn peeked(r: Peeked) -> Called {
-    let o = r.outcome;
-    let forest = r.forest;
-    let reply = Reply::Peeked(o, r.index, r.turns);
-    Called { reply, forest }
-}
-
-fn asked(forest: Forest, table: u64, index: u64, variant: u64) -> Called {
-    let r = any_future_answer(forest, table, index, variant);
-    let reply = Reply::Asked(r);
-    Called { reply, forest }
-}
-
-fn by_value(f: Forest, l: Line) -> Called {
-    let k = l.call;
-    match k {
-        2 => opened(open(f, l.a)),
-        3 => searched(search(f, l.a, l.b, l.c)),
-        4 => peeked(peek(f, l.a, l.b, l.c, l.d)),
-        _ => asked(f, l.a, l.b, l.c),
-    }
-}
-
-fn lent(f: Forest, l: Line) -> Called {
-    let k = l.call;
-    match k {
-        2 => opened(in_place::by_value::open(f, l.a)),
-        3 => searched(in_place::by_value::search(f, l.a, l.b, l.c)),
-        4 => peeked(in_place::by_value::peek(f, l.a, l.b, l.c, l.d)),
-        _ => asked(f, l.a, l.b, l.c),
-    }
-}
-
-pub(crate) fn call(f: Forest, l: Line, is_lent: bool) -> Called {
-    if is_lent {
-        return lent(f, l);
-    }
-    by_value(f, l)
+// As many calls as wait, handed over together.
+#[inline(never)]
+pub(crate) fn served(
+    f: &mut Forest,
+    waiting: u64,
+    calls: &[u64; NUMBERS],
+    replies: &mut [u64; NUMBERS],
+) {
+    *f = serve_calls(*f, waiting, calls, replies);
 }

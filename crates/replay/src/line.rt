@@ -216,6 +216,7 @@ fn digit(c: u8) -> u8 {
     16
 }
 
+#[inline(always)]
 fn lengthened(l: Line, c: u8) -> Line {
     if l.name >= 0x100000000000000 {
         return l;
@@ -261,6 +262,7 @@ fn appended(v: u64, d: u8) -> Decimal {
     }
 }
 
+#[inline(always)]
 fn valued(l: Line, d: u8) -> Line {
     let n = appended(l.value, d);
     if n.is {
@@ -299,6 +301,7 @@ fn kept(bytes: &mut [u8], l: Line, b: u8) -> Line {
 }
 
 // One more digit of a book's bytes.
+#[inline(always)]
 fn halved(bytes: &mut [u8], l: Line, d: u8) -> Line {
     if l.phase != 2 || !l.hex {
         return l;
@@ -312,6 +315,7 @@ fn halved(bytes: &mut [u8], l: Line, d: u8) -> Line {
     kept(bytes, l, joined(l.half, d))
 }
 
+#[inline(always)]
 fn written(bytes: &mut [u8], l: Line, c: u8) -> Line {
     if c == b' ' {
         return spaced(l);
@@ -322,7 +326,9 @@ fn written(bytes: &mut [u8], l: Line, c: u8) -> Line {
     halved(bytes, v, d)
 }
 
-// One more character, which is no newline.
+// One more character, which is no newline. It and what it calls for each are put into the loop that reads (`inline(always)`): as functions
+// of their own they take a line in and out by memory, and a call takes twice the time.
+#[inline(always)]
 pub(crate) fn add(bytes: &mut [u8], l: Line, c: u8) -> Line {
     let u = Line {
         empty: false,

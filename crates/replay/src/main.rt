@@ -20,13 +20,18 @@ mod words;
 
 use batch::calls::NUMBERS;
 use dump::{LONGEST_DUMP, dump};
-use forest::serve_calls::serve_calls;
+use forest::Forest;
 use forest::shown::show;
 use manner::Manner;
 use pen::Streams;
 use sizes::READ_AHEAD;
 use std::io::Stdin;
 use steps::Step;
+
+#[inline(never)]
+fn shown(to: Streams, forest: &Forest, room: &mut [u8]) -> usize {
+    dump(to, show(*forest), room)
+}
 
 // The forest stays here: what needs none is done by `steps::next`, which moves no forest. A proved loop has to end, and nothing says that
 // the input does. So the loop counts its turns down, from a number that no run uses up.
@@ -50,23 +55,19 @@ fn all(
         match step {
             Step::Book => {
                 let n = steps::least(m.line.bytes, bytes.len());
-                let made = calls::take_book(&bytes[..n], m.line.a, m.line.desk);
-                let making = made.making;
-                forest = made.forest;
+                let making = calls::take_book(&mut forest, &bytes[..n], m.line.a, m.line.desk);
                 m = steps::booked(to, out, m, making);
             }
             Step::Call => {
-                let called = calls::call(forest, m.line, m.manner.lent);
-                let reply = called.reply;
-                forest = called.forest;
+                let reply = calls::call(&mut forest, m.line, m.manner.lent);
                 m = steps::told(to, out, m, reply);
             }
             Step::Batch => {
-                forest = serve_calls(forest, m.waiting, &calls, &mut replies);
+                calls::served(&mut forest, m.waiting, &calls, &mut replies);
                 m = steps::served(to, out, m, &calls, &replies);
             }
             Step::Show => {
-                let n = dump(to, show(forest), room);
+                let n = shown(to, &forest, room);
                 m = steps::shown(to, out, m, room, n);
             }
             _ => m = steps::next(from, to, out, input, bytes, &mut calls, m),
