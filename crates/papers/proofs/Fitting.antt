@@ -1,7 +1,7 @@
 -- What a fit says (`fits_one`): an answer fits a positive literal just where its variant is 0 or lies from the want's low end to its high
 -- one. It is one law for the three kinds of want: any, one variant, and a range. Assumes nothing.
 use Prim.Native.Nat.{ℕ, ◌≤◌}
-use mathlib.Core.Bool.{Bool, true, false, false≢true, ◌||◌, ◌&&◌}
+use mathlib.Core.Bool.{Bool, true, false, false≢true, ◌||◌, ◌&&◌, or-true}
 use mathlib.Core.Path.{◌≡◌, refl, ap, ◌∙◌}
 use mathlib.Core.Logic.{◌⊎◌, inl, inr}
 use lib.Dec.{eqb, leb}
@@ -19,10 +19,6 @@ tested want v true above below e f g x = inl (eqb-true v 0 e)
 tested want v false true true e f g x = inr (leb-true (low want) v f, leb-true v (high want) g)
 tested want v false true false e f g x = absurd (false≢true x)
 tested want v false false below e f g x = absurd (false≢true x)
-
-or-true : (a : Bool) → (a || true) ≡ true
-or-true true = refl
-or-true false = refl
 
 module _ (goal : ℕ) (want : Want) (outsized : Bool) (v : ℕ) where
   fits_within : answer_fits (Positive goal want outsized) v ≡ true → Takes want v

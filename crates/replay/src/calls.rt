@@ -1,6 +1,6 @@
-// The calls of a script on the forest at hand: each by itself, by value or lent by `&mut`, or those that wait together. Each of these
-// functions stays by itself (`inline(never)`): where the compiler puts them into one, that one's part of the stack has a place for each
-// forest of each.
+// The calls of a script on the forest at hand: each by itself, by value or lent by `&mut`, or those that wait together. A function that
+// calls the library stays by itself (`inline(never)`): put into its caller, it adds its copies of the forest to the caller's part of the
+// stack.
 use crate::line::Line;
 use crate::words::Reply;
 use batch::calls::NUMBERS;

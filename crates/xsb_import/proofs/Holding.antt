@@ -2,7 +2,7 @@
 use Prim.Native.Nat.{ℕ, zero, suc, ◌-◌, ◌*◌, ◌≤◌, ◌<◌}
 use native.Mathlib.Omega.{arith}
 use mathlib.Core.Path.{◌≡◌, refl, sym, ap, subst, ◌∙◌}
-use mathlib.Core.Bool.{Bool, true, false, ◌||◌, false≢true}
+use mathlib.Core.Bool.{Bool, true, false, ◌||◌, or-false, false≢true}
 use mathlib.Core.List.{List, [], ◌∷◌, ◌++◌, map, append-nil, append_assoc}
 use lib.ListN.{length, length-append}
 use borrow.Author.Tests.{lt-ltb, ltb-true}
@@ -23,10 +23,6 @@ module _ {A B : Type 0} where
 module _ {A : Type 0} (test : A → Bool) where
   pub any_push : (l : List A) (a : A) → any_passes test (push l a) ≡ any_passes test l || test a
   any_push [] a = or-false (test a)
-    where
-      or-false : (b : Bool) → b || false ≡ b
-      or-false true = refl
-      or-false false = refl
   any_push (b ∷ l) a = on (test b) (any_push l a)
     where
       on : (c : Bool) → any_passes test (push l a) ≡ any_passes test l || test a

@@ -88,7 +88,7 @@ loop-left-preserved t c =
     let read : get_or ws c.wide-in-loop-left.result 0 ≡ wanted = ap (λ (x : ℕ). get_or ws x 0) c.wide-in-loop-left.ensures.0 in
     let left = cleared c.clear.result c.clear.new.next c.clear.new.tail c.clear.new.len in
     let said : clear ws wanted now ≡ left = sym (c.clear.ensures ∙ ap (λ (w : ℕ). clear ws w now) read) in
-    let on_some : wanted < 128 = lt_of_le_of_lt (le_of_eq (sym read)) c.if-waiting-ge128.false in
+    let on_table : wanted < 128 = lt_of_le_of_lt (le_of_eq (sym read)) c.if-waiting-ge128.false in
     let some : 0 < c.loop-left.left = c.loop-left-test.true in
     let none : left ≡ cleared false left.next left.tail left.len =
     ap (λ (b : Bool). cleared b left.next left.tail left.len) c.if-clear.false in
@@ -96,7 +96,7 @@ loop-left-preserved t c =
     le_trans (le_of_eq (ap live (sym said))) (clear_falls ws wanted now) in (
       ap₂ (λ (p : ℕ) (s : Cleared). clear_each ws (clear ws) (c.loop-left.left - 1) (get_or left.next p 0) s)
           c.wide-in-loop-left-2.ensures.0 (sym none)
-          ∙ sym (each_on ws (clear ws) c.loop-left.left c.loop-left.p now some on_some left said c.if-clear.false)
+          ∙ sym (each_on ws (clear ws) c.loop-left.left c.loop-left.p now some on_table left said c.if-clear.false)
           ∙ c.loop-left.invariant.0,
       le_trans fewer c.loop-left.invariant.1,
     )
