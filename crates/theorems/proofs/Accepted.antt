@@ -10,7 +10,9 @@ use lib.Seq.{get_or-take}
 use borrow.Author.Tests.{eq-eqb}
 use Rattle.laws.proofs.Lists.{get_d_past}
 use Rattle.papers.specs.Levels.{level_in, levels_at_desk, check_levels}
-use Rattle.papers.specs.Model.{Levelled}
+use Rattle.papers.specs.Model.{Plain, Levelled}
+use Rattle.definitions.specs.Book.{Book}
+use Rattle.definitions.specs.Desk.{desk}
 use Rattle.definitions.specs.Refusal.{accepted}
 use Rattle.definitions.proofs.Desk.{desk_reads}
 use Rattle.papers.proofs.Levels.{check_accepted}
@@ -32,19 +34,22 @@ level_there bytes p says g = on (dec_lt g p.goals)
         let x = length-take p.goals p.levels in
         get_d_past (take p.goals p.levels) g (omega (arith, says.whole, says.few)) ∙ sym (says.past g (omega arith))
 
-pub accepted_right : AcceptedTells
-accepted_right bytes p says z limit m made is book took =
+-- it is plain, and levelled by these levels
+accepted_levelled : (bytes : List ℕ) (p : Profile) → Profiles bytes p → p.number ≡ 0 → (book : Book) → desk bytes ≡ accepted book
+    → Plain book × Levelled book (level_in p.levels)
+accepted_levelled bytes p says z book took =
     let checked : check_levels bytes ≡ accepted (take p.goals p.levels) =
     sym says.means ∙ ap (λ b. profile_by b p) (eq-eqb p.number 0 z) in
     let a = check_accepted book (take p.goals p.levels) (sym (ap levels_at_desk took) ∙ checked) in
-    steps_right bytes limit m (inr made) is book (desk_reads bytes book took).0 (level_in p.levels) a.plain
-    (subst (Levelled book) (λ i g. level_there bytes p says g i) a.levelled)
+    (a.plain, subst (Levelled book) (λ i g. level_there bytes p says g i) a.levelled)
+
+pub accepted_right : AcceptedTells
+accepted_right bytes p says z limit m made is book took =
+    let fits = accepted_levelled bytes p says z book took in
+    steps_right bytes limit m (inr made) is book (desk_reads bytes book took).0 (level_in p.levels) fits.0 fits.1
 
 -- the same with the allowance
 pub accepted_tells_before : before.AcceptedTells
 accepted_tells_before bytes p says z limit m made is book took =
-    let checked : check_levels bytes ≡ accepted (take p.goals p.levels) =
-    sym says.means ∙ ap (λ b. profile_by b p) (eq-eqb p.number 0 z) in
-    let a = check_accepted book (take p.goals p.levels) (sym (ap levels_at_desk took) ∙ checked) in
-    demand_3 bytes limit m (inr made) is book (desk_reads bytes book took).0 (level_in p.levels) a.plain
-    (subst (Levelled book) (λ i g. level_there bytes p says g i) a.levelled)
+    let fits = accepted_levelled bytes p says z book took in
+    demand_3 bytes limit m (inr made) is book (desk_reads bytes book took).0 (level_in p.levels) fits.0 fits.1

@@ -1,5 +1,5 @@
--- Demand 3 of the code as it was first stated, with no allowance in the bound. It follows as `Demand3` of `Right` does (proofs/Before). And of
--- a paper that the check accepts, with the allowance (`Promises` says it without).
+-- Demand 3 of the code as it was first stated, with no allowance in the bound. It follows as `Demand3` of `Right` does (proofs/Before).
+-- And of a paper that the check accepts, with the allowance (`Promises` says it without).
 use Rattle.std.specs.Prelude.{ℕ, ◌+◌, ◌≤◌, false, List, ◌≡◌, length}
 use Rattle.definitions.specs.Book as books
 use Rattle.definitions.specs.Book.{clause_count}

@@ -144,8 +144,8 @@ abbrev pub AllTellNoAssert : List Told → Type 0
 AllTellNoAssert [] = Unit {0}
 AllTellNoAssert (t ∷ ts) = TellsNoAssert t × AllTellNoAssert ts
 
--- DEMAND 3 OF THE CODE with an allowance in the bound (`Promises` says it without): for every byte string and clock limit for which a forest
--- was made, through either entry, every levelling of its book and every sequence of steps
+-- DEMAND 3 OF THE CODE with an allowance in the bound (`Promises` says it without): for every byte string and clock limit for which a
+-- forest was made, through either entry, every levelling of its book and every sequence of steps
 abbrev pub Demand3 : Type 0
 Demand3 =
     (bytes : List ℕ) (clock_limit : ℕ) (m : Made) → EntrySays bytes clock_limit m → m.making ≡ makings.Made →
