@@ -24,21 +24,8 @@ module _ (mark count : ℕ) (floundered answer_len : List ℕ) (table index : �
   refusal_marked h = λ i. refusal_by (sym (lt-ltb 0 mark h) i) (leb count table) flag_read (ltb count_read index)
 
   module _ (unmarked : mark ≤ 0) where
-    pub refusal_missing : count ≤ table → 10 ≡ refusal_in mark count floundered answer_len table index
-    refusal_missing h = λ i. refusal_by (sym (le-ltb 0 mark unmarked) i) (sym (le-leb count table h) i) flag_read (ltb count_read index)
-
     -- the table's flag is read as b
     module _ (made : table < count) (b : Bool) (is : b ≡ flag_at (table % 256) floundered) where
       by_tests : (flag above : Bool) → b ≡ flag → ltb count_read index ≡ above → refusal_by false false flag above ≡ refusal
       by_tests flag above e h = λ i.
           refusal_by (sym (le-ltb 0 mark unmarked) i) (sym (lt-leb count table made) i) ((sym e ∙ is) i) (sym h i)
-
-      pub refusal_floundered : b ≡ true → 0 ≡ refusal_in mark count floundered answer_len table index
-      refusal_floundered e = by_tests true (ltb count_read index) e refl
-
-      module _ (e : b ≡ false) (n : ℕ) (read : n ≡ get_or answer_len (table % 256) 0) where
-        pub refusal_above : n < index → 11 ≡ refusal_in mark count floundered answer_len table index
-        refusal_above h = by_tests false true e (lt-ltb count_read index (omega arith))
-
-        pub refusal_nothing : index ≤ n → 0 ≡ refusal_in mark count floundered answer_len table index
-        refusal_nothing h = by_tests false false e (le-ltb count_read index (omega arith))

@@ -39,24 +39,10 @@ pub found_none : (test : ℕ → Bool) → ((q : ℕ) → test q ≡ false) → 
 found_none test never [] = refl
 found_none test never (q ∷ l) = ap (λ (b : Bool). ltb (found_or b q (found_in test l)) 256) (never q) ∙ found_none test never l
 
--- of `from_index`
-module _ (index : ℕ) where
-  pub from_far : 256 < index → 256 ≡ from_index (ltb 256 index) index
-  from_far h = ap (λ (b : Bool). from_index b index) (sym (lt-ltb 256 index h))
-
-  pub from_near : index ≤ 256 → index ≡ from_index (ltb 256 index) index
-  from_near h = ap (λ (b : Bool). from_index b index) (sym (le-ltb 256 index h))
-
 -- of `strands_of`: the goal's flag is read as b
 module _ (flags len : List ℕ) (g : ℕ) (b : Bool) (is : b ≡ bit1 (entry 64 flags g)) where
   abbrev strands_for : Bool → ℕ
   strands_for x = strands_by x (entry 64 len g)
-
-  pub strands_none : b ≡ true → 0 ≡ strands_by (bit1 (entry 64 flags g)) (entry 64 len g)
-  strands_none e = ap strands_for (sym e ∙ is)
-
-  pub strands_each : b ≡ false → (n : ℕ) → n ≡ entry 64 len g → n ≡ strands_by (bit1 (entry 64 flags g)) (entry 64 len g)
-  strands_each e n read = read ∙ ap strands_for (sym e ∙ is)
 
 module _ (s : Serving) (w : Lent) (replies : List ℕ) where
   -- all that is lent, with the numbers of the course
@@ -75,77 +61,8 @@ module _ (s : Serving) (w : Lent) (replies : List ℕ) where
       abbrev opened_by : (marked missing there full : Bool) → (t : ℕ) → Stage
       opened_by marked missing there full k = open_by b marked missing there full k (goal % 256) s held replies
 
-      opens_as : (marked missing there full : Bool) → ltb 0 s.course.mark ≡ marked → leb b.goals goal ≡ missing
-          → ltb t s.course.count ≡ there → ltb 256 (live_with b (goal % 256) held) ≡ full
-          → opened_by marked missing there full t ≡ opens b goal v
-      opens_as marked missing there full e1 e2 e3 e4 =
-          (λ i. opened_by (sym e1 i) (sym e2 i) (sym e3 i) (sym e4 i) t)
-          ∙ ap (λ (k : ℕ). opened_by (ltb 0 s.course.mark) (leb b.goals goal) (ltb k s.course.count)
-          (ltb 256 (live_with b (goal % 256) held)) k) is
-
     abbrev first : ℕ
     first = table_of b (goal % 256) held
-
-    pub opens_marked : 0 < s.course.mark → (r : Serving) → r ≡ said_at_once (saying.Refused 20) s
-        → stage r w replies ≡ opens b goal (stage s w replies)
-    opens_marked h r er = ap left er ∙ opens_as first refl true _ _ _ (lt-ltb 0 s.course.mark h) refl refl refl
-
-    module _ (unmarked : s.course.mark ≤ 0) where
-      not_marked : ltb 0 s.course.mark ≡ false
-      not_marked = le-ltb 0 s.course.mark unmarked
-
-      pub opens_missing : b.goals ≤ goal → (r : Serving) → r ≡ said_at_once (saying.Refused 9) s
-          → stage r w replies ≡ opens b goal (stage s w replies)
-      opens_missing h r er = ap left er ∙ opens_as first refl false true _ _ not_marked (le-leb b.goals goal h) refl refl
-
-      module _ (named : goal < b.goals) (t : ℕ)
-          (is : t ≡ first_at (λ i. eqb (get_or w.tables.goal i 0) (goal % 256)) 0 (within s.course.count)) where
-        opens_named : (there full : Bool) → ltb t s.course.count ≡ there → ltb 256 (live_with b (goal % 256) held) ≡ full
-            → open_by b false false there full t (goal % 256) s held replies ≡ opens b goal v
-        opens_named there full e3 e4 = opens_as t is false false there full not_marked (lt-leb b.goals goal named) e3 e4
-
-        pub opens_found : t < s.course.count → (r : Serving) → r ≡ said_at_once (saying.Table t) s
-            → stage r w replies ≡ opens b goal (stage s w replies)
-        opens_found h r er = ap left er ∙ opens_named true _ (lt-ltb t s.course.count h) refl
-
-        -- it has none: so many strands are live, and so many would be fresh
-        module _ (past : s.course.count ≤ t) (live : ℕ) (lives : live ≡ s.course.used - get_or w.strands.places.len free 0)
-            (fresh : ℕ)
-            (begin : fresh ≡ strands_by (bit1 (entry 64 b.goal_flags (goal % 256))) (entry 64 b.goal_len (goal % 256)))
-            (full : Bool) (test : full ≡ ltb 256 (live + fresh)) where
-          opens_new : (x : Bool) → full ≡ x → open_by b false false false x t (goal % 256) s held replies ≡ opens b goal v
-          opens_new x e =
-              opens_named false x (le-ltb t s.course.count past)
-              (ap₂ (λ (m n : ℕ). ltb 256 (m + n)) (sym lives) (sym begin) ∙ sym test ∙ e)
-
-          pub opens_full : full ≡ true → (r : Serving)
-              → r ≡ came_to (saying.Stopped 22) (over_with 22 s.course.count s.course.used s.course) s
-              → stage r w replies ≡ opens b goal (stage s w replies)
-          opens_full e r er = ap left er ∙ opens_new true e
-
-          pub opens_made : full ≡ false
-              → opened_with b (tables_made b (goal % 256) (numbered s.course w)) s w replies ≡ opens b goal (stage s w replies)
-          opens_made e = opens_new false e
-
-  -- A SEARCH OR A PEEK BEGINS: its course, and the root's entry in each array of the stack
-  module _ (said : Said) (asked : Asked) (index more : ℕ) where
-    abbrev begun_as : Course → (table clock positive negative active : List ℕ) → Stage
-    begun_as c tables clocks positives negatives actives =
-        stage (record { at = s.at; busy = true; said = said; asked = asked; course = c })
-        (lent_of w.tables w.strands w.answers (stack_of 0 tables clocks positives negatives actives) w.clock) replies
-
-    pub begins_so : (c : Course) → c ≡ started asked w (first_course index more s.course)
-        → (tables clocks positives negatives actives : List ℕ)
-        → tables ≡ written_at 0 asked.table w.stack.table → clocks ≡ written_at 0 c.clock w.stack.clock
-        → positives ≡ written_at 0 MAX w.stack.positive → negatives ≡ written_at 0 MAX w.stack.negative
-        → actives ≡ written_at 0 256 w.stack.active
-        → stage (record { at = s.at; busy = true; said = said; asked = asked; course = c })
-        (lent_of w.tables w.strands w.answers (stack_of 0 tables clocks positives negatives actives) w.clock) replies
-        ≡ begins said asked index more (stage s w replies)
-    begins_so c is tables clocks positives negatives actives e1 e2 e3 e4 e5 =
-        (λ i. begun_as c (e1 i) (e2 i) (e3 i) (e4 i) (e5 i))
-        ∙ ap (λ (d : Course). begun_as d (written_at 0 asked.table w.stack.table) (written_at 0 d.clock w.stack.clock)
-        (written_at 0 MAX w.stack.positive) (written_at 0 MAX w.stack.negative) (written_at 0 256 w.stack.active)) is
 
   -- n refuses it before its limits are looked at, where it is not 0
   module _ (clock_limit table index n : ℕ) (read : n ≡ refusal_at table index (stage s w replies)) where
@@ -157,15 +74,7 @@ module _ (s : Serving) (w : Lent) (replies : List ℕ) where
           (λ i. search_by (sym e1 i) (sym e2 i) n clock_limit table index limit v)
           ∙ ap (λ (k : ℕ). search_by (ltb 0 k) (eqb limit 0) k clock_limit table index limit v) read
 
-      pub searches_refused : 0 < n → (r : Serving) → r ≡ said_at_once (saying.Refused n) s
-          → stage r w replies ≡ searches clock_limit table index limit (stage s w replies)
-      searches_refused h r er = ap left er ∙ searches_as true _ (lt-ltb 0 n h) refl
-
       module _ (passed : n ≤ 0) where
-        pub searches_none : limit ≡ 0 → (r : Serving) → r ≡ said_at_once (saying.Refused 12) s
-            → stage r w replies ≡ searches clock_limit table index limit (stage s w replies)
-        searches_none e r er = ap left er ∙ searches_as false true (le-ltb 0 n passed) (eq-eqb limit 0 e)
-
         pub searches_begun : (limit ≡ 0 → ⊥)
             → begins saying.Searched (asked_for modes.Search table limit clock_limit) index 0 (stage s w replies)
             ≡ searches clock_limit table index limit (stage s w replies)
@@ -179,20 +88,8 @@ module _ (s : Serving) (w : Lent) (replies : List ℕ) where
           (λ i. peek_by (sym e1 i) (sym e2 i) (sym e3 i) n clock_limit table index rounds limit v)
           ∙ ap (λ (k : ℕ). peek_by (ltb 0 k) (eqb rounds 0) (eqb limit 0) k clock_limit table index rounds limit v) read
 
-      pub peeks_refused : 0 < n → (r : Serving) → r ≡ said_at_once (saying.Refused n) s
-          → stage r w replies ≡ peeks clock_limit table index rounds limit (stage s w replies)
-      peeks_refused h r er = ap left er ∙ peeks_as true _ _ (lt-ltb 0 n h) refl refl
-
       module _ (passed : n ≤ 0) where
-        pub peeks_roundless : rounds ≡ 0 → (r : Serving) → r ≡ said_at_once (saying.Refused 12) s
-            → stage r w replies ≡ peeks clock_limit table index rounds limit (stage s w replies)
-        peeks_roundless e r er = ap left er ∙ peeks_as false true _ (le-ltb 0 n passed) (eq-eqb rounds 0 e) refl
-
         module _ (some : rounds ≡ 0 → ⊥) where
-          pub peeks_none : limit ≡ 0 → (r : Serving) → r ≡ said_at_once (saying.Refused 12) s
-              → stage r w replies ≡ peeks clock_limit table index rounds limit (stage s w replies)
-          peeks_none e r er = ap left er ∙ peeks_as false false true (le-ltb 0 n passed) (ne_eqb rounds 0 some) (eq-eqb limit 0 e)
-
           pub peeks_begun : (limit ≡ 0 → ⊥)
               → begins saying.Peeked (asked_for modes.Peek table limit clock_limit) index (rounds - 1) (stage s w replies)
               ≡ peeks clock_limit table index rounds limit (stage s w replies)
@@ -211,10 +108,6 @@ module _ (s : Serving) (w : Lent) (replies : List ℕ) where
         → r ≡ said_at_once (future_by missing stored queued) s → left r ≡ asks_future table index variant v
     comes_as missing stored queued e1 e2 e3 r er =
         ap left er ∙ (λ i. left (said_at_once (future_by (sym e1 i) (sym e2 i) (sym e3 i)) s))
-
-    pub comes_missing : s.course.count ≤ table → (r : Serving) → r ≡ said_at_once (saying.Refused 10) s
-        → stage r w replies ≡ asks_future table index variant (stage s w replies)
-    comes_missing h r er = comes_as true _ _ (le-leb s.course.count table h) refl refl r er
 
     module _ (made : table < s.course.count) where
       made_test : leb s.course.count table ≡ false
@@ -241,27 +134,8 @@ module _ (s : Serving) (w : Lent) (replies : List ℕ) where
         same_variant : variant % 65536 ≡ variant
         same_variant = mod-eq_of_lt (omega arith)
 
-        comes_stored_as : (x queued : Bool) → stored ≡ x → queue_has variant ≡ queued → (r : Serving)
-            → r ≡ said_at_once (future_by false x queued) s → left r ≡ asks_future table index variant v
-        comes_stored_as x queued e =
-            comes_as false x queued made_test (sym (ap₂ stored_in is_from same_variant) ∙ sym is ∙ e)
-
-        pub comes_stored : stored ≡ true → (r : Serving) → r ≡ said_at_once (saying.Future true) s
-            → stage r w replies ≡ asks_future table index variant (stage s w replies)
-        comes_stored e r er = comes_stored_as true _ e refl r er
-
-        pub comes_queued : stored ≡ false → (queued : Bool) → queued ≡ queued_in (table % 256) (variant % 65536) w → (r : Serving)
-            → r ≡ said_at_once (saying.Future queued) s → stage r w replies ≡ asks_future table index variant (stage s w replies)
-        comes_queued e queued eq r er = comes_stored_as false queued e (sym (ap queue_has same_variant) ∙ sym eq) r er
-
   -- ONE OR THE OTHER
   module _ (b : Book) (clock_limit : ℕ) (calls : List ℕ) where
-    pub serves_told : s.busy ≡ true → (r : Serving) → r ≡ next_call s → (l : List ℕ)
-        → l ≡ reply_put s.at (reply_of s.said s.course) replies
-        → stage r w l ≡ served b clock_limit calls (stage s w replies)
-    serves_told e r er l el =
-        (λ i. stage (er i) w (el i)) ∙ ap (λ (x : Bool). served_by b clock_limit calls x v) (sym e)
-
     -- the call at hand is k
     module _ (idle : s.busy ≡ false) (k : Call) (is : k ≡ call_at calls s.at) where
       serves_as : (opening search peek : Bool) → eqb k.kind 0 ≡ opening → eqb k.kind 1 ≡ search → eqb k.kind 2 ≡ peek

@@ -96,49 +96,32 @@ fn future_word(any: bool) -> u64
     if any { 12 } else { 11 }
 }
 
-fn wide_variant(variant: u16) -> u64
-    ensures { result ≡ variant }
-{
-    variant as u64
-}
-
-fn wide_number(n: u8) -> u64
-    ensures { result ≡ n }
-{
-    n as u64
-}
-
 fn ending_reply(ending: Ending) -> Reply
     ensures { result ≡ reply (word_of ending) (value_of ending) 0 0 0 }
 {
     match ending {
-        Ending::Found(variant, ambiguous) => plain_reply(
-            found_word(ambiguous),
-            wide_variant(variant),
-        ),
+        Ending::Found(variant, ambiguous) => plain_reply(found_word(ambiguous), u64::from(variant)),
         Ending::NoMoreSolutions => plain_reply(5, 0),
         Ending::Floundered => plain_reply(6, 0),
         Ending::QuantumExceeded => plain_reply(7, 0),
         Ending::NegativeCycle => plain_reply(8, 0),
         Ending::InvalidAnswer => plain_reply(9, 0),
         Ending::Cut => plain_reply(10, 0),
-        Ending::Stopped(n) => plain_reply(2, wide_number(n)),
+        Ending::Stopped(n) => plain_reply(2, u64::from(n)),
     }
 }
 
 fn searched(c: Course) -> Reply
     ensures { result ≡ reply (word_of c.ending) (value_of c.ending) 0 c.done 0 }
 {
-    let ending = c.ending;
-    let r = ending_reply(ending);
+    let r = ending_reply(c.ending);
     Reply { turns: c.done, ..r }
 }
 
 fn peeked(c: Course) -> Reply
     ensures { result ≡ reply (word_of c.ending) (value_of c.ending) c.index c.done c.exceeded }
 {
-    let ending = c.ending;
-    let r = ending_reply(ending);
+    let r = ending_reply(c.ending);
     Reply {
         index: c.index,
         turns: c.done,
@@ -152,9 +135,9 @@ pub fn reply_of(said: Said, c: Course) -> Reply
     ensures { result ≡ reply_of said c }
 {
     match said {
-        Said::Refused(n) => plain_reply(0, wide_number(n)),
+        Said::Refused(n) => plain_reply(0, u64::from(n)),
         Said::Table(t) => plain_reply(1, t),
-        Said::Stopped(n) => plain_reply(2, wide_number(n)),
+        Said::Stopped(n) => plain_reply(2, u64::from(n)),
         Said::Future(any) => plain_reply(future_word(any), 0),
         Said::Searched => searched(c),
         Said::Peeked => peeked(c),

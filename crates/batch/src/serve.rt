@@ -1,36 +1,27 @@
 // A call is begun, or what it came to is told.
-ghost use Rattle.std.specs.Prelude.{◌≡◌, List, ℕ, ◌+◌, ◌<◌, ltb, get_or};
+ghost use Rattle.std.specs.Prelude.{◌≡◌, ◌+◌, ◌<◌, ℕ, List, ltb, get_or};
 ghost use Rattle.definitions.specs.Book.{bit1};
 ghost use Rattle.book.specs.Access.{entry};
-ghost use Rattle.strands.specs.declared.Answer.{Answer};
-ghost use Rattle.strands.specs.declared.Strand.{Strand};
-ghost use Rattle.stores.specs.declared.queue.Strands.{Strands};
 ghost use Rattle.stores.specs.declared.stack.Stack.{Stack};
-ghost use Rattle.stores.specs.declared.table.Answers.{Answers};
-ghost use Rattle.stores.specs.Places.{places};
-ghost use Rattle.stores.specs.Queue.{store};
-ghost use Rattle.control.specs.MakeTables.{tables_of};
-ghost use Rattle.control.specs.PerformDeed.{stack_of, answers_of};
-ghost use Rattle.control.specs.PerformStrand.{lent_of};
 ghost use Rattle.control.specs.SelectSubgoal.{strands_by};
-ghost use Rattle.search.specs.Walk.{book_of};
-ghost use Rattle.batch.specs.Serve.{stage, over_with, came_to, said_at_once, from_index, opens, searches, peeks, begins, asks_future};
+ghost use Rattle.search.specs.Walk.{standing};
 ghost use Rattle.batch.specs.declared.calls.Said.TheVariants as saying;
-ghost use Rattle.batch.specs.Serve.{next_call, served};
 ghost use Rattle.batch.specs.Calls.{reply_of, reply_put};
+ghost use Rattle.batch.specs.Serve.{stage, over_with, came_to, said_at_once, opens, begins, searches, peeks, from_index, asks_future, next_call, served};
 
 use crate::calls::{Call, NUMBERS, Said, Serving, call_at, put_reply, reply_of};
 use crate::refusal::refusal;
-use book::access::{goal_number, is_floundered};
+use book::Book;
+use book::access::goal_number;
 use control::make_tables::make_tables;
 use control::performed::Flow;
 use control::select_subgoal::Made;
 use search::course::{Asked, Course, Ending, Mode};
 use search::root_answer::{one_more, start};
-use sizes::{MOST_CLAUSES, MOST_ENTRIES, MOST_GOALS, MOST_TABLES, PLACES};
+use stores::Stores;
 use stores::places::in_use;
 use stores::queue::any_strand;
-use stores::stack::push_entry;
+use stores::stack::{Stack, push_entry};
 use stores::table::any_answer;
 use stores::tables::index_of;
 use strands::times::TimeStamp;
@@ -39,8 +30,10 @@ use strands::times::TimeStamp;
 fn at_once(s: Serving, said: Said) -> Serving
     ensures { result ≡ said_at_once said s }
 {
-    let was = s.course;
-    let course = Course { over: true, ..was };
+    let course = Course {
+        over: true,
+        ..s.course
+    };
     Serving {
         busy: true,
         said,
@@ -50,13 +43,14 @@ fn at_once(s: Serving, said: Said) -> Serving
 }
 
 // How many strands a table of the goal begins with: a floundered one has none.
-fn strands_of<'a>(goal_flags: &'a [u8; MOST_GOALS], goal_len: &'a [u16; MOST_GOALS], g: u8) -> u16
-    ensures { result ≡ strands_by (bit1 (entry 64 goal_flags.now g)) (entry 64 goal_len.now g) }
+fn strands_of(book: &Book, goal: usize) -> u16
+    ensures { result ≡ strands_by (bit1 (entry 64 book.now.goal_flags goal)) (entry 64 book.now.goal_len goal) }
 {
-    if is_floundered(goal_flags, g as usize) {
-        return 0;
+    if book.is_floundered(goal) {
+        0
+    } else {
+        goal_number(&book.goal_len, goal)
     }
-    goal_number(goal_len, g as usize)
 }
 
 // More than 256 strands would be live.
@@ -70,11 +64,10 @@ fn too_many(live: u16, more: u16) -> bool
 fn full(s: Serving) -> Serving
     ensures { result ≡ came_to (saying.Stopped 22) (over_with 22 s.course.count s.course.used s.course) s }
 {
-    let was = s.course;
     let course = Course {
         over: true,
         mark: 22,
-        ..was
+        ..s.course
     };
     Serving {
         busy: true,
@@ -85,55 +78,24 @@ fn full(s: Serving) -> Serving
 }
 
 // An open, refused with 20 and 9 in this order; it stops with 22 where the table's strands have no room.
-pub fn serve_open<'a>(
-    s: Serving,
-    goals: usize,
-    goal_asked: u64,
-    goal: &mut [u8; MOST_TABLES],
-    coinductive: &mut [u8; MOST_TABLES],
-    floundered: &mut [u8; MOST_TABLES],
-    complete: &mut [u8; MOST_TABLES],
-    next: &mut [u8; PLACES],
-    tail: &mut [u8; PLACES],
-    len: &mut [u16; PLACES],
-    time: &mut [u64; PLACES],
-    ambiguous: &mut [u8; PLACES],
-    variant: &mut [u16; PLACES],
-    waits: &mut [u8; PLACES],
-    wants: &mut [u16; PLACES],
-    goal_flags: &'a [u8; MOST_GOALS],
-    goal_first: &'a [u16; MOST_GOALS],
-    goal_len: &'a [u16; MOST_GOALS],
-    clause_variant: &'a [u16; MOST_CLAUSES],
-    clause_flags: &'a [u8; MOST_CLAUSES],
-) -> Serving
-    ensures { (clauses : ℕ) (clause_len literal_kind literal_goal literal_want : List ℕ) (strands : List Strand) (answers : Answers)
-        (stack : Stack) (clock : ℕ) (replies : List ℕ)
-        → stage result (lent_of (tables_of result.course.count goal.new coinductive.new floundered.new complete.new)
-        (store strands time.new ambiguous.new variant.new waits.new wants.new
-        (places next.new tail.new len.new result.course.used))
-        answers stack clock) replies
-        ≡ opens (book_of goals clauses goal_flags.now goal_first.now goal_len.now
-        clause_variant.now clause_flags.now clause_len literal_kind literal_goal literal_want) goal_asked
-        (stage s (lent_of (tables_of s.course.count goal.old coinductive.old floundered.old complete.old)
-        (store strands time.old ambiguous.old variant.old waits.old wants.old
-        (places next.old tail.old len.old s.course.used))
-        answers stack clock) replies) }
+pub fn serve_open(s: Serving, book: &Book, stores: &mut Stores, goal_asked: u64) -> Serving
+    ensures { (stack : Stack) (clock : ℕ) (replies : List ℕ) → stage result (standing stores.new stack clock) replies
+        ≡ opens book.now goal_asked (stage s (standing stores.old stack clock) replies) }
 {
     let c = s.course;
     if c.mark > 0 {
         return at_once(s, Said::Refused(20));
     }
-    if goal_asked >= goals as u64 {
+    if goal_asked >= book.goals as u64 {
         return at_once(s, Said::Refused(9));
     }
     let g = (goal_asked % 256) as u8;
-    let t = index_of(goal, c.count, g);
+    let t = index_of(&stores.tables.goal, c.count, g);
     if t < c.count {
         return at_once(s, Said::Table(t as u64));
     }
-    let live = in_use(len, c.used);
-    let more = strands_of(goal_flags, goal_len, g);
+    let live = in_use(&stores.strands.places.len, c.used);
+    let more = strands_of(book, g as usize);
     if too_many(live, more) {
         return full(s);
     }
@@ -142,25 +104,27 @@ pub fn serve_open<'a>(
         count: 1,
         goals: [g, 0, 0, 0, 0, 0, 0, 0],
     };
+    let tables = &mut stores.tables;
+    let strands = &mut stores.strands;
     let count = make_tables(
-        goal,
-        coinductive,
-        floundered,
-        complete,
-        next,
-        tail,
-        len,
+        &mut tables.goal,
+        &mut tables.coinductive,
+        &mut tables.floundered,
+        &mut tables.complete,
+        &mut strands.places.next,
+        &mut strands.places.tail,
+        &mut strands.places.len,
         &mut used,
-        time,
-        ambiguous,
-        variant,
-        waits,
-        wants,
-        goal_flags,
-        goal_first,
-        goal_len,
-        clause_variant,
-        clause_flags,
+        &mut strands.time,
+        &mut strands.ambiguous,
+        &mut strands.variant,
+        &mut strands.waits,
+        &mut strands.wants,
+        &book.goal_flags,
+        &book.goal_first,
+        &book.goal_len,
+        &book.clause_variant,
+        &book.clause_flags,
         c.count,
         made,
     );
@@ -179,38 +143,18 @@ pub fn serve_open<'a>(
 }
 
 // A search or a peek that is not refused: its first search is started, and the root's entry is written whether it runs or not.
-fn begin<'a>(
+fn begin(
     s: Serving,
     said: Said,
     asked: Asked,
     index: u64,
     more: u64,
-    floundered: &'a [u8; MOST_TABLES],
-    answer_next: &'a [u8; PLACES],
-    answer_tail: &'a [u8; PLACES],
-    answer_len: &'a [u16; PLACES],
-    answer_variant: &'a [u16; PLACES],
-    answer_key: &'a [u64; PLACES],
-    answer_ambiguous: &'a [u8; PLACES],
-    entry_table: &mut [u8; MOST_ENTRIES],
-    entry_clock: &mut [u64; MOST_ENTRIES],
-    positive: &mut [u64; MOST_ENTRIES],
-    negative: &mut [u64; MOST_ENTRIES],
-    active: &mut [u16; MOST_ENTRIES],
+    stores: &Stores,
+    stack: &mut Stack,
 ) -> Serving
-    ensures { (goals coinductives modes : List ℕ) (strands : Strands) (answers : List Answer) (clock : ℕ) (replies : List ℕ)
-        → stage result (lent_of (tables_of result.course.count goals coinductives floundered.now modes) strands
-        (answers_of answers answer_variant.now answer_key.now answer_ambiguous.now
-        (places answer_next.now answer_tail.now answer_len.now result.course.answer_used))
-        (stack_of result.course.depth entry_table.new entry_clock.new positive.new negative.new
-        active.new) clock) replies
-        ≡ begins said asked index more
-        (stage s (lent_of (tables_of s.course.count goals coinductives floundered.now modes) strands
-        (answers_of answers answer_variant.now answer_key.now answer_ambiguous.now
-        (places answer_next.now answer_tail.now answer_len.now s.course.answer_used))
-        (stack_of s.course.depth entry_table.old entry_clock.old positive.old negative.old active.old) clock) replies) }
+    ensures { (clock : ℕ) (replies : List ℕ) → stage result (standing stores.now stack.new clock) replies
+        ≡ begins said asked index more (stage s (standing stores.now stack.old clock) replies) }
 {
-    let was = s.course;
     let first = Course {
         over: false,
         ending: Ending::Cut,
@@ -220,25 +164,15 @@ fn begin<'a>(
         exceeded: 0,
         done: 0,
         depth: 0,
-        ..was
+        ..s.course
     };
-    let course = start(
-        asked,
-        first,
-        floundered,
-        answer_next,
-        answer_tail,
-        answer_len,
-        answer_variant,
-        answer_key,
-        answer_ambiguous,
-    );
+    let course = start(asked, first, stores);
     push_entry(
-        entry_table,
-        entry_clock,
-        positive,
-        negative,
-        active,
+        &mut stack.table,
+        &mut stack.clock,
+        &mut stack.positive,
+        &mut stack.negative,
+        &mut stack.active,
         0,
         asked.table,
         course.clock,
@@ -254,37 +188,17 @@ fn begin<'a>(
 }
 
 // A search, refused with 20, 10, 11 and 12 in this order.
-fn serve_search<'a>(
+fn serve_search(
     s: Serving,
     clock_limit: u64,
     call: Call,
-    floundered: &'a [u8; MOST_TABLES],
-    answer_next: &'a [u8; PLACES],
-    answer_tail: &'a [u8; PLACES],
-    answer_len: &'a [u16; PLACES],
-    answer_variant: &'a [u16; PLACES],
-    answer_key: &'a [u64; PLACES],
-    answer_ambiguous: &'a [u8; PLACES],
-    entry_table: &mut [u8; MOST_ENTRIES],
-    entry_clock: &mut [u64; MOST_ENTRIES],
-    positive: &mut [u64; MOST_ENTRIES],
-    negative: &mut [u64; MOST_ENTRIES],
-    active: &mut [u16; MOST_ENTRIES],
+    stores: &Stores,
+    stack: &mut Stack,
 ) -> Serving
-    ensures { (goals coinductives modes : List ℕ) (strands : Strands) (answers : List Answer) (clock : ℕ) (replies : List ℕ)
-        → stage result (lent_of (tables_of result.course.count goals coinductives floundered.now modes) strands
-        (answers_of answers answer_variant.now answer_key.now answer_ambiguous.now
-        (places answer_next.now answer_tail.now answer_len.now result.course.answer_used))
-        (stack_of result.course.depth entry_table.new entry_clock.new positive.new negative.new
-        active.new) clock) replies
-        ≡ searches clock_limit call.a call.b call.c
-        (stage s (lent_of (tables_of s.course.count goals coinductives floundered.now modes) strands
-        (answers_of answers answer_variant.now answer_key.now answer_ambiguous.now
-        (places answer_next.now answer_tail.now answer_len.now s.course.answer_used))
-        (stack_of s.course.depth entry_table.old entry_clock.old positive.old negative.old active.old) clock) replies) }
+    ensures { (clock : ℕ) (replies : List ℕ) → stage result (standing stores.now stack.new clock) replies
+        ≡ searches clock_limit call.a call.b call.c (stage s (standing stores.now stack.old clock) replies) }
 {
-    let c = s.course;
-    let n = refusal(c.mark, c.count, floundered, answer_len, call.a, call.b);
+    let n = refusal(s.course, stores, call.a, call.b);
     if n > 0 {
         return at_once(s, Said::Refused(n));
     }
@@ -297,66 +211,25 @@ fn serve_search<'a>(
         limit: call.c,
         clock_limit,
     };
-    begin(
-        s,
-        Said::Searched,
-        asked,
-        call.b,
-        0,
-        floundered,
-        answer_next,
-        answer_tail,
-        answer_len,
-        answer_variant,
-        answer_key,
-        answer_ambiguous,
-        entry_table,
-        entry_clock,
-        positive,
-        negative,
-        active,
-    )
+    begin(s, Said::Searched, asked, call.b, 0, stores, stack)
 }
 
 // A peek, refused in the same order.
-fn serve_peek<'a>(
+fn serve_peek(
     s: Serving,
     clock_limit: u64,
     call: Call,
-    floundered: &'a [u8; MOST_TABLES],
-    answer_next: &'a [u8; PLACES],
-    answer_tail: &'a [u8; PLACES],
-    answer_len: &'a [u16; PLACES],
-    answer_variant: &'a [u16; PLACES],
-    answer_key: &'a [u64; PLACES],
-    answer_ambiguous: &'a [u8; PLACES],
-    entry_table: &mut [u8; MOST_ENTRIES],
-    entry_clock: &mut [u64; MOST_ENTRIES],
-    positive: &mut [u64; MOST_ENTRIES],
-    negative: &mut [u64; MOST_ENTRIES],
-    active: &mut [u16; MOST_ENTRIES],
+    stores: &Stores,
+    stack: &mut Stack,
 ) -> Serving
-    ensures { (goals coinductives modes : List ℕ) (strands : Strands) (answers : List Answer) (clock : ℕ) (replies : List ℕ)
-        → stage result (lent_of (tables_of result.course.count goals coinductives floundered.now modes) strands
-        (answers_of answers answer_variant.now answer_key.now answer_ambiguous.now
-        (places answer_next.now answer_tail.now answer_len.now result.course.answer_used))
-        (stack_of result.course.depth entry_table.new entry_clock.new positive.new negative.new
-        active.new) clock) replies
-        ≡ peeks clock_limit call.a call.b call.c call.d
-        (stage s (lent_of (tables_of s.course.count goals coinductives floundered.now modes) strands
-        (answers_of answers answer_variant.now answer_key.now answer_ambiguous.now
-        (places answer_next.now answer_tail.now answer_len.now s.course.answer_used))
-        (stack_of s.course.depth entry_table.old entry_clock.old positive.old negative.old active.old) clock) replies) }
+    ensures { (clock : ℕ) (replies : List ℕ) → stage result (standing stores.now stack.new clock) replies
+        ≡ peeks clock_limit call.a call.b call.c call.d (stage s (standing stores.now stack.old clock) replies) }
 {
-    let c = s.course;
-    let n = refusal(c.mark, c.count, floundered, answer_len, call.a, call.b);
+    let n = refusal(s.course, stores, call.a, call.b);
     if n > 0 {
         return at_once(s, Said::Refused(n));
     }
-    if call.c == 0 {
-        return at_once(s, Said::Refused(12));
-    }
-    if call.d == 0 {
+    if call.c == 0 || call.d == 0 {
         return at_once(s, Said::Refused(12));
     }
     let asked = Asked {
@@ -365,25 +238,7 @@ fn serve_peek<'a>(
         limit: call.d,
         clock_limit,
     };
-    begin(
-        s,
-        Said::Peeked,
-        asked,
-        call.b,
-        call.c - 1,
-        floundered,
-        answer_next,
-        answer_tail,
-        answer_len,
-        answer_variant,
-        answer_key,
-        answer_ambiguous,
-        entry_table,
-        entry_clock,
-        positive,
-        negative,
-        active,
-    )
+    begin(s, Said::Peeked, asked, call.b, call.c - 1, stores, stack)
 }
 
 // The index, or 256, which no answer has.
@@ -396,71 +251,54 @@ fn from_index(index: u64) -> usize
     index as usize
 }
 
-fn nothing() {}
-
-// Numbers of 16 bits are below 65536: a proof learns it of a lent array by handing it on as a slice.
-fn all_small(numbers: &[u16])
+// Numbers of 16 bits are below 65536: a proof learns it of an array in a struct by handing it on as a slice.
+pub fn all_small(numbers: &[u16])
     ensures { (q : ℕ) → get_or numbers.now q 0 < 65536 }
 {
-    nothing()
+    let _ = numbers;
 }
 
 // `any_future_answer`, refused with 10 alone.
-fn serve_future<'a>(
-    s: Serving,
-    call: Call,
-    next: &'a [u8; PLACES],
-    tail: &'a [u8; PLACES],
-    len: &'a [u16; PLACES],
-    time: &'a [u64; PLACES],
-    variant: &'a [u16; PLACES],
-    answer_next: &'a [u8; PLACES],
-    answer_tail: &'a [u8; PLACES],
-    answer_len: &'a [u16; PLACES],
-    answer_variant: &'a [u16; PLACES],
-    answer_key: &'a [u64; PLACES],
-) -> Serving
-    ensures { (goals coinductives flounderings modes : List ℕ) (strands : List Strand) (flags waiting wanted : List ℕ)
-        (answers : List Answer) (ambiguities : List ℕ) (stack : Stack) (clock : ℕ) (replies : List ℕ)
-        → stage result (lent_of (tables_of result.course.count goals coinductives flounderings modes)
-        (store strands time.now flags variant.now waiting wanted
-        (places next.now tail.now len.now result.course.used))
-        (answers_of answers answer_variant.now answer_key.now ambiguities
-        (places answer_next.now answer_tail.now answer_len.now result.course.answer_used))
-        stack clock) replies
-        ≡ asks_future call.a call.b call.c
-        (stage s (lent_of (tables_of s.course.count goals coinductives flounderings modes)
-        (store strands time.now flags variant.now waiting wanted
-        (places next.now tail.now len.now s.course.used))
-        (answers_of answers answer_variant.now answer_key.now ambiguities
-        (places answer_next.now answer_tail.now answer_len.now s.course.answer_used))
-        stack clock) replies) }
+fn serve_future(s: Serving, call: Call, stores: &Stores) -> Serving
+    ensures { (stack : Stack) (clock : ℕ) (replies : List ℕ) → stage result (standing stores.now stack clock) replies
+        ≡ asks_future call.a call.b call.c (stage s (standing stores.now stack clock) replies) }
 {
-    let c = s.course;
-    if call.a >= c.count as u64 {
+    if call.a >= s.course.count as u64 {
         return at_once(s, Said::Refused(10));
     }
+    let answers = &stores.answers;
+    let strands = &stores.strands;
     if call.c > 65535 {
-        all_small(variant);
-        all_small(answer_variant);
+        all_small(&strands.variant);
+        all_small(&answers.variant);
         return at_once(s, Said::Future(false));
     }
     let t = (call.a % 256) as u8;
     let v = (call.c % 65536) as u16;
     let from = from_index(call.b);
+    let ring = &answers.places;
     if any_answer(
-        answer_next,
-        answer_tail,
-        answer_len,
+        &ring.next,
+        &ring.tail,
+        &ring.len,
         t,
         from,
-        answer_variant,
+        &answers.variant,
         v,
-        answer_key,
+        &answers.key,
     ) {
         return at_once(s, Said::Future(true));
     }
-    let any = any_strand(next, tail, len, t, variant, v, time);
+    let queue = &strands.places;
+    let any = any_strand(
+        &queue.next,
+        &queue.tail,
+        &queue.len,
+        t,
+        &strands.variant,
+        v,
+        &strands.time,
+    );
     at_once(s, Said::Future(any))
 }
 
@@ -468,9 +306,7 @@ fn serve_future<'a>(
 fn tell(s: Serving, replies: &mut [u64; NUMBERS]) -> Serving
     ensures { (result ≡ next_call s) × (replies.new ≡ reply_put s.at (reply_of s.said s.course) replies.old) }
 {
-    let said = s.said;
-    let course = s.course;
-    put_reply(replies, s.at, reply_of(said, course));
+    put_reply(replies, s.at, reply_of(s.said, s.course));
     Serving {
         at: one_more(s.at),
         busy: false,
@@ -478,138 +314,30 @@ fn tell(s: Serving, replies: &mut [u64; NUMBERS]) -> Serving
     }
 }
 
-pub fn serve<'a>(
+pub fn serve(
     s: Serving,
-    goals: usize,
+    book: &Book,
     clock_limit: u64,
-    calls: &'a [u64; NUMBERS],
+    stores: &mut Stores,
+    stack: &mut Stack,
+    calls: &[u64; NUMBERS],
     replies: &mut [u64; NUMBERS],
-    goal: &mut [u8; MOST_TABLES],
-    coinductive: &mut [u8; MOST_TABLES],
-    floundered: &mut [u8; MOST_TABLES],
-    complete: &mut [u8; MOST_TABLES],
-    next: &mut [u8; PLACES],
-    tail: &mut [u8; PLACES],
-    len: &mut [u16; PLACES],
-    time: &mut [u64; PLACES],
-    ambiguous: &mut [u8; PLACES],
-    variant: &mut [u16; PLACES],
-    waits: &mut [u8; PLACES],
-    wants: &mut [u16; PLACES],
-    answer_next: &'a [u8; PLACES],
-    answer_tail: &'a [u8; PLACES],
-    answer_len: &'a [u16; PLACES],
-    answer_variant: &'a [u16; PLACES],
-    answer_key: &'a [u64; PLACES],
-    answer_ambiguous: &'a [u8; PLACES],
-    entry_table: &mut [u8; MOST_ENTRIES],
-    entry_clock: &mut [u64; MOST_ENTRIES],
-    positive: &mut [u64; MOST_ENTRIES],
-    negative: &mut [u64; MOST_ENTRIES],
-    active: &mut [u16; MOST_ENTRIES],
-    goal_flags: &'a [u8; MOST_GOALS],
-    goal_first: &'a [u16; MOST_GOALS],
-    goal_len: &'a [u16; MOST_GOALS],
-    clause_variant: &'a [u16; MOST_CLAUSES],
-    clause_flags: &'a [u8; MOST_CLAUSES],
 ) -> Serving
-    ensures { (clauses : ℕ) (clause_len literal_kind literal_goal literal_want : List ℕ) (strands : List Strand)
-        (answers : List Answer)
-        → stage result (lent_of (tables_of result.course.count goal.new coinductive.new floundered.new complete.new)
-        (store strands time.new ambiguous.new variant.new waits.new wants.new
-        (places next.new tail.new len.new result.course.used))
-        (answers_of answers answer_variant.now answer_key.now answer_ambiguous.now
-        (places answer_next.now answer_tail.now answer_len.now result.course.answer_used))
-        (stack_of result.course.depth entry_table.new entry_clock.new positive.new negative.new
-        active.new) result.course.clock) replies.new
-        ≡ served (book_of goals clauses goal_flags.now goal_first.now goal_len.now
-        clause_variant.now clause_flags.now clause_len literal_kind literal_goal literal_want) clock_limit
-        calls.now
-        (stage s (lent_of (tables_of s.course.count goal.old coinductive.old floundered.old complete.old)
-        (store strands time.old ambiguous.old variant.old waits.old wants.old
-        (places next.old tail.old len.old s.course.used))
-        (answers_of answers answer_variant.now answer_key.now answer_ambiguous.now
-        (places answer_next.now answer_tail.now answer_len.now s.course.answer_used))
-        (stack_of s.course.depth entry_table.old entry_clock.old positive.old negative.old active.old) s.course.clock) replies.old) }
+    ensures { stage result (standing stores.new stack.new result.course.clock) replies.new
+        ≡ served book.now clock_limit calls.now (stage s (standing stores.old stack.old s.course.clock) replies.old) }
 {
     if s.busy {
         return tell(s, replies);
     }
     let call = call_at(calls, s.at);
     if call.kind == 0 {
-        return serve_open(
-            s,
-            goals,
-            call.a,
-            goal,
-            coinductive,
-            floundered,
-            complete,
-            next,
-            tail,
-            len,
-            time,
-            ambiguous,
-            variant,
-            waits,
-            wants,
-            goal_flags,
-            goal_first,
-            goal_len,
-            clause_variant,
-            clause_flags,
-        );
+        return serve_open(s, book, stores, call.a);
     }
     if call.kind == 1 {
-        return serve_search(
-            s,
-            clock_limit,
-            call,
-            floundered,
-            answer_next,
-            answer_tail,
-            answer_len,
-            answer_variant,
-            answer_key,
-            answer_ambiguous,
-            entry_table,
-            entry_clock,
-            positive,
-            negative,
-            active,
-        );
+        return serve_search(s, clock_limit, call, stores, stack);
     }
     if call.kind == 2 {
-        return serve_peek(
-            s,
-            clock_limit,
-            call,
-            floundered,
-            answer_next,
-            answer_tail,
-            answer_len,
-            answer_variant,
-            answer_key,
-            answer_ambiguous,
-            entry_table,
-            entry_clock,
-            positive,
-            negative,
-            active,
-        );
+        return serve_peek(s, clock_limit, call, stores, stack);
     }
-    serve_future(
-        s,
-        call,
-        next,
-        tail,
-        len,
-        time,
-        variant,
-        answer_next,
-        answer_tail,
-        answer_len,
-        answer_variant,
-        answer_key,
-    )
+    serve_future(s, call, stores)
 }

@@ -1,12 +1,13 @@
 -- Reading a book: what holds before each command, that each command keeps it, and what it gives where reading stops.
-use Prim.Native.Nat.{ℕ, suc, ◌+◌, ◌-◌, ◌%◌, ◌≤◌, ◌<◌}
+use Prim.Native.Nat.{ℕ, suc, ◌+◌, ◌%◌, ◌≤◌, ◌<◌}
 use native.Mathlib.Omega.{arith}
 use mathlib.Core.Path.{◌≡◌, refl, sym, ap, ap₂, subst, ◌∙◌}
 use mathlib.Core.Bool.{Bool, false}
 use mathlib.Core.List.{List, [], ◌∷◌, ◌++◌}
 use lib.ListN.{length, get_or, drop, length-replicate}
 use lib.Dec.{ltb, leb, eqb, leb-zero}
-use borrow.Author.Tests.{ltb-false, leb-false, eqb-false, ne_eqb}
+use borrow.Author.Tests.{ltb-false, leb-false, eqb-false}
+use Rattle.std.proofs.Common.{max, Ok, Err}
 use Rattle.definitions.specs.Refusal.{◌refuses◌}
 use Rattle.definitions.specs.Book as said
 use Rattle.definitions.specs.Book.{goal, clause, positive, ranged, negative, end, unknown, command, width, byte, u16, bit0, crossed}
@@ -15,20 +16,37 @@ use Rattle.definitions.specs.Mend.{loose_from, read_loosely}
 use Rattle.laws.proofs.Lists.{get_or_zeros}
 use Rattle.definitions.proofs.Book.{want_straight}
 use Rattle.book.specs.declared.Book.{Book}
-use Rattle.book.specs.declared.Reading.{Reading}
 use Rattle.book.specs.declared.decode.Operands.{Operands}
-use Rattle.book.specs.View.{numbered, view, kept, Full, Ranged, Sound, blank, seen_by}
-use Rattle.book.specs.Faults.{fault, marked, counts, next_fault, literal_tests, largest}
+use Rattle.book.specs.declared.refusal.Refusal.{Refusal}
+use Rattle.book.specs.declared.refusal.Refusal.TheVariants as why
+use Rattle.book.specs.Refusals.{number}
+use Rattle.book.specs.View.{numbered, view, kept, Full, Ranged, Sound, blank}
+use Rattle.book.specs.Faults.{fault, marked, counts, next_fault, literal_tests}
 use Rattle.book.specs.Naming.{ReadNamed}
 use Rattle.book.specs.Operands.{kind_by, want_at, high_at, OperandsAt}
 use Rattle.book.proofs.LiteralKinds.{kept_ends, positive_literal, ranged_literal, negative_literal, kind_small}
 use Rattle.book.proofs.Tests.{OfLiteral, of_positive, of_ranged, of_negative, of_literal, byte_after, u16_after}
-use Rattle.book.proofs.Tests.{marked_unknown, marked_known}
 use Rattle.book.proofs.Held.{Held}
 use Rattle.book.proofs.MoreGoals.{with_goal, bare_goal, goal_view, goal_held}
 use Rattle.book.proofs.MoreClauses.{with_clause, bare_clause, clause_view, clause_held, ends as clauses_end}
 use Rattle.book.proofs.MoreLiterals.{with_literal, literal_view, literal_held}
-use Rattle.book.proofs.Turns.{passes, done, turn_refused, some_left, operands_within, tests_passed, turn_end, turn_on}
+use Rattle.book.proofs.Turns.{passes, done, turn_refused, some_left, tests_passed, turn_end, turn_on}
+
+-- no refusal has the number 0
+numbered_some : (e : Refusal) → number e ≡ 0 → ⊥
+numbered_some why.PartMissing h = absurd (omega arith)
+numbered_some why.UnknownCommand h = absurd (omega arith)
+numbered_some why.OutOfPlace h = absurd (omega arith)
+numbered_some why.UnknownFlag h = absurd (omega arith)
+numbered_some why.TooMany h = absurd (omega arith)
+numbered_some why.NoSuchGoal h = absurd (omega arith)
+numbered_some why.BehindEnd h = absurd (omega arith)
+numbered_some why.NoGoal h = absurd (omega arith)
+numbered_some why.CrossedRange h = absurd (omega arith)
+numbered_some why.RepeatedClause h = absurd (omega arith)
+numbered_some why.NotPlain h = absurd (omega arith)
+numbered_some why.NotLevelled h = absurd (omega arith)
+numbered_some why.NotText h = absurd (omega arith)
 
 -- what the tests of a literal command leave
 record Room (clauses literals : ℕ) (crossing : Bool) : Type 0 where
@@ -96,20 +114,14 @@ start bs b e = subst (λ (x : Book). SoFar bs x 0 0 0) (sym e) (record { held = 
 
 module _ (bs : List ℕ) (b : Book) (literals named at : ℕ) (s : SoFar bs b literals named at) where
   -- a refusal
-  pub stops : (r : Reading) (k : ℕ) → (k ≡ 0 → ⊥) → k ≡ next_fault (drop at bs) (counts b.goals b.clauses literals)
-      → r.number ≡ k → r.book ≡ blank → ReadNamed bs (record { reading = r; named = named })
-  stops r k n e q z =
-      let m : r.number ≡ 0 → ⊥ = λ y. n (sym q ∙ y) in
-      record {
-        reads = record {
-          means =
-              ap (λ (t : Bool). seen_by t r) (ne_eqb r.number 0 m)
-              ∙ sym (turn_refused b literals named s.held bs at r.number m (sym e ∙ sym q)) ∙ s.rest;
-          formed = λ y. absurd (m y);
-          bare = λ y. z;
-        };
-        naming = λ y. absurd (m y);
-      }
+  pub stops : (e : Refusal) → number e ≡ next_fault (drop at bs) (counts b.goals b.clauses literals) → ReadNamed bs (Err e)
+  stops e is = record {
+    reads = record {
+      means = sym (turn_refused b literals named s.held bs at (number e) (numbered_some e) (sym is)) ∙ s.rest;
+      formed = tt;
+    };
+    naming = tt;
+  }
 
   module _ (fine : 0 ≡ next_fault (drop at bs) (counts b.goals b.clauses literals)) where
     abbrev after : List ℕ
@@ -118,27 +130,15 @@ module _ (bs : List ℕ) (b : Book) (literals named at : ℕ) (s : SoFar bs b li
     pub more_left : at < length bs
     more_left = some_left b literals named s.held bs at (sym fine)
 
-    -- its operands are there too
-    pub operands_fit : at + marked (command (byte bs at)) < length bs
-    operands_fit =
-        let m : marked (command (byte bs at)) ≡ width (command (byte bs at)) = marked_known (command (byte bs at)) known in
-        omega (arith, operands_within b literals named s.held bs at (sym fine) (command (byte bs at)) refl)
-      where
-        known : marked (command (byte bs at)) ≡ 255 → ⊥
-        known e =
-            let t : ◌≡◌ {A = ℕ} 2 0 =
-            tests_passed b literals named s.held bs at (sym fine) unknown (marked_unknown (command (byte bs at)) e) in
-            omega arith
-
     -- the end command
     module _ (is : byte bs at ≡ 0x45) where
-      pub ends : ReadNamed bs (record { reading = record { number = 0; book = b }; named = named })
+      pub ends : ReadNamed bs (Ok (record { book = b; named = named }))
       ends =
           let h = s.held in
           record {
             reads = record {
               means = sym (turn_end b literals named h bs at (sym fine) end (ap command is) refl) ∙ s.rest;
-              formed = λ z. record {
+              formed = record {
                 full = h.full;
                 ranged = h.ranged;
                 few_goals = h.few_goals;
@@ -146,9 +146,8 @@ module _ (bs : List ℕ) (b : Book) (literals named at : ℕ) (s : SoFar bs b li
                 few_literals = h.few_literals;
                 tiles = h.tiles;
               };
-              bare = λ n. absurd (n refl);
             };
-            naming = λ z. h.naming;
+            naming = h.naming;
           }
 
     module _ (o : Operands) (ops : OperandsAt bs at o) where
@@ -160,9 +159,6 @@ module _ (bs : List ℕ) (b : Book) (literals named at : ℕ) (s : SoFar bs b li
 
       code : (c : ℕ) → x ≡ c → command (byte bs at) ≡ command c
       code c e = ap command (sym ex ∙ e)
-
-      pub next_within : length bs - o.next < length bs - at
-      next_within = omega (arith, ops.next_is, more_left)
 
       -- a goal command
       module _ (is : x ≡ 0x47) where
@@ -365,7 +361,7 @@ module _ (bs : List ℕ) (b : Book) (literals named at : ℕ) (s : SoFar bs b li
               turn_on b literals named s.held bs at (sym fine) negative (code 0x4E e) refl grown (seen _ (kept_negative e)) o.next
               (ops.next_is ∙ ap (λ (y : ℕ). at + marked (command y) + 1) e)
 
-          pub literal_again : SoFar bs grown (literals + 1) (largest named (o.number + 1)) o.next
+          pub literal_again : SoFar bs grown (literals + 1) (max named (o.number + 1)) o.next
           literal_again = record {
             held =
                 literal_held b c literals o.kind o.number o.want named s.held last literal_room.1 kind_known want_fits

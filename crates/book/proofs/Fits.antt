@@ -1,6 +1,5 @@
 -- Laws of fitting: what holds of a literal of either sign.
 use Prim.Native.Nat.{ℕ, zero, suc, ◌≤◌, ◌<◌}
-use native.Mathlib.Omega.{arith}
 use mathlib.Core.Path.{◌≡◌, refl, sym, ap, subst, ◌∙◌}
 use mathlib.Core.Bool.{Bool, true, false, not, ◌||◌, ◌&&◌}
 use lib.Dec.{leb}
@@ -23,14 +22,6 @@ pub low_of : (ranged : Bool) (want most : ℕ) → want ≡ low (wanted ranged w
 low_of true want most = refl
 low_of false zero most = refl
 low_of false (suc v) most = refl
-
-pub high_any : (want most : ℕ) → want ≡ 0 → 65535 ≡ high (wanted false want most)
-high_any zero most e = refl
-high_any (suc v) most e = absurd (omega arith)
-
-pub high_one : (want most : ℕ) → (want ≡ 0 → ⊥) → want ≡ high (wanted false want most)
-high_one zero most e = absurd (e refl)
-high_one (suc v) most e = refl
 
 -- an answer that is not for the goal as a whole, against a positive literal
 module _ (l : Literal) (variant : ℕ) (s : bit1 l.kind ≡ false) (v : variant ≡ 0 → ⊥) where

@@ -17,4 +17,3 @@ pub mod ClauseKeys
 pub mod Twice
 pub mod Shown
 pub mod TwiceInBook
-pub mod AtDesk

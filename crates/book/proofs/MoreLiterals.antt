@@ -1,5 +1,5 @@
 -- A literal more: the arrays stay in order, and their view has the literal at the end of its last clause.
-use Prim.Native.Nat.{ℕ, suc, ◌+◌, ◌*◌, ◌/◌, ◌%◌, ◌≤◌, ◌<◌}
+use Prim.Native.Nat.{ℕ, suc, ◌+◌, ◌*◌, ◌/◌, ◌%◌, ◌≤◌, ◌<◌, max}
 use native.Mathlib.Numerals.{add-one}
 use native.Mathlib.Omega.{arith}
 use native.Mathlib.Decide.{ℕ_discrete}
@@ -17,7 +17,6 @@ use Rattle.laws.proofs.Spans.{span_snoc, span_ext}
 use Rattle.laws.specs.Spans.{span}
 use Rattle.book.specs.declared.Book.{Book}
 use Rattle.book.specs.View.{wanted, bit2, signed, kept, literal_viewed, clause_made, clause_viewed, view, Tiles, Full}
-use Rattle.book.specs.Faults.{largest}
 use Rattle.book.proofs.Names.{names_literal, names_more}
 use Rattle.book.proofs.Tilings.{tiles_add}
 use Rattle.book.proofs.Held.{Held, clauses_counted}
@@ -120,7 +119,7 @@ module _ (b : Book) (c j kind goal want named : ℕ) (h : Held b j named) (last 
         literal_want = length-set b.literal_want (8 * c + j) want ∙ s.literal_want;
       }
 
-  literal_names : (n : ℕ) → goals_name n (view next) ≡ leb (largest named (goal + 1)) n
+  literal_names : (n : ℕ) → goals_name n (view next) ≡ leb (max named (goal + 1)) n
   literal_names n =
       let some : 0 < clause_count (view b) = omega (arith, clauses_counted b h.tiles) in
       ap (goals_name n) literal_view
@@ -133,7 +132,7 @@ module _ (b : Book) (c j kind goal want named : ℕ) (h : Held b j named) (last 
   straight_by i (yes e) = ap (λ (k : ℕ). crossed (literal_viewed next k)) e ∙ ap crossed literal_new ∙ straight
   straight_by i (no d) = ap crossed (literal_other i d) ∙ h.ranged.straight i
 
-  pub literal_held : Held next (j + 1) (largest named (goal + 1))
+  pub literal_held : Held next (j + 1) (max named (goal + 1))
   literal_held = record {
     full = literal_full;
     ranged =

@@ -1,5 +1,5 @@
 -- Which goals the literals of a book name, as the book grows: the count of goals that holds all of them.
-use Prim.Native.Nat.{ℕ, zero, suc, ◌+◌, ◌<◌}
+use Prim.Native.Nat.{ℕ, ◌+◌, ◌<◌, max}
 use native.Mathlib.Omega.{arith}
 use mathlib.Core.Path.{◌≡◌, refl, sym, ap, ◌∙◌}
 use mathlib.Core.Bool.{Bool, true, false}
@@ -10,7 +10,6 @@ use borrow.Author.Tests.{le-leb, lt-leb, ltb-true, ltb-false, leb-true, leb-fals
 use Rattle.definitions.specs.Book.{Literal, Clause, Goal, Book, clause_count, add_clause, add_to_last, add_literal, with_clauses, goal_of}
 use Rattle.definitions.specs.Book.{literals_name, clauses_name, goals_name}
 use Rattle.laws.proofs.Bools.{and_then, and_then_true, and_then_assoc, and_then_swap, not_zero}
-use Rattle.book.specs.Faults.{largest, larger_by}
 
 literals_append : (n : ℕ) (ls : List Literal) (l : Literal)
     → literals_name n (ls ++ (l ∷ [])) ≡ and_then (literals_name n ls) (ltb (goal_of l) n)
@@ -68,15 +67,10 @@ names_goal n g [] e = ap (λ (cs : List Clause). and_then (clauses_name n cs) tr
 names_goal n g (h ∷ gs) e = ap (and_then (clauses_name n h.clauses)) (names_goal n g gs e)
 
 -- the count that holds all goals named so far, and one more
-largest_names : (n named g : ℕ) (s t u : Bool) → ltb named (g + 1) ≡ s → leb named n ≡ t → ltb g n ≡ u
-    → leb (larger_by s named (g + 1)) n ≡ and_then t u
-largest_names n named g true true true s t u = le-leb (g + 1) n (omega (arith, ltb-true g n u))
-largest_names n named g true true false s t u = lt-leb (g + 1) n (omega (arith, ltb-false g n u))
-largest_names n named g true false u s t v = lt-leb (g + 1) n (omega (arith, ltb-true named (g + 1) s, leb-false named n t))
-largest_names n named g false true true s t u = t
-largest_names n named g false true false s t u =
-    absurd (omega (arith, ltb-false named (g + 1) s, leb-true named n t, ltb-false g n u))
-largest_names n named g false false u s t v = t
-
-pub names_more : (n named g : ℕ) → leb (largest named (g + 1)) n ≡ and_then (leb named n) (ltb g n)
-names_more n named g = largest_names n named g (ltb named (g + 1)) (leb named n) (ltb g n) refl refl refl
+pub names_more : (n named g : ℕ) → leb (max named (g + 1)) n ≡ and_then (leb named n) (ltb g n)
+names_more n named g = at (leb named n) (ltb g n) refl refl
+  where
+    at : (s t : Bool) → leb named n ≡ s → ltb g n ≡ t → leb (max named (g + 1)) n ≡ and_then s t
+    at true true s t = le-leb (max named (g + 1)) n (omega (arith, leb-true named n s, ltb-true g n t))
+    at true false s t = lt-leb (max named (g + 1)) n (omega (arith, ltb-false g n t))
+    at false t s u = lt-leb (max named (g + 1)) n (omega (arith, leb-false named n s))

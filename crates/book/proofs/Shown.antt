@@ -11,11 +11,8 @@ use Rattle.definitions.specs.Book.{literals_name, bit0, bit1}
 use Rattle.book.specs.declared.Book.{Book}
 use Rattle.book.specs.Access.{entry, literal_read}
 use Rattle.book.specs.View.{meant, literal_viewed, clause_viewed, Formed, Sound}
-use Rattle.book.specs.Repeats.{Lent, lent, clause_read}
+use Rattle.book.specs.Repeats.{lent_by, clause_read}
 use Rattle.book.proofs.Looks.{entry_in, literal_shown, clause_names}
-
-abbrev pub lent_by : Book → Lent
-lent_by b = lent b.clause_variant b.clause_flags b.clause_len b.literal_kind b.literal_goal b.literal_want
 
 pub formed_shown : (b : Book) → Formed b → (n c : ℕ) → n ≤ 64 → c < b.clauses → literals_name n (clause_viewed b c).literals ≡ true
     → clause_read (lent_by b) c ≡ clause_viewed b c

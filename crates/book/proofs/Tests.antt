@@ -2,28 +2,17 @@
 use Prim.Native.Nat.{ℕ, suc, ◌+◌, ◌*◌, ◌-◌, ◌≤◌, ◌<◌}
 use native.Mathlib.Numerals.{add-one}
 use native.Mathlib.Omega.{arith}
-use mathlib.Core.Path.{◌≡◌, refl, sym, ap, ap₂, subst, ◌∙◌}
+use mathlib.Core.Path.{◌≡◌, refl, sym, ap, ◌∙◌}
 use mathlib.Core.Bool.{Bool, true, false}
 use mathlib.Core.List.{List}
-use lib.ListN.{length, drop, length-drop, drop_of_length-le, get_or-eq_default}
+use lib.ListN.{length, drop, length-drop, drop_of_length-le}
 use lib.Seq.{drop-cons, get_or-drop}
 use lib.Dec.{eqb, ltb}
-use borrow.Author.Tests.{lt-ltb, le-ltb, ne_eqb, eqb-true}
+use borrow.Author.Tests.{le-ltb, ne_eqb, eqb-true}
 use Rattle.definitions.specs.Book.{Command, goal, clause, positive, ranged, negative, end, unknown, command, commands, command_in}
 use Rattle.definitions.specs.Book.{width, byte, u16}
-use Rattle.book.specs.Operands.{kind_by, want_at, high_at, crossed_by, OperandsAt}
-use Rattle.book.specs.Faults.{
-  marked,
-  fault,
-  goal_tests,
-  clause_tests,
-  literal_tests,
-  end_tests,
-  Counts,
-  command_tests,
-  whole_tests,
-  next_fault,
-}
+use Rattle.book.specs.Operands.{crossed_by}
+use Rattle.book.specs.Faults.{marked, fault, literal_tests, Counts, command_tests, whole_tests, next_fault}
 
 pub marked_unknown : (c : Command) → marked c ≡ 255 → c ≡ unknown
 marked_unknown goal h = absurd (omega arith)
@@ -77,12 +66,6 @@ two_bytes bs i low high r l h e =
     let s : byte bs (i + 1) ≡ byte bs (suc i) = ap (byte bs) (add-one i) in
     omega arith
 
-pub no_bytes : (bs : List ℕ) (i : ℕ) → length bs ≤ i → 0 ≡ u16 bs i
-no_bytes bs i h =
-    let a : byte bs i ≡ 0 = get_or-eq_default bs 0 {n = i} h in
-    let b : byte bs (suc i) ≡ 0 = get_or-eq_default bs 0 {n = suc i} (omega arith) in
-    omega arith
-
 -- operands of the bytes behind a command are those of the bytes
 pub byte_after : (bs : List ℕ) (at k i : ℕ) → suc at + k ≡ i → byte (drop (suc at) bs) k ≡ byte bs i
 byte_after bs at k i e = get_or-drop (suc at) bs k 0 ∙ ap (byte bs) e
@@ -92,26 +75,6 @@ u16_after bs at k i e =
     let low : byte (drop (suc at) bs) k ≡ byte bs i = byte_after bs at k i e in
     let high : byte (drop (suc at) bs) (suc k) ≡ byte bs (suc i) = byte_after bs at (suc k) (suc i) (omega arith) in
     omega arith
-
--- the operands, from the calls that take them
-pub operands_are : (bs : List ℕ) (at b v w f k n t u m : ℕ) → b ≡ byte bs at → v ≡ marked (command b) → w ≡ v → f ≡ byte bs (at + w)
-    → k ≡ kind_by (eqb b 0x4E) (eqb b 0x52) f → n < 65536 → t < 65536 → u < 65536 → n ≡ u16 bs (at + 1)
-    → t ≡ want_at bs at b → u ≡ high_at bs at b → m ≡ t + 65536 * u
-    → OperandsAt bs at (record { command = b; flags = f; kind = k; number = n; want = m; next = at + w + 1 })
-operands_are bs at b v w f k n t u m eb ev ew ef ek ln lt lu en et eu em =
-    let e : w ≡ marked (command b) = ew ∙ ev in
-    let g : f ≡ byte bs (at + marked (command b)) = ef ∙ ap (λ (i : ℕ). byte bs (at + i)) e in
-    record {
-      command_is = eb;
-      flags_are = g;
-      kind_is = ek ∙ ap (kind_by (eqb b 0x4E) (eqb b 0x52)) g;
-      number_fits = ln;
-      number_is = en;
-      low_fits = subst (λ (i : ℕ). i < 65536) et lt;
-      high_fits = subst (λ (i : ℕ). i < 65536) eu lu;
-      want_is = em ∙ ap₂ (λ (i j : ℕ). i + 65536 * j) et eu;
-      next_is = ap (λ (i : ℕ). at + i + 1) e;
-    }
 
 module _ (bs : List ℕ) (at : ℕ) (n : Counts) where
   pub fault_none : length bs ≤ at → 1 ≡ next_fault (drop at bs) n
@@ -123,22 +86,6 @@ module _ (bs : List ℕ) (at : ℕ) (n : Counts) where
   module _ (h : at < length bs) (b w : ℕ) (eb : b ≡ byte bs at) (ew : w ≡ marked (command b)) where
     here_by : (c : Command) → command b ≡ c → next_fault (drop at bs) n ≡ fault (whole_tests c (drop (suc at) bs) n)
     here_by c e = here h ∙ ap (λ (x : Command). fault (whole_tests x (drop (suc at) bs) n)) (ap command (sym eb) ∙ e)
-
-    pub fault_unknown : w ≡ 255 → 2 ≡ next_fault (drop at bs) n
-    fault_unknown u =
-        let s : fault (whole_tests unknown (drop (suc at) bs) n) ≡ 2 =
-        ap (λ (t : Bool). elim t [ true ↦ 1 | false ↦ fault (command_tests unknown (drop (suc at) bs) n) ])
-        (le-ltb (length (drop (suc at) bs)) 0 (omega arith)) in
-        sym (here_by unknown (marked_unknown (command b) (sym ew ∙ u)) ∙ s)
-
-    pub fault_short : (w ≡ 255 → ⊥) → length bs - (at + 1) < w → 1 ≡ next_fault (drop at bs) n
-    fault_short k l =
-        let d : length (drop (suc at) bs) ≡ length bs - suc at = length-drop (suc at) bs in
-        let m : marked (command b) ≡ width (command b) = marked_known (command b) (λ x. k (ew ∙ x)) in
-        let s : fault (whole_tests (command b) (drop (suc at) bs) n) ≡ 1 =
-        ap (λ (t : Bool). elim t [ true ↦ 1 | false ↦ fault (command_tests (command b) (drop (suc at) bs) n) ])
-        (lt-ltb (length (drop (suc at) bs)) (width (command b)) (omega arith)) in
-        sym (here_by (command b) refl ∙ s)
 
     whole : (c : Command) → command b ≡ c → marked c ≡ width c → w ≤ length bs - (at + 1)
         → next_fault (drop at bs) n ≡ fault (command_tests c (drop (suc at) bs) n)
@@ -157,23 +104,6 @@ module _ (bs : List ℕ) (at : ℕ) (n : Counts) where
     module _ (l : w ≤ length bs - (at + 1)) (flags : ℕ) (ef : flags ≡ byte bs (at + w)) where
       flags_at : (k : ℕ) → suc k ≡ w → flags ≡ byte (drop (suc at) bs) k
       flags_at k e = ef ∙ sym (last k e)
-
-      pub fault_goal : b ≡ 0x47 → fault (goal_tests flags n.goals) ≡ next_fault (drop at bs) n
-      fault_goal e =
-          let v : w ≡ 1 = ew ∙ ap (λ (x : ℕ). marked (command x)) e in
-          ap (λ (f : ℕ). fault (goal_tests f n.goals)) (flags_at 0 (omega arith)) ∙ sym (whole goal (ap command e) refl l)
-
-      pub fault_clause : b ≡ 0x43 → fault (clause_tests flags n.goals n.clauses) ≡ next_fault (drop at bs) n
-      fault_clause e =
-          let v : w ≡ 3 = ew ∙ ap (λ (x : ℕ). marked (command x)) e in
-          ap (λ (f : ℕ). fault (clause_tests f n.goals n.clauses)) (flags_at 2 (omega arith))
-          ∙ sym (whole clause (ap command e) refl l)
-
-      pub fault_end : b ≡ 0x45 → fault (end_tests (length bs - (at + 1)) n.goals) ≡ next_fault (drop at bs) n
-      fault_end e =
-          let d : length (drop (suc at) bs) ≡ length bs - suc at = length-drop (suc at) bs in
-          let s : length bs - (at + 1) ≡ length (drop (suc at) bs) = omega arith in
-          ap (λ (x : ℕ). fault (end_tests x n.goals)) s ∙ sym (whole end (ap command e) refl l)
 
       module _ (crossed : Bool) (ec : crossed ≡ crossed_by (eqb b 0x52) (u16 bs (at + 3)) (u16 bs (at + 5))) where
         -- a literal command whose flags are its operand k

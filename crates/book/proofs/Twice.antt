@@ -2,7 +2,7 @@
 -- other.
 use Prim.Native.Nat.{ℕ, suc, ◌+◌, ◌-◌, ◌≤◌, ◌<◌}
 use native.Mathlib.Omega.{arith}
-use mathlib.Core.Path.{◌≡◌, refl, sym, ap, ap₂, subst, ◌∙◌}
+use mathlib.Core.Path.{◌≡◌, refl, sym, ap, subst, ◌∙◌}
 use mathlib.Core.Bool.{Bool, true, false}
 use mathlib.Core.Option.{Option, none, some}
 use mathlib.Core.List.{List, [], ◌∷◌}
@@ -65,12 +65,6 @@ abbrev pub Behind : (clause : ℕ → Clause) → (g first n k : ℕ) → Type 0
 Behind clause g first n k =
     repeat_behind g (span clause first k) (span clause (first + k) (n - k)) ≡ repeat_behind g [] (span clause first n)
 
-pub behind_begins : (clause : ℕ → Clause) (g first n : ℕ) → Behind clause g first n 0
-behind_begins clause g first n =
-    let z : first + 0 ≡ first = omega arith in
-    let y : n - 0 ≡ n = omega arith in
-    ap₂ (λ (s m : ℕ). repeat_behind g [] (span clause s m)) z y
-
 module _ (clause : ℕ → Clause) (g first k n : ℕ) (X : Option desks.Repeat)
     (left : repeat_behind g (span clause first k) (span clause (first + k) (n - k)) ≡ X) (lt : k < n) where
   clauses_left : span clause (first + k) (n - k) ≡ clause (first + k) ∷ span clause (first + (k + 1)) (n - (k + 1))
@@ -100,10 +94,6 @@ module _ (clause : ℕ → Clause) (g first k n : ℕ) (X : Option desks.Repeat)
         (subst (λ (i : ℕ). same_clause (clause (first + k)) (clause i) ≡ true) (sym z) (x.found here)) in
         let counted : length (span clause first k) ≡ k = length_span clause first k in
         rw (clauses_left, repeat_behind, found, counted) at left
-
-pub behind_over : (clause : ℕ → Clause) (g first k n : ℕ) (X : Option desks.Repeat)
-    → repeat_behind g (span clause first k) (span clause (first + k) (n - k)) ≡ X → n ≤ k → none ≡ X
-behind_over clause g first k n X left ge = rw (span_done clause (first + k) n k ge) at left
 
 -- All goals.
 

@@ -2,8 +2,8 @@
 use Prim.Native.Nat.{ℕ, ◌+◌, ◌-◌, ◌≤◌, ◌<◌}
 use native.Mathlib.Omega.{arith}
 use mathlib.Core.Path.{◌≡◌, sym, ap, ap₂, ◌∙◌}
-use mathlib.Core.Bool.{Bool, true, false}
-use mathlib.Core.Option.{some}
+use Rattle.std.specs.declared.option.Option as found
+use Rattle.std.proofs.Common.{Some, None}
 use mathlib.Core.List.{List, []}
 use lib.ListN.{get_or}
 use Rattle.laws.specs.Spans.{span}
@@ -13,19 +13,14 @@ use Rattle.book.specs.declared.Book.{Book}
 use Rattle.book.specs.declared.Repeat.{Repeat}
 use Rattle.book.specs.Access.{entry}
 use Rattle.book.specs.View.{clause_viewed, goal_viewed, view, Sound}
-use Rattle.book.specs.Repeats.{Keys, clause_read, no_repeat, repeat_by, repeat_seen}
+use Rattle.book.specs.Repeats.{Keys, lent_by, clause_read, repeat_seen}
 use Rattle.book.proofs.Looks.{entry_in, clauses_within}
-use Rattle.book.proofs.Shown.{lent_by, clause_shown}
-use Rattle.book.proofs.Twice.{from_again, from_found, from_over}
+use Rattle.book.proofs.Shown.{clause_shown}
+use Rattle.book.proofs.Twice.{from_again, from_found}
 
 -- the goals behind goal g decide, as long as none before it has a clause twice
 abbrev pub FromGoal : Book → (g : ℕ) → Type 0
 FromGoal b g = repeat_from g (span (goal_viewed b) g (b.goals - g)) ≡ first_repeat (view b)
-
-pub from_first : (b : Book) → FromGoal b 0
-from_first b =
-    let z : b.goals - 0 ≡ b.goals = omega arith in
-    ap (λ (n : ℕ). repeat_from 0 (span (goal_viewed b) 0 n)) z
 
 module _ (b : Book) (s : Sound b) where
   -- a goal by its first place and the number of its clauses
@@ -55,19 +50,14 @@ module _ (b : Book) (s : Sound b) where
         span_ext (clause_read (lent_by b)) (clause_viewed b) first count (λ i x y. clause_shown b s i (omega (arith, goal_inside)))
         ∙ ap₂ (λ (m n : ℕ). span (clause_viewed b) m n) first_there count_there
 
-    module _ (left : FromGoal b g) (r : Repeat) (e : repeat_seen r ≡ repeat_behind g [] (span (clause_read (lent_by b)) first count)) where
-      told : repeat_behind g [] (goal_viewed b g).clauses ≡ repeat_seen r
-      told = sym (e ∙ ap (repeat_behind g []) goal_shown)
+    module _ (left : FromGoal b g) where
+      told : (r : found.Option Repeat) → repeat_seen r ≡ repeat_behind g [] (span (clause_read (lent_by b)) first count)
+          → repeat_behind g [] (goal_viewed b g).clauses ≡ repeat_seen r
+      told r e = sym (e ∙ ap (repeat_behind g []) goal_shown)
 
-      pub goal_has : r.found ≡ true → repeat_seen r ≡ first_repeat (view b)
-      goal_has f =
-          let is : repeat_seen r ≡ some (record { goal = r.goal; clause = r.clause; earlier = r.earlier }) =
-          ap (λ (t : Bool). repeat_by t r) f in
-          is ∙ from_found (goal_viewed b) g b.goals (first_repeat (view b)) left _ h (told ∙ is)
+      pub goal_has : (r : Repeat) → repeat_seen (Some r) ≡ repeat_behind g [] (span (clause_read (lent_by b)) first count)
+          → repeat_seen (Some r) ≡ first_repeat (view b)
+      goal_has r e = from_found (goal_viewed b) g b.goals (first_repeat (view b)) left _ h (told (Some r) e)
 
-      pub goal_has_none : r.found ≡ false → FromGoal b (g + 1)
-      goal_has_none f =
-          from_again (goal_viewed b) g b.goals (first_repeat (view b)) left h (told ∙ ap (λ (t : Bool). repeat_by t r) f)
-
-  pub no_goal_has : (g : ℕ) (r : Repeat) → FromGoal b g → b.goals ≤ g → r ≡ no_repeat → repeat_seen r ≡ first_repeat (view b)
-  no_goal_has g r left past e = ap repeat_seen e ∙ from_over (goal_viewed b) g b.goals (first_repeat (view b)) left past
+      pub goal_has_none : repeat_seen None ≡ repeat_behind g [] (span (clause_read (lent_by b)) first count) → FromGoal b (g + 1)
+      goal_has_none e = from_again (goal_viewed b) g b.goals (first_repeat (view b)) left h (told None e)

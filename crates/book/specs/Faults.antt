@@ -72,11 +72,3 @@ whole_tests c after n = ltb (length after) (width c) refuses 1 ∷ command_tests
 abbrev pub next_fault : List ℕ → Counts → ℕ
 next_fault [] n = 1
 next_fault (b ∷ bs) n = fault (whole_tests (command b) bs n)
-
--- the larger of two numbers
-abbrev pub larger_by : Bool → ℕ → ℕ → ℕ
-larger_by true a b = b
-larger_by false a b = a
-
-abbrev pub largest : ℕ → ℕ → ℕ
-largest a b = larger_by (ltb a b) a b

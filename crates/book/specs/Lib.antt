@@ -5,3 +5,4 @@ pub mod Access
 pub mod Fitting
 pub mod Repeats
 pub mod Naming
+pub mod Refusals

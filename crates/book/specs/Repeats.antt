@@ -1,13 +1,16 @@
 -- The clauses of a book by its arrays, at any place; the numbers by which they are told apart; and what is found.
-use Rattle.std.specs.Prelude.{ℕ, ◌+◌, ◌*◌, ◌%◌, ◌≤◌, ◌<◌, ◌≡◌, Bool, true, false, List, [], ◌∷◌, get_or}
+use Rattle.std.specs.Prelude.{ℕ, ◌+◌, ◌*◌, ◌%◌, ◌≤◌, ◌<◌, ◌≡◌, Bool, true, false, List, [], ◌∷◌, get_or, Some, None, Result, Ok, Err, IfOk}
+use Rattle.std.specs.declared.option.Option as found
 use Rattle.std.proofs.Math.Option.{Option, none, some}
 use Rattle.laws.specs.Spans.{span}
 use Rattle.definitions.specs.Book as said
 use Rattle.definitions.specs.Book.{Want, any, exactly, between, Positive, Negative, Clause, bit0, bit1, flag}
 use Rattle.definitions.specs.Desk as desks
 use Rattle.definitions.specs.Desk.{same_clause, repeat_of}
+use Rattle.book.specs.declared.Book.{Book}
 use Rattle.book.specs.declared.Repeat.{Repeat}
 use Rattle.book.specs.declared.Looked.{Looked}
+use Rattle.book.specs.declared.refusal.Refusal.{Refusal}
 use Rattle.book.specs.Access.{entry, literal_read}
 use Rattle.book.specs.View.{meant, Read}
 
@@ -35,6 +38,10 @@ clause_read a c = record {
   outsized = bit1 (entry 256 a.flags c);
   literals = literals_read a.lens a.kinds a.goals a.wants c;
 }
+
+-- a book's own
+abbrev pub lent_by : Book → Lent
+lent_by b = lent b.clause_variant b.clause_flags b.clause_len b.literal_kind b.literal_goal b.literal_want
 
 -- a literal in two numbers: the goal with its sign and mark, and what is wanted of it
 abbrev pub literal_number : said.Literal → ℕ
@@ -78,18 +85,16 @@ pub record Earlier (clause : ℕ → Clause) (first c r : ℕ) : Type 0 where
   pub none_before : (d : ℕ) → first ≤ d → d < r → same_clause (clause c) (clause d) ≡ false
   pub found : r < c → same_clause (clause c) (clause r) ≡ true
 
-abbrev pub no_repeat : Repeat
-no_repeat = record { found = false; goal = 0; clause = 0; earlier = 0 }
-
 -- a repeat as the definitions have it
-abbrev pub repeat_by : (found : Bool) → Repeat → Option desks.Repeat
-repeat_by true r = some (record { goal = r.goal; clause = r.clause; earlier = r.earlier })
-repeat_by false r = none
+abbrev pub repeat_seen : found.Option Repeat → Option desks.Repeat
+repeat_seen (Some r) = some (record { goal = r.goal; clause = r.clause; earlier = r.earlier })
+repeat_seen None = none
 
-abbrev pub repeat_seen : Repeat → Option desks.Repeat
-repeat_seen r = repeat_by r.found r
+abbrev pub book_looked : Result Looked Refusal → Result Book Refusal
+book_looked (Ok l) = Ok l.book
+book_looked (Err e) = Err e
 
 -- what `look` is to give
-pub record Looks (bytes : List ℕ) (r : Looked) : Type 0 where
-  pub reads : Read bytes r.reading
-  pub repeats : repeat_seen r.repeat ≡ repeat_of (said.read bytes)
+pub record Looks (bytes : List ℕ) (r : Result Looked Refusal) : Type 0 where
+  pub reads : Read bytes (book_looked r)
+  pub repeats : IfOk r (λ l. repeat_seen l.repeat ≡ repeat_of (said.read bytes))

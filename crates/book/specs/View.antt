@@ -1,13 +1,14 @@
 -- What the arrays of a book mean: the book of the definitions that they hold, and the soundness that reading gives and every use keeps.
-use Rattle.std.specs.Prelude.{ℕ, zero, suc, ◌+◌, ◌*◌, ◌/◌, ◌%◌, ◌≤◌, ◌<◌, ◌≡◌, Bool, true, false, List, length, get_or, replicate, eqb}
+use Rattle.std.specs.Prelude.{ℕ, zero, suc, ◌+◌, ◌*◌, ◌/◌, ◌%◌, ◌≤◌, ◌<◌, ◌≡◌, Bool, true, false, List, length, get_or, replicate, eqb, Result, Ok, Err, IfOk}
 use Rattle.laws.specs.Spans.{span}
 use Rattle.definitions.specs.Refusal.{Refusable, refused, accepted}
 use Rattle.definitions.specs.Book as said
 use Rattle.definitions.specs.Desk.{desk}
 use Rattle.definitions.specs.Mend.{read_loosely}
 use Rattle.book.specs.declared.Book.{Book}
-use Rattle.book.specs.declared.Reading.{Reading}
 use Rattle.book.specs.declared.Literal.{Literal}
+use Rattle.book.specs.declared.refusal.Refusal.{Refusal}
+use Rattle.book.specs.Refusals.{number}
 
 -- what a literal wants, by the numbers that are kept of it: a range, or one variant, with 0 for any
 abbrev pub wanted : (ranged : Bool) → (want high : ℕ) → said.Want
@@ -128,29 +129,24 @@ blank = record {
 }
 
 -- a reading as the definitions have it
-abbrev pub seen_by : Bool → Reading → Refusable said.Book
-seen_by true r = accepted (view r.book)
-seen_by false r = refused r.number
-
-abbrev pub seen : Reading → Refusable said.Book
-seen r = seen_by (eqb r.number 0) r
+abbrev pub seen : Result Book Refusal → Refusable said.Book
+seen (Ok b) = accepted (view b)
+seen (Err e) = refused (number e)
 
 -- what a reading is to give, by the definitions
-pub record Gives (what : Refusable said.Book) (r : Reading) : Type 0 where
+pub record Gives (what : Refusable said.Book) (r : Result Book Refusal) : Type 0 where
   pub means : seen r ≡ what
-  pub sound : r.number ≡ 0 → Sound r.book
-  pub bare : (r.number ≡ 0 → ⊥) → r.book ≡ blank
+  pub sound : IfOk r Sound
 
 -- by the old entry
-abbrev pub Read : (bytes : List ℕ) → Reading → Type 0
+abbrev pub Read : (bytes : List ℕ) → Result Book Refusal → Type 0
 Read bytes r = Gives (said.read bytes) r
 
 -- at the desk
-abbrev pub Taken : (bytes : List ℕ) → Reading → Type 0
+abbrev pub Taken : (bytes : List ℕ) → Result Book Refusal → Type 0
 Taken bytes r = Gives (desk bytes) r
 
 -- without the test for 6
-pub record ReadLoosely (bytes : List ℕ) (r : Reading) : Type 0 where
+pub record ReadLoosely (bytes : List ℕ) (r : Result Book Refusal) : Type 0 where
   pub means : seen r ≡ read_loosely bytes
-  pub formed : r.number ≡ 0 → Formed r.book
-  pub bare : (r.number ≡ 0 → ⊥) → r.book ≡ blank
+  pub formed : IfOk r Formed

@@ -5,25 +5,25 @@ ghost use Rattle.definitions.specs.Book.{bit0, bit1};
 ghost use Rattle.book.specs.Access.{entry, literal_read};
 ghost use Rattle.book.specs.View.{bit2};
 
-use crate::Literal;
+use crate::{Book, Literal};
 use sizes::{BOOK_LITERALS, MOST_CLAUSES, MOST_GOALS, MOST_LITERALS};
 
 fn goal_byte(a: &[u8; MOST_GOALS], goal: usize) -> u8
     ensures { result ≡ entry 64 a.now goal }
 {
-    if goal < MOST_GOALS { a[goal] } else { 0 }
+    a.get(goal).copied().unwrap_or(0)
 }
 
 pub fn goal_number(a: &[u16; MOST_GOALS], goal: usize) -> u16
     ensures { result ≡ entry 64 a.now goal }
 {
-    if goal < MOST_GOALS { a[goal] } else { 0 }
+    a.get(goal).copied().unwrap_or(0)
 }
 
 fn clause_byte(a: &[u8; MOST_CLAUSES], clause: usize) -> u8
     ensures { result ≡ entry 256 a.now clause }
 {
-    if clause < MOST_CLAUSES { a[clause] } else { 0 }
+    a.get(clause).copied().unwrap_or(0)
 }
 
 pub fn is_coinductive(flags: &[u8; MOST_GOALS], goal: usize) -> bool
@@ -52,36 +52,6 @@ pub fn clause_count(len: &[u16; MOST_GOALS], goal: usize) -> usize
     goal_number(len, goal) as usize
 }
 
-pub fn variant_of(variants: &[u16; MOST_CLAUSES], clause: usize) -> u16
-    ensures { result ≡ entry 256 variants.now clause }
-{
-    if clause < MOST_CLAUSES {
-        variants[clause]
-    } else {
-        0
-    }
-}
-
-pub fn cannot_prove(flags: &[u8; MOST_CLAUSES], clause: usize) -> bool
-    ensures { result ≡ bit0 (entry 256 flags.now clause) }
-{
-    clause_byte(flags, clause) % 2 == 1
-}
-
-// The clause's answer is too large to keep.
-pub fn gives_outsized(flags: &[u8; MOST_CLAUSES], clause: usize) -> bool
-    ensures { result ≡ bit1 (entry 256 flags.now clause) }
-{
-    clause_byte(flags, clause) / 2 % 2 == 1
-}
-
-// How many literals a clause has.
-pub fn literal_count(len: &[u8; MOST_CLAUSES], clause: usize) -> usize
-    ensures { result ≡ entry 256 len.now clause }
-{
-    clause_byte(len, clause) as usize
-}
-
 // The ends of what a literal wants, out of the number that keeps both.
 pub fn low_end(ends: u32) -> u16
     ensures { result ≡ ends % 65536 }
@@ -105,21 +75,8 @@ pub fn literal_at(
 ) -> Literal
     ensures { result ≡ literal_read kind.now goal.now want.now clause at }
 {
-    if clause >= MOST_CLAUSES {
-        return Literal {
-            goal: 0,
-            kind: 0,
-            want: 0,
-            high: 0,
-        };
-    }
-    if at >= MOST_LITERALS {
-        return Literal {
-            goal: 0,
-            kind: 0,
-            want: 0,
-            high: 0,
-        };
+    if clause >= MOST_CLAUSES || at >= MOST_LITERALS {
+        return Literal::BLANK;
     }
     let place = MOST_LITERALS * clause + at;
     Literal {
@@ -142,4 +99,72 @@ pub fn is_ranged(l: Literal) -> bool
     ensures { result ≡ bit2 l.kind }
 {
     l.kind / 4 % 2 == 1
+}
+
+// A book's own, by goal, clause and literal; past what an array holds there is nothing.
+impl Book {
+    pub fn is_coinductive(&self, goal: usize) -> bool
+        ensures { result ≡ bit0 (entry 64 self.now.goal_flags goal) }
+    {
+        is_coinductive(&self.goal_flags, goal)
+    }
+
+    pub fn is_floundered(&self, goal: usize) -> bool
+        ensures { result ≡ bit1 (entry 64 self.now.goal_flags goal) }
+    {
+        is_floundered(&self.goal_flags, goal)
+    }
+
+    // The place of a goal's first clause among the book's clauses.
+    pub fn first_clause(&self, goal: usize) -> usize
+        ensures { result ≡ entry 64 self.now.goal_first goal }
+    {
+        first_clause(&self.goal_first, goal)
+    }
+
+    // How many clauses a goal has.
+    pub fn clause_count(&self, goal: usize) -> usize
+        ensures { result ≡ entry 64 self.now.goal_len goal }
+    {
+        clause_count(&self.goal_len, goal)
+    }
+
+    pub fn variant(&self, clause: usize) -> u16
+        ensures { result ≡ entry 256 self.now.clause_variant clause }
+    {
+        self.clause_variant.get(clause).copied().unwrap_or(0)
+    }
+
+    pub fn cannot_prove(&self, clause: usize) -> bool
+        ensures { result ≡ bit0 (entry 256 self.now.clause_flags clause) }
+    {
+        clause_byte(&self.clause_flags, clause) % 2 == 1
+    }
+
+    // The clause's answer is too large to keep.
+    pub fn gives_outsized(&self, clause: usize) -> bool
+        ensures { result ≡ bit1 (entry 256 self.now.clause_flags clause) }
+    {
+        clause_byte(&self.clause_flags, clause) / 2 % 2 == 1
+    }
+
+    // How many literals a clause has.
+    pub fn literal_count(&self, clause: usize) -> usize
+        ensures { result ≡ entry 256 self.now.clause_len clause }
+    {
+        clause_byte(&self.clause_len, clause) as usize
+    }
+
+    // Literal `at` of a clause.
+    pub fn literal(&self, clause: usize, at: usize) -> Literal
+        ensures { result ≡ literal_read self.now.literal_kind self.now.literal_goal self.now.literal_want clause at }
+    {
+        literal_at(
+            &self.literal_kind,
+            &self.literal_goal,
+            &self.literal_want,
+            clause,
+            at,
+        )
+    }
 }

@@ -2,33 +2,26 @@
 ghost use Rattle.book.specs.View.{Taken};
 ghost use Rattle.book.specs.Repeats.{Looks};
 
-use crate::reader::{read, refused};
-use crate::repeats::{book_repeat, no_repeat};
-use crate::{Looked, Reading};
+use crate::reader::read;
+use crate::repeats::book_repeat;
+use crate::{Book, Looked, Refusal};
 
 // What the old entry reads, and where the desk would find a clause for the second time.
-pub fn look(bytes: &[u8]) -> Looked
+pub fn look(bytes: &[u8]) -> Result<Looked, Refusal>
     ensures { Looks bytes.now result }
 {
-    let reading = read(bytes);
-    if reading.number != 0 {
-        let repeat = no_repeat();
-        return Looked { reading, repeat };
-    }
-    let book = reading.book;
-    let repeat = book_repeat(book);
-    Looked { reading, repeat }
+    let book = read(bytes)?;
+    let repeat = book_repeat(&book);
+    Ok(Looked { book, repeat })
 }
 
-// Refused by the numbers of `read`, and then with 36.
-pub fn desk(bytes: &[u8]) -> Reading
+// Refused as `read` refuses, and then with 36.
+pub fn desk(bytes: &[u8]) -> Result<Book, Refusal>
     ensures { Taken bytes.now result }
 {
-    let l = look(bytes);
-    let repeat = l.repeat;
-    if repeat.found {
-        return refused(36);
+    let looked = look(bytes)?;
+    match looked.repeat {
+        Some(_) => Err(Refusal::RepeatedClause),
+        None => Ok(looked.book),
     }
-    let reading = l.reading;
-    reading
 }

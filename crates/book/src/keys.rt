@@ -3,14 +3,12 @@
 ghost use Rattle.std.specs.Prelude.{◌≡◌, ◌<◌, ◌≤◌};
 ghost use Rattle.definitions.specs.Book.{flag};
 ghost use Rattle.book.specs.View.{meant};
-ghost use Rattle.book.specs.Repeats.{lent, clause_read, literal_number, want_number, mix, mix_literal, head_number, clause_key, Keys};
+ghost use Rattle.book.specs.Repeats.{lent_by, clause_read, literal_number, want_number, mix, mix_literal, head_number, clause_key, Keys};
 
-use crate::Literal;
-use crate::access::{
-    cannot_prove, gives_outsized, is_negative, is_ranged, literal_at, literal_count, variant_of,
-};
+use crate::access::{is_negative, is_ranged};
 use crate::decode::ends;
-use sizes::{BOOK_LITERALS, MOST_CLAUSES};
+use crate::{Book, Literal};
+use sizes::MOST_CLAUSES;
 
 // A literal in two numbers: the goal with its sign and mark, and what is wanted of it.
 fn literal_number(l: Literal) -> u32
@@ -42,16 +40,10 @@ fn mixed(key: u32, n: u32) -> u32
     (((key as u64) * 2654435769 + (n as u64)) % 4294967296) as u32
 }
 
-fn flag_number(on: bool) -> u32
-    ensures { (result ≡ flag on) × (result < 2) }
-{
-    if on { 1 } else { 0 }
-}
-
 fn first_key(variant: u16, weak: bool, outsized: bool) -> u32
     ensures { result ≡ head_number variant weak outsized }
 {
-    4 * (variant as u32) + 2 * flag_number(weak) + flag_number(outsized)
+    4 * (variant as u32) + 2 * u32::from(weak) + u32::from(outsized)
 }
 
 fn with_literal(key: u32, l: Literal) -> u32
@@ -61,53 +53,31 @@ fn with_literal(key: u32, l: Literal) -> u32
     mixed(k, literal_number(l))
 }
 
-fn clause_key(
-    variants: &[u16; MOST_CLAUSES],
-    flags: &[u8; MOST_CLAUSES],
-    len: &[u8; MOST_CLAUSES],
-    kind: &[u8; BOOK_LITERALS],
-    goal: &[u16; BOOK_LITERALS],
-    want: &[u32; BOOK_LITERALS],
-    c: usize,
-) -> u32
-    ensures { result ≡ clause_key
-        (clause_read (lent variants.now flags.now len.now kind.now goal.now
-        want.now) c) }
-{
-    let count = literal_count(len, c);
-    let mut key = first_key(
-        variant_of(variants, c),
-        cannot_prove(flags, c),
-        gives_outsized(flags, c),
-    );
-    let mut j: usize = 0;
-    while j < count {
-        let l = literal_at(kind, goal, want, c, j);
-        key = with_literal(key, l);
-        j += 1;
+impl Book {
+    fn clause_key(&self, c: usize) -> u32
+        ensures { result ≡ clause_key (clause_read (lent_by self.now) c) }
+    {
+        let mut key = first_key(
+            self.variant(c),
+            self.cannot_prove(c),
+            self.gives_outsized(c),
+        );
+        let count = self.literal_count(c);
+        for j in 0..count {
+            key = with_literal(key, self.literal(c, j));
+        }
+        key
     }
-    key
-}
 
-pub(crate) fn keys_of(
-    variants: &[u16; MOST_CLAUSES],
-    flags: &[u8; MOST_CLAUSES],
-    len: &[u8; MOST_CLAUSES],
-    kind: &[u8; BOOK_LITERALS],
-    goal: &[u16; BOOK_LITERALS],
-    want: &[u32; BOOK_LITERALS],
-    clauses: usize,
-) -> [u32; MOST_CLAUSES]
-    requires { clauses ≤ 256 }
-    ensures { Keys
-        (lent variants.now flags.now len.now kind.now goal.now
-        want.now) result clauses }
-{
-    let mut keys = [0u32; MOST_CLAUSES];
-    let mut c: usize = 0;
-    while c < clauses {
-        keys[c] = clause_key(variants, flags, len, kind, goal, want, c);
-        c += 1;
+    // The keys of all its clauses, by their places.
+    pub(crate) fn keys(&self) -> [u32; MOST_CLAUSES]
+        requires { self.now.clauses ≤ 256 }
+        ensures { Keys (lent_by self.now) result self.now.clauses }
+    {
+        let mut keys = [0u32; MOST_CLAUSES];
+        for c in 0..self.clauses {
+            keys[c] = self.clause_key(c);
+        }
+        keys
     }
-    keys
 }

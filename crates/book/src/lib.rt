@@ -9,11 +9,13 @@ mod faults;
 pub mod fitting;
 mod keys;
 pub mod reader;
+pub mod refusal;
 mod repeats;
 pub mod same;
 pub mod widths;
 
-pub use crate::reader::{read, read_loosely, refused};
+pub use crate::reader::{read, read_loosely};
+pub use crate::refusal::Refusal;
 use sizes::{BOOK_LITERALS, MOST_CLAUSES, MOST_GOALS};
 
 // Goals, clauses and literals by number, so that each array can be lent alone. The clauses of goal g are the goal_len[g] clauses
@@ -44,28 +46,29 @@ pub struct Literal {
     pub high: u16,
 }
 
-// What reading gives: number 0 and the book, or the number of a refusal and a blank book.
-#[derive(Clone, Copy)]
-pub struct Reading {
-    pub number: u8,
-    pub book: Book,
+impl Literal {
+    // All zero.
+    pub const BLANK: Literal = Literal {
+        goal: 0,
+        kind: 0,
+        want: 0,
+        high: 0,
+    };
 }
 
-// A clause that is the same as an earlier one of its goal: the two by their numbers among the goal's clauses. Where none was found all
-// are 0.
+// A clause that is the same as an earlier one of its goal: the two by their numbers among the goal's clauses.
 #[derive(Clone, Copy)]
 pub struct Repeat {
-    pub found: bool,
     pub goal: usize,
     pub clause: usize,
     pub earlier: usize,
 }
 
-// What the desk sees: the reading of the old entry, and the book's first repeat.
+// What the desk sees: the book that the old entry reads, and its first repeat.
 #[derive(Clone, Copy)]
 pub struct Looked {
-    pub reading: Reading,
-    pub repeat: Repeat,
+    pub book: Book,
+    pub repeat: Option<Repeat>,
 }
 
 // A strand's substitution: the variant that it stands for, and whether that answer is too large to keep.

@@ -3,119 +3,61 @@ ghost use Rattle.std.specs.Prelude.{◌≡◌, ◌&&◌, eqb};
 ghost use Rattle.definitions.specs.Book.{bit0};
 ghost use Rattle.definitions.specs.Desk.{same_flag, same_want, same_literal, same_literals, same_clause};
 ghost use Rattle.book.specs.View.{meant, wanted, bit2};
-ghost use Rattle.book.specs.Repeats.{lent, literals_read, clause_read};
+ghost use Rattle.book.specs.Repeats.{lent_by, literals_read, clause_read};
 
-use crate::Literal;
-use crate::access::{
-    cannot_prove, gives_outsized, is_negative, is_ranged, literal_at, literal_count, variant_of,
-};
-use sizes::{BOOK_LITERALS, MOST_CLAUSES};
-
-// Both are set, or neither is.
-fn same_flag(a: bool, b: bool) -> bool
-    ensures { result ≡ same_flag a b }
-{
-    if a { b } else { !b }
-}
+use crate::access::{is_negative, is_ranged};
+use crate::{Book, Literal};
 
 // What two positive literals want.
 fn same_want(l: Literal, m: Literal) -> bool
     ensures { result ≡ same_want (wanted (bit2 l.kind) l.want l.high) (wanted (bit2 m.kind) m.want m.high) }
 {
     if is_ranged(l) {
-        if is_ranged(m) {
-            if l.want != m.want {
-                return false;
-            }
-            return l.high == m.high;
-        }
-        return false;
+        return is_ranged(m) && l.want == m.want && l.high == m.high;
     }
-    if is_ranged(m) {
-        return false;
-    }
-    l.want == m.want
+    !is_ranged(m) && l.want == m.want
 }
 
 // The goals of two literals, and their marks.
 fn same_goal(l: Literal, m: Literal) -> bool
     ensures { result ≡ (eqb l.goal m.goal && same_flag (bit0 l.kind) (bit0 m.kind)) }
 {
-    if l.goal != m.goal {
-        return false;
-    }
-    same_flag(l.kind % 2 == 1, m.kind % 2 == 1)
+    l.goal == m.goal && (l.kind % 2 == 1) == (m.kind % 2 == 1)
 }
 
 fn same_literal(l: Literal, m: Literal) -> bool
     ensures { result ≡ same_literal (meant l) (meant m) }
 {
     if is_negative(l) {
-        if is_negative(m) {
-            return same_goal(l, m);
-        }
-        return false;
+        return is_negative(m) && same_goal(l, m);
     }
-    if is_negative(m) {
-        return false;
-    }
-    if same_want(l, m) {
-        return same_goal(l, m);
-    }
-    false
+    !is_negative(m) && same_want(l, m) && same_goal(l, m)
 }
 
-fn same_literals(
-    len: &[u8; MOST_CLAUSES],
-    kind: &[u8; BOOK_LITERALS],
-    goal: &[u16; BOOK_LITERALS],
-    want: &[u32; BOOK_LITERALS],
-    c: usize,
-    d: usize,
-) -> bool
-    ensures { result ≡ same_literals (literals_read len.now kind.now goal.now want.now c)
-        (literals_read len.now kind.now goal.now want.now d) }
-{
-    let count = literal_count(len, c);
-    if literal_count(len, d) != count {
-        return false;
-    }
-    let mut j: usize = 0;
-    while j < count {
-        let l = literal_at(kind, goal, want, c, j);
-        let m = literal_at(kind, goal, want, d, j);
-        if !same_literal(l, m) {
+impl Book {
+    fn same_literals(&self, c: usize, d: usize) -> bool
+        ensures { result ≡ same_literals (clause_read (lent_by self.now) c).literals (clause_read (lent_by self.now) d).literals }
+    {
+        let count = self.literal_count(c);
+        if self.literal_count(d) != count {
             return false;
         }
-        j += 1;
+        for j in 0..count {
+            let l = self.literal(c, j);
+            let m = self.literal(d, j);
+            if !same_literal(l, m) {
+                return false;
+            }
+        }
+        true
     }
-    true
-}
 
-pub fn same_clause(
-    variants: &[u16; MOST_CLAUSES],
-    flags: &[u8; MOST_CLAUSES],
-    len: &[u8; MOST_CLAUSES],
-    kind: &[u8; BOOK_LITERALS],
-    goal: &[u16; BOOK_LITERALS],
-    want: &[u32; BOOK_LITERALS],
-    c: usize,
-    d: usize,
-) -> bool
-    ensures { result ≡ same_clause
-        (clause_read (lent variants.now flags.now len.now kind.now goal.now
-        want.now) c)
-        (clause_read (lent variants.now flags.now len.now kind.now goal.now
-        want.now) d) }
-{
-    if variant_of(variants, c) != variant_of(variants, d) {
-        return false;
+    pub fn same_clause(&self, c: usize, d: usize) -> bool
+        ensures { result ≡ same_clause (clause_read (lent_by self.now) c) (clause_read (lent_by self.now) d) }
+    {
+        self.variant(c) == self.variant(d)
+            && self.cannot_prove(c) == self.cannot_prove(d)
+            && self.gives_outsized(c) == self.gives_outsized(d)
+            && self.same_literals(c, d)
     }
-    if !same_flag(cannot_prove(flags, c), cannot_prove(flags, d)) {
-        return false;
-    }
-    if !same_flag(gives_outsized(flags, c), gives_outsized(flags, d)) {
-        return false;
-    }
-    same_literals(len, kind, goal, want, c, d)
 }

@@ -9,7 +9,6 @@ use mathlib.Core.Option.{Option, none, some}
 use mathlib.Core.List.{List, [], ◌∷◌, ◌++◌}
 use lib.ListN.{length, length-append, take}
 use lib.Dec.{eqb}
-use borrow.Author.Tests.{ltb-true}
 use Rattle.laws.proofs.All.{all_first, all_rest}
 use Rattle.definitions.specs.Text.{ascii, decimal}
 use Rattle.definitions.specs.Refusal.{Refusable, refused, accepted}
@@ -30,7 +29,6 @@ use Rattle.pen.proofs.Putting.{Stands, put_fits, put_finds_room}
 use Rattle.paper_checks.proofs.Spreading as spreading
 use Rattle.paper_checks.proofs.Spreading.{few_after}
 use Rattle.certify.specs.Words.{spoil_of, reason_words, goal_line, certify_words}
-use Rattle.certify.proofs.Telling.{is_goal}
 
 -- A "not" is in one of 256 clauses, and among eight literals.
 
@@ -92,7 +90,7 @@ module _ (book : Book) (few_clauses : clause_count book ≤ 256) (few_literals :
       omega (arith, decimal_short 1 goal (omega arith), length-append (decimal goal) (ascii " clean\n"))
   line_short goal (some by) h few =
       let reason = reason_words (spoil_of book by) in
-      let below = ltb-true by 64 (is_goal by few) in
+      let below : by < 64 = few in
       omega (
         arith,
         decimal_short 1 goal (omega arith),

@@ -5,89 +5,99 @@
 //     4 spoilt by goal 4: a "not" in clause 0, literal 1
 //
 // One that is refused has its number and the number's sentence.
-ghost use Rattle.std.specs.Prelude.{◌≡◌};
+ghost use Rattle.std.specs.Prelude.{◌≡◌, get_or};
 ghost use Rattle.definitions.specs.Desk.{desk};
-ghost use Rattle.pen.specs.Pen.{pen, put_all};
+ghost use Rattle.pen.specs.Pen.{put_all};
 ghost use Rattle.pen.specs.Goals.{words_from};
-ghost use Rattle.certify.specs.Words.{certify_words};
-ghost use Rattle.certify.specs.Numbers.{reason_told, line_told};
+ghost use Rattle.certify.specs.Words.{not_words, spoilt_words, certify_words};
+ghost use Rattle.certify.specs.Told.{own_words, reason_told, verdict_told, line_told};
+ghost use Rattle.paper_checks.specs.Spoilers.{nothing};
 
-use paper_checks::spoilt;
-use pen::{Streams, refusals};
-use sizes::MOST_GOALS;
+use paper_checks::spoilt::spoilers;
+use paper_checks::{OwnSpoil, Spoiler, Spoilers};
+use pen::Pen;
+
+#[tactic(auto, using(pen::proofs::Putting::put_all_append), unfolding(pen::specs::Pen::put_all))]
+fn a_not(pen: &mut Pen, clause: u8, literal: u8)
+    ensures { pen.new ≡ put_all (not_words clause literal) pen.old }
+{
+    pen.counted(b": a \"not\" in clause ", clause as u64);
+    pen.counted(b", literal ", literal as u64);
+}
 
 // What a goal spoils by itself.
-fn reason(to: Streams, out: &mut [u8], at: usize, what: u8, clause: u8, literal: u8) -> usize
-    ensures { pen out.new result ≡ put_all (reason_told what clause literal) (pen out.old at) }
+fn own_spoil(pen: &mut Pen, own: OwnSpoil)
+    ensures { pen.new ≡ put_all (own_words own) pen.old }
 {
-    if what == 1 {
-        return pen::text(to, out, at, b": coinductive");
+    match own {
+        OwnSpoil::Coinductive => pen.text(b": coinductive"),
+        OwnSpoil::Negative { clause, literal } => a_not(pen, clause, literal),
     }
-    if what == 2 {
-        let placed = pen::counted(to, out, at, b": a \"not\" in clause ", clause as u64);
-        return pen::counted(to, out, placed, b", literal ", literal as u64);
-    }
-    at
 }
 
-// A goal, and the number of the goal that spoils it.
-fn goal_line(
-    to: Streams,
-    out: &mut [u8],
-    at: usize,
-    what: &[u8; MOST_GOALS],
-    clause: &[u8; MOST_GOALS],
-    literal: &[u8; MOST_GOALS],
-    goal: usize,
-    by: u8,
-) -> usize
-    ensures { pen out.new result
-        ≡ put_all (line_told what.now clause.now literal.now goal by) (pen out.old at) }
+#[tactic(auto, using(pen::proofs::Putting::put_nothing))]
+fn reason(pen: &mut Pen, own: Option<OwnSpoil>)
+    ensures { pen.new ≡ put_all (reason_told own) pen.old }
 {
-    let named = pen::number(to, out, at, goal as u64);
-    let b = by as usize;
-    if b >= 64 {
-        return pen::text(to, out, named, b" clean\n");
+    match own {
+        Some(own) => own_spoil(pen, own),
+        None => {}
     }
-    let spoilt = pen::counted(to, out, named, b" spoilt by goal ", by as u64);
-    let told = reason(to, out, spoilt, what[b], clause[b], literal[b]);
-    pen::text(to, out, told, b"\n")
 }
 
-fn goal_lines(
-    to: Streams,
-    out: &mut [u8],
-    at: usize,
-    what: &[u8; MOST_GOALS],
-    clause: &[u8; MOST_GOALS],
-    literal: &[u8; MOST_GOALS],
-    by: &[u8],
-) -> usize
-    ensures { pen out.new result
-        ≡ put_all (words_from (line_told what.now clause.now literal.now) 0 by.now)
-        (pen out.old at) }
+fn own_of(s: &Spoilers, goal: u8) -> Option<OwnSpoil>
+    ensures { result ≡ (get_or s.now.told goal nothing).own }
 {
-    let mut used = at;
-    let mut g: usize = 0;
-    while g < by.len() {
-        used = goal_line(to, out, used, what, clause, literal, g, by[g]);
-        g += 1;
-    }
-    used
+    let told = s.told.get(goal as usize).copied();
+    told.unwrap_or(Spoiler {
+        by: None,
+        own: None,
+    })
+    .own
 }
 
-// What is said of a byte string, put down from the start of the buffer on.
-pub(crate) fn say(to: Streams, out: &mut [u8], bytes: &[u8]) -> usize
-    ensures { pen out.new result ≡ put_all (certify_words (desk bytes.now)) (pen out.old 0) }
+// By which goal another one is spoilt, and what that one spoils by.
+#[tactic(auto, using(pen::proofs::Putting::put_all_append), unfolding(pen::specs::Pen::put_all))]
+fn spoilt(pen: &mut Pen, by: u8, own: Option<OwnSpoil>)
+    ensures { pen.new ≡ put_all (spoilt_words by (reason_told own)) pen.old }
 {
-    let s = spoilt::spoilers(bytes);
-    if s.number != 0 {
-        return refusals::refusal(to, out, 0, s.number);
+    pen.counted(b" spoilt by goal ", by as u64);
+    reason(pen, own);
+    pen.text(b"\n");
+}
+
+fn verdict(pen: &mut Pen, s: &Spoilers, by: Option<u8>)
+    ensures { pen.new ≡ put_all (verdict_told s.now.told by) pen.old }
+{
+    match by {
+        Some(by) => spoilt(pen, by, own_of(s, by)),
+        None => pen.text(b" clean\n"),
     }
-    let goals = s.goals;
-    let by = s.by;
-    let what = s.what;
-    let clause = s.clause;
-    let literal = s.literal;
-    goal_lines(to, out, 0, &what, &clause, &literal, &by[..goals])
+}
+
+#[tactic(auto, using(pen::proofs::Putting::put_all_append), unfolding(pen::specs::Pen::put_all, crate::specs::Told::line_told))]
+fn goal_line(pen: &mut Pen, s: &Spoilers, goal: usize, spoiler: Spoiler)
+    ensures { pen.new ≡ put_all (line_told s.now.told goal spoiler) pen.old }
+{
+    pen.number(goal as u64);
+    verdict(pen, s, spoiler.by);
+}
+
+#[tactic(auto, using(pen::proofs::Goals::words_start, pen::proofs::Goals::words_next))]
+fn goal_lines(pen: &mut Pen, s: &Spoilers, goals: &[Spoiler])
+    ensures { pen.new ≡ put_all (words_from (line_told s.now.told) 0 goals.now) pen.old }
+{
+    for (goal, spoiler) in goals.iter().enumerate() {
+        goal_line(pen, s, goal, *spoiler);
+    }
+}
+
+// What is said of a byte string.
+pub(crate) fn say(pen: &mut Pen, bytes: &[u8])
+    ensures { pen.new ≡ put_all (certify_words (desk bytes.now)) pen.old }
+{
+    match spoilers(bytes) {
+        Ok(s) => goal_lines(pen, &s, &s.told[..s.goals]),
+        Err(refusal) => pen.refusal(u8::from(refusal)),
+    }
 }

@@ -10,7 +10,7 @@
 mod lines;
 
 use intake::input;
-use pen::Streams;
+use pen::{Pen, Streams};
 use sizes::READ_AHEAD;
 
 // What an input says is settled by its first 20,480 bytes (`desk_take`, in the proofs of `definitions`): what follows is not read. The
@@ -18,8 +18,9 @@ use sizes::READ_AHEAD;
 // could be written is known.
 fn answer(to: Streams, bytes: &[u8]) {
     let mut out = [0u8; 4096];
-    let used = lines::say(to, &mut out, bytes);
-    if !pen::flush(to, &out, used) {
+    let mut pen = Pen::new(to, &mut out);
+    lines::say(&mut pen, bytes);
+    if !pen.flush() {
         let _ = eprintln!(to.errors; "certify: the lines can't be written");
     }
 }
@@ -30,12 +31,11 @@ fn main(rt: HostRuntime) {
         errors: rt.stderr(),
     };
     let mut bytes = [0u8; READ_AHEAD];
-    let got = input(&mut rt.stdin(), &mut bytes);
     // Where the input can't be read, that is said, and nothing is taken for a book.
-    if !got.whole {
-        let _ = eprintln!(to.errors; "certify: the input can't be read");
-        return;
+    match input(&mut rt.stdin(), &mut bytes) {
+        Ok(count) => answer(to, &bytes[..count]),
+        Err(_) => {
+            let _ = eprintln!(to.errors; "certify: the input can't be read");
+        }
     }
-    let n = got.count;
-    answer(to, &bytes[..n]);
 }

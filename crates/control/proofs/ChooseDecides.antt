@@ -9,6 +9,7 @@ use mathlib.Core.Path.{◌≡◌, refl, sym, ap, ap₂, subst, ◌∙◌}
 use lib.Dec.{eqb, leb, ltb}
 use lib.ListN.{length, get_or}
 use borrow.Author.Tests.{ltb-true}
+use Rattle.std.specs.Prelude.{Option, Some, None}
 use Rattle.definitions.specs.{TimeStamp, is_complete}
 use Rattle.definitions.specs as said
 use Rattle.definitions.specs.Stack.{Stack}
@@ -79,18 +80,18 @@ module _ (time : TimeStamp) (clocks : ℕ → TimeStamp) (s : Strand) (a b : Ans
   push_alike true t = refl
   push_alike false t = refl
 
-  coinductive_alike : (negative over : Bool) (r : Strand)
-      → meaning time clocks (coinductive_by negative over s r a) ≡ meaning time clocks (coinductive_by negative over s r b)
-  coinductive_alike true over r = refl
-  coinductive_alike false true r = refl
-  coinductive_alike false false r = refl
+  coinductive_alike : (negative : Bool) (d : Option Strand)
+      → meaning time clocks (coinductive_by negative d s a) ≡ meaning time clocks (coinductive_by negative d s b)
+  coinductive_alike true d = refl
+  coinductive_alike false None = refl
+  coinductive_alike false (Some t) = refl
 
   look_alike : (off all : Bool) (t height : ℕ) (complete : Bool) (live : ℕ) (late : Bool)
       → meaning time clocks (selected_deed (on_stack_by off all t height) s a complete live late)
       ≡ meaning time clocks (selected_deed (on_stack_by off all t height) s b complete live late)
   look_alike true all t height complete live late = push_alike late t
   look_alike false true t height complete live late =
-      coinductive_alike (is_negative (meant (chosen s))) (goal_delayed s).over (goal_delayed s).strand
+      coinductive_alike (is_negative (meant (chosen s))) (goal_delayed s)
   look_alike false false t height complete live late = refl
 
 -- the goals of a book that has at most 64, without one of them

@@ -6,6 +6,7 @@ use mathlib.Core.Path.{◌≡◌, refl, sym, subst}
 use lib.Dec.{eqb, leb, ltb}
 use lib.ListN.{length, get_or}
 use borrow.Author.Tests.{ltb-true}
+use Rattle.std.specs.Prelude.{Option, Some, None}
 use Rattle.definitions.specs.Fitting.{answer_fits, is_trivial}
 use Rattle.definitions.specs.Lists.{is_empty}
 use Rattle.asserts.specs.Sound.{SoundStrand, Selects}
@@ -85,14 +86,13 @@ module _ (s : Strand) (a : Answer) where
   not_none false true = tt
   not_none false false = tt
 
-  into_none : (fits over : Bool) (t : Strand) (copies : Bool) (copy : Strand) → StoresNone (merge_into_by fits over s t a copies copy)
-  into_none true true t copies copy = tt
-  into_none true false t copies copy = tt
-  into_none false over t copies copy = tt
+  into_none : (fits : Bool) (d : Option Strand) (copies : Bool) (copy : Strand) → StoresNone (merge_into_by fits d s a copies copy)
+  into_none true None copies copy = tt
+  into_none true (Some t) copies copy = tt
+  into_none false d copies copy = tt
 
   taken_none : (l : Literal) (copies : Bool) (copy : Strand) → StoresNone (merge_into s a l copies copy)
-  taken_none l copies copy =
-      into_none (answer_fits (meant l) a.variant) (take_answer a (deselected s)).over (take_answer a (deselected s)).strand copies copy
+  taken_none l copies copy = into_none (answer_fits (meant l) a.variant) (take_answer a (deselected s)) copies copy
 
   positive_none : (trivial full : Bool) (l : Literal) → StoresNone (merge_positive_by trivial full s a l)
   positive_none true full l = taken_none l false s
@@ -107,10 +107,10 @@ module _ (s : Strand) (a : Answer) where
   merge_none true live = tt
   merge_none false live = literal_none (is_negative (meant (chosen s))) live
 
-  coinductive_none : (negative over : Bool) (t : Strand) → StoresNone (coinductive_by negative over s t a)
-  coinductive_none true over t = tt
-  coinductive_none false true t = tt
-  coinductive_none false false t = tt
+  coinductive_none : (negative : Bool) (d : Option Strand) → StoresNone (coinductive_by negative d s a)
+  coinductive_none true d = tt
+  coinductive_none false None = tt
+  coinductive_none false (Some t) = tt
 
   push_none : (late : Bool) (t : ℕ) → StoresNone (push_table late t s a)
   push_none true t = tt
@@ -119,7 +119,7 @@ module _ (s : Strand) (a : Answer) where
   selected_none : (look : Look) (complete : Bool) (live : ℕ) (late : Bool) → StoresNone (selected_deed look s a complete live late)
   selected_none (looks.Answer place) complete live late = merge_none (complete && a.ambiguous) live
   selected_none looks.Coinductive complete live late =
-      coinductive_none (is_negative (meant (chosen s))) (goal_delayed s).over (goal_delayed s).strand
+      coinductive_none (is_negative (meant (chosen s))) (goal_delayed s)
   selected_none (looks.Cycle height) complete live late = tt
   selected_none (looks.Push table) complete live late = push_none late table
 
@@ -135,17 +135,17 @@ module _ (s : Strand) (a b : Answer) (complete : Bool) (live : ℕ) (late : Bool
   push_alike true t k = alone_kept _ s a k.strand tt
   push_alike false t k = alone_kept _ s a k.strand tt
 
-  coinductive_alike : (negative over : Bool) (t : Strand)
-      → KeptDecision (coinductive_by negative over s t b) → KeptDecision (coinductive_by negative over s t a)
-  coinductive_alike true over t k = alone_kept _ s a k.strand tt
-  coinductive_alike false true t k = alone_kept _ s a k.strand tt
-  coinductive_alike false false t k = alone_kept _ t a k.strand tt
+  coinductive_alike : (negative : Bool) (d : Option Strand)
+      → KeptDecision (coinductive_by negative d s b) → KeptDecision (coinductive_by negative d s a)
+  coinductive_alike true d k = alone_kept _ s a k.strand tt
+  coinductive_alike false None k = alone_kept _ s a k.strand tt
+  coinductive_alike false (Some t) k = alone_kept _ t a k.strand tt
 
   look_alike : (off all : Bool) (t height : ℕ) → KeptDecision (selected_deed (on_stack_by off all t height) s b complete live late)
       → KeptDecision (selected_deed (on_stack_by off all t height) s a complete live late)
   look_alike true all t height k = push_alike late t k
   look_alike false true t height k =
-      coinductive_alike (is_negative (meant (chosen s))) (goal_delayed s).over (goal_delayed s).strand k
+      coinductive_alike (is_negative (meant (chosen s))) (goal_delayed s) k
   look_alike false false t height k = alone_kept _ s a k.strand tt
 
 -- FOR SOUND STORES, of a choice that is known

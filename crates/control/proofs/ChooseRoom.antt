@@ -8,6 +8,7 @@ use mathlib.Core.Path.{◌≡◌, refl, ap, ◌∙◌}
 use lib.Dec.{eqb, leb, ltb}
 use lib.ListN.{length, length-set}
 use borrow.Author.Tests.{ltb-true, ltb-false, leb-false}
+use Rattle.std.specs.Prelude.{Option, Some, None}
 use Rattle.definitions.specs.Book.{bit1, goal_of}
 use Rattle.definitions.specs.Fitting.{gets_table, answer_fits, is_trivial}
 use Rattle.definitions.specs.Lists.{is_empty, total}
@@ -156,16 +157,14 @@ module _ (s : Strand) (a : Answer) (live : ℕ) where
   not_room false true = none_copied
   not_room false false = none_copied
 
-  into_room_by : (fits over : Bool) (t : Strand) (copies : Bool) (copy : Strand) → (copies ≡ true → live < 256)
-      → Room (merge_into_by fits over s t a copies copy)
-  into_room_by true true t copies copy h = none_copied
-  into_room_by true false t copies copy h = h
-  into_room_by false over t copies copy h = h
+  into_room_by : (fits : Bool) (d : Option Strand) (copies : Bool) (copy : Strand) → (copies ≡ true → live < 256)
+      → Room (merge_into_by fits d s a copies copy)
+  into_room_by true None copies copy h = none_copied
+  into_room_by true (Some t) copies copy h = h
+  into_room_by false d copies copy h = h
 
   into_room : (l : Literal) (copies : Bool) (copy : Strand) → (copies ≡ true → live < 256) → Room (merge_into s a l copies copy)
-  into_room l copies copy h =
-      into_room_by (answer_fits (meant l) a.variant) (take_answer a (deselected s)).over (take_answer a (deselected s)).strand
-      copies copy h
+  into_room l copies copy h = into_room_by (answer_fits (meant l) a.variant) (take_answer a (deselected s)) copies copy h
 
   positive_room : (trivial full : Bool) → leb 256 live ≡ full → (l : Literal) → Room (merge_positive_by trivial full s a l)
   positive_room true full e l = into_room l false s none_copied
@@ -181,10 +180,10 @@ module _ (s : Strand) (a : Answer) (live : ℕ) where
   merge_room true = none_copied
   merge_room false = literal_room (is_negative (meant (chosen s)))
 
-  coinductive_room : (negative over : Bool) (t : Strand) → Room (coinductive_by negative over s t a)
-  coinductive_room true over t = none_copied
-  coinductive_room false true t = none_copied
-  coinductive_room false false t = none_copied
+  coinductive_room : (negative : Bool) (d : Option Strand) → Room (coinductive_by negative d s a)
+  coinductive_room true d = none_copied
+  coinductive_room false None = none_copied
+  coinductive_room false (Some t) = none_copied
 
   push_room : (late : Bool) (t : ℕ) → Room (push_table late t s a)
   push_room true t = none_copied
@@ -193,7 +192,7 @@ module _ (s : Strand) (a : Answer) (live : ℕ) where
   selected_room : (look : Look) (complete late : Bool) → Room (selected_deed look s a complete live late)
   selected_room (looks.Answer place) complete late = merge_room (complete && a.ambiguous)
   selected_room looks.Coinductive complete late =
-      coinductive_room (is_negative (meant (chosen s))) (goal_delayed s).over (goal_delayed s).strand
+      coinductive_room (is_negative (meant (chosen s))) (goal_delayed s)
   selected_room (looks.Cycle height) complete late = none_copied
   selected_room (looks.Push table) complete late = push_room late table
 

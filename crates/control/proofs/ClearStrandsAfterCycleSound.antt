@@ -13,7 +13,7 @@ use Rattle.definitions.specs.Stop.{Stops, stop, go}
 use Rattle.definitions.specs.Lists.{any_passes}
 use Rattle.definitions.specs.Strand.{Strand}
 use Rattle.definitions.specs.Table.{Table}
-use Rattle.small_steps.specs.Decide.{or, strands_left}
+use Rattle.small_steps.specs.Decide.{strands_left}
 use Rattle.rings.specs.Lists.{times}
 use Rattle.rings.specs.Rings.{walk, Chain}
 use Rattle.rings.proofs.Walks.{chain_back}
@@ -25,7 +25,7 @@ use Rattle.rings.proofs.Counts.{is_or_not}
 use Rattle.stores.proofs.PlacesWaiting.{waiting_one}
 use Rattle.stores.proofs.PlacesMoves.{moved_own, moved_other}
 use Rattle.control.specs.declared.clear_strands_after_cycle.Cleared.{Cleared}
-use Rattle.control.specs.ClearStrandsAfterCycle.{taken, rings_in, queue_unless, queue_left, Emptied}
+use Rattle.control.specs.ClearStrandsAfterCycle.{rings_in, queue_unless, queue_left, Emptied}
 
 -- ONE TABLE MORE is emptied
 pub passes_more : (t u : ℕ) (gone : List ℕ) → (u ≡ t → ⊥) → any_passes (eqb u) (t ∷ gone) ≡ any_passes (eqb u) gone

@@ -3,10 +3,10 @@ use Prim.Native.Nat.{ℕ, ◌≤◌, ◌<◌}
 use mathlib.Core.Bool.{Bool, true, false}
 use mathlib.Core.Path.{◌≡◌, sym, ap, ◌∙◌}
 use borrow.Author.Tests.{lt-ltb, le-ltb}
+use Rattle.std.specs.Prelude.{Option, Some, None}
 use Rattle.definitions.specs.{TimeStamp}
 use Rattle.strands.specs.declared.Answer.{Answer}
 use Rattle.strands.specs.declared.Strand.{Strand}
-use Rattle.strands.specs.declared.making.Refinement.{Refinement}
 use Rattle.strands.specs.Making.{refine}
 use Rattle.control.specs.declared.create_refinement_strand.Left.{Left}
 use Rattle.control.specs.declared.decision.Deed.{Deed}
@@ -15,20 +15,18 @@ use Rattle.control.specs.CreateRefinementStrand.{left, answer_left_by, answer_le
 -- `answer_left`
 module _ (x : Answer) (s : Strand) (depth : ℕ) (at : TimeStamp) where
   pub at_caller : 2 ≤ depth → left s at false ≡ answer_left depth x s at
-  at_caller h = sym (ap (λ (b : Bool). answer_left_by b (refine x).made s (refine x).strand at) (le-ltb depth 2 h))
+  at_caller h = sym (ap (λ (b : Bool). answer_left_by b (refine x) s at) (le-ltb depth 2 h))
 
-  at_root : depth < 2 → (r : Refinement) → r ≡ refine x → (b : Bool) → r.made ≡ b
-      → answer_left_by true b s r.strand at ≡ answer_left depth x s at
-  at_root h r e b eb =
-      ap (λ (c : Bool). answer_left_by true c s r.strand at) (sym eb)
-      ∙ ap (λ (f : Refinement). answer_left_by true f.made s f.strand at) e
-      ∙ sym (ap (λ (c : Bool). answer_left_by c (refine x).made s (refine x).strand at) (lt-ltb depth 2 h))
+  at_root : depth < 2 → (r : Option Strand) → r ≡ refine x → answer_left_by true r s at ≡ answer_left depth x s at
+  at_root h r e =
+      ap (λ (q : Option Strand). answer_left_by true q s at) e
+      ∙ sym (ap (λ (c : Bool). answer_left_by c (refine x) s at) (lt-ltb depth 2 h))
 
-  pub refined : depth < 2 → (r : Refinement) → r ≡ refine x → r.made ≡ true → left r.strand 0 true ≡ answer_left depth x s at
-  refined h r e eb = at_root h r e true eb
+  pub refined : depth < 2 → (f : Strand) → Some f ≡ refine x → left f 0 true ≡ answer_left depth x s at
+  refined h f e = at_root h (Some f) e
 
-  pub unrefined : depth < 2 → (r : Refinement) → r ≡ refine x → r.made ≡ false → left s at false ≡ answer_left depth x s at
-  unrefined h r e eb = at_root h r e false eb
+  pub unrefined : depth < 2 → None ≡ refine x → left s at false ≡ answer_left depth x s at
+  unrefined h e = at_root h None e
 
   -- `strand_left`
   module _ (deed : Deed) (gives : Bool) (is : gives ≡ gives_answer deed) where

@@ -8,6 +8,7 @@ use mathlib.Core.Path.{◌≡◌, refl, sym, ap, subst, ◌∙◌}
 use lib.Dec.{eqb, leb, ltb}
 use lib.ListN.{length, get_or}
 use borrow.Author.Tests.{leb-true, leb-false, ltb-true, ltb-false, eqb-true, eqb-false, ne_eqb}
+use Rattle.std.specs.Prelude.{Option, Some, None}
 use Rattle.definitions.specs.{MAX}
 use Rattle.definitions.specs.Fitting.{answer_fits, is_trivial}
 use Rattle.definitions.specs.Lists.{is_empty}
@@ -113,15 +114,13 @@ module _ (depth count clock : ℕ) (p : Places) where
         plain GoesOn t t tt
     not_suits false false = plain GivesUp s s tt
 
-    into_suits_by : (fits over : Bool) (t : Strand) (copies : Bool) (copy : Strand) → Suits a (merge_into_by fits over s t a copies copy)
-    into_suits_by true true t copies copy = plain (Stop 24) s s tt
-    into_suits_by true false t copies copy = record { alone = λ e. absurd (true≢false e); same = λ e. refl; asks = tt }
-    into_suits_by false over t copies copy = record { alone = λ e. absurd (true≢false e); same = λ e. refl; asks = tt }
+    into_suits_by : (fits : Bool) (d : Option Strand) (copies : Bool) (copy : Strand) → Suits a (merge_into_by fits d s a copies copy)
+    into_suits_by true None copies copy = plain (Stop 24) s s tt
+    into_suits_by true (Some t) copies copy = record { alone = λ e. absurd (true≢false e); same = λ e. refl; asks = tt }
+    into_suits_by false d copies copy = record { alone = λ e. absurd (true≢false e); same = λ e. refl; asks = tt }
 
     into_suits : (l : Literal) (copies : Bool) (copy : Strand) → Suits a (merge_into s a l copies copy)
-    into_suits l copies copy =
-        into_suits_by (answer_fits (meant l) a.variant) (take_answer a (deselected s)).over (take_answer a (deselected s)).strand
-        copies copy
+    into_suits l copies copy = into_suits_by (answer_fits (meant l) a.variant) (take_answer a (deselected s)) copies copy
 
     positive_suits : (trivial full : Bool) (l : Literal) → Suits a (merge_positive_by trivial full s a l)
     positive_suits true full l = into_suits l false s
@@ -136,10 +135,10 @@ module _ (depth count clock : ℕ) (p : Places) where
     merge_suits true live = plain GoesOn (flounder (deselected s)) (flounder (deselected s)) tt
     merge_suits false live = literal_suits (is_negative (meant (selecting.chosen s))) live
 
-    coinductive_suits : (negative over : Bool) (t : Strand) → Suits a (coinductive_by negative over s t a)
-    coinductive_suits true over t = plain (Stop 28) s s tt
-    coinductive_suits false true t = plain (Stop 24) s s tt
-    coinductive_suits false false t = plain GoesOn t t tt
+    coinductive_suits : (negative : Bool) (d : Option Strand) → Suits a (coinductive_by negative d s a)
+    coinductive_suits true d = plain (Stop 28) s s tt
+    coinductive_suits false None = plain (Stop 24) s s tt
+    coinductive_suits false (Some t) = plain GoesOn t t tt
 
     push_suits : (late : Bool) → (late ≡ false → clock < MAX) → (table : ℕ) → table < count → depth < 64
         → Suits a (push_table late table s a)
@@ -150,7 +149,7 @@ module _ (depth count clock : ℕ) (p : Places) where
         → Suits a (selected_deed look s a complete live late)
     selected_suits (looks.Answer place) h complete live late in_time = merge_suits (complete && a.ambiguous) live
     selected_suits looks.Coinductive h complete live late in_time =
-        coinductive_suits (is_negative (meant (selecting.chosen s))) (goal_delayed s).over (goal_delayed s).strand
+        coinductive_suits (is_negative (meant (selecting.chosen s))) (goal_delayed s)
     selected_suits (looks.Cycle height) h complete live late in_time = plain (Cycles height) s s h
     selected_suits (looks.Push table) h complete live late in_time = push_suits late in_time table h.0 h.1
 

@@ -9,6 +9,7 @@ use mathlib.Core.Path.{◌≡◌, sym, ap, subst, ◌∙◌}
 use lib.Dec.{ltb}
 use lib.ListN.{get_or}
 use borrow.Author.Tests.{lt-ltb, le-ltb}
+use Rattle.std.specs.Prelude as code
 use Rattle.definitions.specs.{TimeStamp, Minimums, MAX}
 use Rattle.definitions.specs.Book as books
 use Rattle.definitions.specs.Logic.{SolveState, continue, return_ok}
@@ -19,7 +20,7 @@ use Rattle.definitions.specs.Turn.{cycle_minimums, create_refinement_strand}
 use Rattle.small_steps.specs.Acts as split
 use Rattle.strands.specs.declared.Answer.{Answer}
 use Rattle.strands.specs.declared.Strand.{Strand}
-use Rattle.strands.specs.Making.{refinement_by, refine}
+use Rattle.strands.specs.Making.{refinement, refine}
 use Rattle.strands.specs.View.{is_negative, seen, answer}
 use Rattle.strands.proofs.MakeViews.{refine_view}
 use Rattle.stores.specs.Places.{enqueued, free_place}
@@ -157,11 +158,10 @@ pub record Ends (root : Bool) (a : Answer) (s : SolveState) (z : Stores) : Type 
 -- no entry is below the top: it is the root
 module _ (y : Stores) (depth : y.stack.depth ≡ 1) (q : ℕ) (o : Sounds (q ∷ []) y) (idle : get_or y.stack.active 0 0 ≡ 256) (a : Answer)
     (s : Strand) (c : TimeStamp) where
-  root_ends : (made : Bool) (f : Strand) → refinement_by made (seen 0 f) ≡ create_refinement_strand (answer a)
-      → strand_at (first_strands y.book) y.strands q
-      ≡ seen (answer_left_by true made s f c).time (answer_left_by true made s f c).strand
-      → Ends true a (state_above 0 y) (seated_in y (get_or y.stack.table 0 0) q (answer_left_by true made s f c).refines)
-  root_ends true f e shown =
+  root_ends : (r : code.Option Strand) → refinement r ≡ create_refinement_strand (answer a)
+      → strand_at (first_strands y.book) y.strands q ≡ seen (answer_left_by true r s c).time (answer_left_by true r s c).strand
+      → Ends true a (state_above 0 y) (seated_in y (get_or y.stack.table 0 0) q (answer_left_by true r s c).refines)
+  root_ends (code.Some f) e shown =
       let y' : Stores = with_strands (enqueued_strand (get_or y.stack.table 0 0) q y.strands) y in
       let p = queued_sound y q o 0 depth in
       record {
@@ -171,7 +171,7 @@ module _ (y : Stores) (depth : y.stack.depth ≡ 1) (q : ℕ) (o : Sounds (q ∷
             ∙ ap (λ (r : Option held.Strand). record { forest = (refined_by r (state_above 0 y)).forest; stack = [] }) e);
         sound = popped_sound y' 0 depth [] p idle;
       }
-  root_ends false f e shown =
+  root_ends code.None e shown =
       let y' : Stores = with_strands (given q y.strands) y in
       let p = freed_sound y q o in
       record {
@@ -197,7 +197,7 @@ module _ (y : Stores) (n : ℕ) (depth : y.stack.depth ≡ suc (suc n)) (q : ℕ
 -- either, by the depth
 module _ (y : Stores) (q : ℕ) (o : Sounds (q ∷ []) y) (a : Answer) (good : GoodAnswer a) (s : Strand) (c : TimeStamp) where
   abbrev left_by : (root : Bool) → Left
-  left_by root = answer_left_by root (refine a).made s (refine a).strand c
+  left_by root = answer_left_by root (refine a) s c
 
   abbrev shown_by : (root : Bool) → Type 0
   shown_by root = strand_at (first_strands y.book) y.strands q ≡ seen (left_by root).time (left_by root).strand
@@ -209,7 +209,7 @@ module _ (y : Stores) (q : ℕ) (o : Sounds (q ∷ []) y) (a : Answer) (good : G
   answer_ends : (n : ℕ) → y.stack.depth ≡ suc n → get_or y.stack.active n 0 ≡ 256 → ends_by n (ltb y.stack.depth 2)
   answer_ends zero depth idle =
       subst (ends_by 0) (sym (lt-ltb y.stack.depth 2 (omega arith)))
-      (root_ends y depth q o idle a s c (refine a).made (refine a).strand (refine_view a good.sound.delayed_long))
+      (root_ends y depth q o idle a s c (refine a) (refine_view a good.sound.delayed_long))
   answer_ends (suc n) depth idle =
       subst (ends_by (suc n)) (sym (le-ltb y.stack.depth 2 (omega arith))) (λ shown. caller_ends y n depth q o idle a)
 

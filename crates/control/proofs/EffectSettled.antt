@@ -7,10 +7,12 @@ use mathlib.Core.Path.{◌≡◌, refl, sym, ap, subst, ◌∙◌}
 use lib.Dec.{ltb}
 use lib.ListN.{get_or, set}
 use lib.Seq.{set-set}
+use Rattle.std.specs.Prelude.{Option, Some, None}
 use Rattle.definitions.specs.{TimeStamp}
 use Rattle.small_steps.specs.Acts as split
 use Rattle.strands.specs.declared.Strand.{Strand}
 use Rattle.strands.specs.declared.Answer.{Answer}
+use Rattle.strands.specs.Delaying.{strand_or}
 use Rattle.strands.specs.Making.{refine}
 use Rattle.strands.specs.View.{Sound, seen}
 use Rattle.strands.proofs.MakeViews.{refine_sound}
@@ -96,15 +98,16 @@ module _ (z : Stores) (n : ℕ) (depth : z.stack.depth ≡ suc n) (q : ℕ) (o :
   settled_so false room = subst (Settles z n q false c copy time x) (sym alone_is) alone
 
 -- WHAT A TURN LEAVES at the strand's place is sound
-answer_left_sound : (root made : Bool) (s f : Strand) (c : TimeStamp) → Sound s → Sound f → Sound (answer_left_by root made s f c).strand
-answer_left_sound false made s f c o p = o
-answer_left_sound true true s f c o p = p
-answer_left_sound true false s f c o p = o
+answer_left_sound : (root : Bool) (r : Option Strand) (s : Strand) (c : TimeStamp) → Sound s → Sound (strand_or s r)
+    → Sound (answer_left_by root r s c).strand
+answer_left_sound false r s c o p = o
+answer_left_sound true (Some f) s c o p = p
+answer_left_sound true None s c o p = o
 
 left_sound : (gives : Bool) (depth : ℕ) (a : Answer) (s : Strand) (c : TimeStamp) → Sound s
     → Sound (strand_left_by gives depth a s c).strand
 left_sound true depth a s c o =
-    answer_left_sound (ltb depth 2) (refine a).made s (refine a).strand c o (refine_sound a)
+    answer_left_sound (ltb depth 2) (refine a) s c o (refine_sound a s o)
 left_sound false depth a s c o = o
 
 -- A DECISION d about the strand at q, for the top's table t at its clock c: what it leaves there, and the strands settled

@@ -1,12 +1,12 @@
 -- Steps of a turn on the stack, for sound stores: a cycle taken, a push, a pop, and the stack unwound.
-use Prim.Native.Nat.{ℕ, zero, suc, ◌-◌, ◌≤◌, ◌<◌, min}
+use Prim.Native.Nat.{ℕ, zero, suc, ◌-◌, ◌≤◌, ◌<◌}
 use native.Mathlib.Omega.{arith}
 use mathlib.Core.Bool.{Bool, true, false}
 use mathlib.Core.List.{List, [], ◌∷◌, ◌++◌}
 use mathlib.Core.Option.{Option, none, some}
 use mathlib.Core.Path.{◌≡◌, refl, sym, ap, ap₂, subst, ◌∙◌}
 use lib.Dec.{eqb, ltb}
-use lib.ListN.{get_or, get_elem?, set, drop}
+use lib.ListN.{get_or, set}
 use lib.Seq.{get_or-set_same, get_or-set_other}
 use borrow.Author.Tests.{lt-ltb, le-ltb, eqb-true, eqb-false}
 use Rattle.definitions.specs.{TimeStamp, MAX, Minimums}
@@ -21,15 +21,13 @@ use Rattle.definitions.specs.Turn.{cycle_minimums}
 use Rattle.small_steps.specs.Acts as split
 use Rattle.strands.specs.Times.{incremented}
 use Rattle.strands.specs.View.{is_negative}
-use Rattle.stores.specs.declared.places.Places.{Places}
 use Rattle.stores.specs.declared.queue.Strands.{Strands}
 use Rattle.stores.specs.declared.stack.Stack.{Stack}
 use Rattle.stores.specs.Numbers.{within, set_if, add_if}
-use Rattle.stores.specs.Places.{enqueued}
 use Rattle.stores.specs.Queue.{with_places, enqueued_strand}
-use Rattle.stores.specs.Sound.{SoundStrands, SoundStack}
+use Rattle.stores.specs.Sound.{SoundStrands}
 use Rattle.stores.specs.Stack.{pushed, popped}
-use Rattle.stores.specs.View.{FirstStrands, strand_at, active_strand_at, entry_at, entries, entered, active_places}
+use Rattle.stores.specs.View.{FirstStrands, strand_at, entries, active_places}
 use Rattle.stores.proofs.QueueSound.{enqueue_sound}
 use Rattle.stores.proofs.QueueViews.{enqueue_view}
 use Rattle.stores.proofs.StackCallers.{push_places, pop_places}
@@ -37,9 +35,9 @@ use Rattle.stores.proofs.StackViews.{entries_same, minimize_view, minimize_sound
 use Rattle.control.specs.OnPositiveCycle.{minimums_at, cycle_by, top_cycled, cycled}
 use Rattle.control.specs.PerformDeed.{bare}
 use Rattle.control.specs.PerformStrand.{lent_of}
-use Rattle.control.specs.UnwindStack.{enqueued_if, enqueued_back, all_back}
+use Rattle.control.specs.UnwindStack.{enqueued_if, all_back}
 use Rattle.control.specs.InHand.{with_lent, with_strands, with_stack, Sounds, state_above}
-use Rattle.control.specs.Stores.{Stores, first_strands, forest, entries_of, state, held_places}
+use Rattle.control.specs.Stores.{Stores, first_strands, forest, entries_of, state}
 use Rattle.control.proofs.EffectSteps.{forest_is, changed_is, top_changed, one_at_least, last_is, top_idle}
 use Rattle.control.proofs.Stores.{table_held, top_entry, entries_below}
 

@@ -1,15 +1,13 @@
 -- Single steps of a turn, for sound stores with a place in hand: what each leaves is sound, and shows what crate `small_steps` says. From
 -- the theorems of the stores, operation by operation.
-use Prim.Native.Nat.{ℕ, zero, suc, ◌-◌, ◌≤◌, ◌<◌}
+use Prim.Native.Nat.{ℕ, suc, ◌-◌, ◌≤◌, ◌<◌}
 use native.Mathlib.Omega.{arith}
 use mathlib.Core.Bool.{Bool, true, false}
 use mathlib.Core.List.{List, [], ◌∷◌}
 use mathlib.Core.Option.{Option, none, some}
 use mathlib.Core.Path.{◌≡◌, refl, sym, ap, ap₂, subst, ◌∙◌}
-use lib.Dec.{eqb}
-use lib.ListN.{get_or, get_elem?, set}
+use lib.ListN.{get_or, set}
 use borrow.Author.Tests.{ne_eqb}
-use Rattle.definitions.specs.Logic.{SolveState}
 use Rattle.definitions.specs.Stack as said
 use Rattle.definitions.specs.Stack.{with_active, change_top}
 use Rattle.definitions.specs.Stop.{Stops, go}
@@ -36,7 +34,7 @@ use Rattle.stores.proofs.StackCallers.{active_held, activate_places, deactivate_
 use Rattle.stores.proofs.StackViews.{entries_same, entered_away, activate_view, activate_sound}
 use Rattle.stores.proofs.TablesViews.{table_there}
 use Rattle.control.specs.InHand.{with_strands, with_stack, Sounds, state_above}
-use Rattle.control.specs.Stores.{Stores, SoundStores, first_strands, forest, entries_of, state, held_places}
+use Rattle.control.specs.Stores.{Stores, SoundStores, first_strands, forest, state, held_places}
 use Rattle.control.proofs.Stores.{table_held, top_entry, entries_below, entries_made}
 
 -- sound stores are sound with nothing in hand

@@ -1,13 +1,11 @@
 -- Steps of a turn on the top's table, for sound stores: a copy queued, the table floundered, an answer kept, the queue emptied, and the
 -- answer mode changed.
-use Prim.Native.Nat.{ℕ, suc, ◌+◌, ◌%◌, ◌≤◌, ◌<◌}
-use native.Mathlib.Nat.{mod-eq_of_lt}
+use Prim.Native.Nat.{ℕ, suc, ◌<◌}
 use native.Mathlib.Omega.{arith}
-use mathlib.Core.Bool.{Bool, true, false}
-use mathlib.Core.List.{List, [], ◌∷◌, ◌++◌}
+use mathlib.Core.Bool.{Bool, false}
+use mathlib.Core.List.{List, ◌∷◌, ◌++◌}
 use mathlib.Core.Option.{Option, none, some}
 use mathlib.Core.Path.{◌≡◌, refl, sym, ap, ap₂, subst, ◌∙◌}
-use lib.Dec.{eqb}
 use lib.ListN.{get_or, get_elem?, set}
 use lib.Seq.{set-set}
 use borrow.Author.Tests.{ne_eqb}
@@ -28,7 +26,7 @@ use Rattle.stores.specs.declared.places.Places.{Places}
 use Rattle.stores.specs.declared.queue.Strands.{Strands}
 use Rattle.stores.specs.declared.table.Answers.{Answers}
 use Rattle.stores.specs.declared.tables.Tables.{Tables}
-use Rattle.stores.specs.Numbers.{free, written_at}
+use Rattle.stores.specs.Numbers.{free}
 use Rattle.stores.specs.Places.{moved_to, free_place}
 use Rattle.stores.specs.Queue.{with_places, cleared, stored}
 use Rattle.stores.specs.Sound.{SoundStrands, SoundAnswers, GoodAnswer}
@@ -40,14 +38,14 @@ use Rattle.stores.proofs.QueueStores.{HeldStill, stored_grown, stored_view, stor
 use Rattle.stores.proofs.QueueViews.{cleared_view}
 use Rattle.stores.proofs.StackCallers.{entered_holds}
 use Rattle.stores.proofs.StackViews.{entries_same}
-use Rattle.stores.proofs.TableViews.{stored_answer_own, stored_answer_sound, stored_answer_view, cleared_answers_sound, marked_sound}
+use Rattle.stores.proofs.TableViews.{stored_answer_sound, stored_answer_view, cleared_answers_sound, marked_sound}
 use Rattle.stores.proofs.TableViews.{marked_view}
 use Rattle.stores.proofs.TablesViews.{table_there, moded_sound, moded_view}
-use Rattle.control.specs.PerformDeed.{emptied_unless, emptied, emptied_if}
+use Rattle.control.specs.PerformDeed.{emptied_unless, emptied}
 use Rattle.control.specs.PerformStrand.{lent_of}
 use Rattle.control.specs.InHand.{with_lent, with_tables, with_strands, with_answers, Sounds, state_above}
-use Rattle.control.specs.Stores.{Stores, first_strands, forest, state, held_places}
-use Rattle.control.proofs.EffectSteps.{state_is, forest_is, changed_is}
+use Rattle.control.specs.Stores.{Stores, first_strands, forest, held_places}
+use Rattle.control.proofs.EffectSteps.{forest_is, changed_is}
 use Rattle.control.proofs.Stores.{table_held, top_entry, entries_below}
 
 -- the top's table, changed, where the entries show what they did

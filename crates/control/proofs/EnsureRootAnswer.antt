@@ -7,8 +7,9 @@ use mathlib.Core.List.{List, []}
 use mathlib.Core.Option.{Option, none, some}
 use mathlib.Core.Path.{◌≡◌, refl, sym, ap, subst, ◌∙◌}
 use lib.Dec.{ltb}
-use lib.ListN.{length, get_or, get_elem?}
+use lib.ListN.{length, get_or, get_elem?, take}
 use borrow.Author.Tests.{ltb-true, ltb-false, eq-eqb, ne_eqb}
+use Rattle.std.specs.Prelude as code
 use Rattle.definitions.specs.{TimeStamp}
 use Rattle.definitions.specs.Lists.{position}
 use Rattle.definitions.specs.Strand as held
@@ -18,17 +19,17 @@ use Rattle.laws.proofs.All.{all_at}
 use Rattle.laws.proofs.Maps.{get_elem_map}
 use Rattle.small_steps.specs.Acts.{Origin, was_active, was_queued}
 use Rattle.small_steps.specs.Decide.{or, no_strand, table_of, decide_strand}
-use Rattle.strands.specs.declared.Strand.{Strand}
 use Rattle.strands.specs.View.{Sound, seen}
+use Rattle.rings.specs.Rings.{end}
 use Rattle.stores.specs.declared.queue.Spot.{Spot}
 use Rattle.stores.specs.Numbers.{flag, flag_at}
 use Rattle.stores.specs.Places.{ring, first_of}
-use Rattle.stores.specs.Queue.{eligible, test_at, any_strand, strands_of, spot_from}
+use Rattle.stores.specs.Queue.{eligible, test_at, any_strand, strands_of, spot_from, is_found, place_found}
 use Rattle.stores.specs.Sound.{InUse}
 use Rattle.stores.specs.View.{FirstStrands, strand_at, active_strand_at, is_fresh, unread_strand, mode}
 use Rattle.stores.proofs.ListsAlike.{times_at}
 use Rattle.stores.proofs.ListsSpans.{first_if}
-use Rattle.stores.proofs.QueueCases.{spot_is}
+use Rattle.stores.proofs.QueueCases.{spot_by, found_by, spot_is}
 use Rattle.stores.proofs.QueueViews.{first_eligible}
 use Rattle.stores.proofs.StackCallers.{active_held}
 use Rattle.stores.proofs.TablesViews.{flag_at_is}
@@ -102,7 +103,7 @@ module _ (root index first : ℕ) (z : Stores) (o : SoundStores root index first
   abbrev queue : List ℕ
   queue = ring z.strands.places t
 
-  abbrev spot : Spot
+  abbrev spot : code.Option Spot
   spot = spot_from (test_at clock complete z.strands) (get_or z.strands.places.tail t 0) queue
 
   abbrev first_one : ℕ
@@ -134,6 +135,11 @@ module _ (root index first : ℕ) (z : Stores) (o : SoundStores root index first
       (get_elem_map shown queue first_one 0 (ltb-true first_one (length queue) e))
   from_queue_is false e = refl
 
+  taken_spot : (b : Bool) (before p : ℕ) → taken_by b (shown p) (was_queued first_one)
+      ≡ taken_by (is_found (spot_by b before p)) (shown (place_found (spot_by b before p))) (was_queued first_one)
+  taken_spot true before p = refl
+  taken_spot false before p = refl
+
   abbrev active_by : (none_active : Bool) → Option held.Strand
   active_by none_active = elim none_active [ true ↦ none | false ↦ some (shown place) ]
 
@@ -147,8 +153,9 @@ module _ (root index first : ℕ) (z : Stores) (o : SoundStores root index first
       ∙ ap from_queue
       (first_eligible fresh z.tables z.answers z.strands (held_places z) t clock made o.strands any refl)
       ∙ from_queue_is any refl
+      ∙ taken_spot any (end (get_or z.strands.places.tail t 0) (take first_one queue)) (get_or queue first_one 0)
       ∙ sym
-      (ap (λ (x : Spot). taken_by x.found (shown x.place) (was_queued first_one))
+      (ap (λ (x : code.Option Spot). taken_by (is_found x) (shown (place_found x)) (was_queued first_one))
       (spot_is (test_at clock complete z.strands) (get_or z.strands.places.tail t 0) queue))
 
   -- by the numbers of any top
@@ -182,10 +189,14 @@ module _ (root index first : ℕ) (z : Stores) (o : SoundStores root index first
             (sound_stack root index first z o n d).1;
       }
   known_by false e found =
+      let before : ℕ = end (get_or z.strands.places.tail t 0) (take first_one queue) in
       let is = spot_is (test_at clock complete z.strands) (get_or z.strands.places.tail t 0) queue in
-      let there : first_one < length queue = ltb-true first_one (length queue) (sym (ap (λ (x : Spot). x.found) is) ∙ found) in
+      let held : any ≡ true = sym (found_by any before (get_or queue first_one 0)) ∙ sym (ap is_found is) ∙ found in
+      let there : first_one < length queue = ltb-true first_one (length queue) held in
+      let place_is : place_found spot ≡ get_or queue first_one 0 =
+      ap place_found (is ∙ ap (λ (b : Bool). spot_by b before (get_or queue first_one 0)) held) in
       let table = all_at t (searching root index first z o n d).forest.sound_tables (table_found root index first z o t made) in
-      subst Known (sym (ap (λ (x : Spot). x.place) is)) (record {
+      subst Known (sym place_is) (record {
         in_use = o.strands.queued t (get_or queue first_one 0) made (times_at queue first_one there);
         sound = all_at first_one table.sound_strands (get_elem_map shown queue first_one 0 there);
       })

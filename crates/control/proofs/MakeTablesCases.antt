@@ -9,7 +9,6 @@ use lib.ListN.{get_or}
 use Rattle.definitions.specs.Book.{bit0, bit1}
 use Rattle.book.specs.Access.{entry}
 use Rattle.stores.specs.declared.queue.Strands.{Strands}
-use Rattle.stores.specs.declared.tables.Tables.{Tables}
 use Rattle.stores.specs.Numbers.{within, count_after, written_at, flag_number}
 use Rattle.stores.specs.Queue.{clauses_from, fresh_each}
 use Rattle.stores.specs.Tables.{inserted}
@@ -56,13 +55,13 @@ module _ (goal_flags goal_first goal_len clause_variant clause_flags : List ℕ)
 
   -- the loop, at index i
   module _ (goals : List ℕ) where
-    pub tables_step : (left i : ℕ) (m : Tabling) → 0 < left
+    pub tables_step : (left rest i : ℕ) (m : Tabling) → 0 < left → rest ≡ left - 1
         → tables_from goal_flags goal_first goal_len clause_variant clause_flags goals left i m
-        ≡ tables_from goal_flags goal_first goal_len clause_variant clause_flags goals (left - 1) (i + 1)
+        ≡ tables_from goal_flags goal_first goal_len clause_variant clause_flags goals rest (i + 1)
         (table_made goal_flags goal_first goal_len clause_variant clause_flags (get_or goals i 0) m)
-    tables_step zero i m h = absurd (omega arith)
-    tables_step (suc left) i m h =
-        let e : suc left - 1 ≡ left = omega arith in
+    tables_step zero rest i m h on = absurd (omega arith)
+    tables_step (suc left) rest i m h on =
+        let e : rest ≡ left = omega arith in
         ap₂ (λ (l j : ℕ). tables_from goal_flags goal_first goal_len clause_variant clause_flags goals l j
         (table_made goal_flags goal_first goal_len clause_variant clause_flags (get_or goals i 0) m)) (sym e) (sym (add-one i))
 

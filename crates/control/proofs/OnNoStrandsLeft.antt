@@ -26,7 +26,7 @@ use Rattle.small_steps.specs.Acts.{Act}
 use Rattle.small_steps.specs.Decide.{or, no_literal, no_strand, no_selected, table_of, caller_strand, selected_literal}
 use Rattle.small_steps.specs.Decide.{decide_failed, decide_no_strands, decide_part_of_cycle, decide_idle}
 use Rattle.strands.specs.declared.Strand.{Strand}
-use Rattle.strands.specs.View.{selected, is_negative}
+use Rattle.strands.specs.View.{is_negative}
 use Rattle.stores.specs.Numbers.{flag}
 use Rattle.stores.specs.Places.{ring}
 use Rattle.stores.specs.Queue.{is_not, waits_on, waits_for}

@@ -8,6 +8,7 @@ use mathlib.Core.Option.{Option, none, some}
 use mathlib.Core.Path.{◌≡◌, refl, sym, ap, ap₂, ◌∙◌}
 use lib.Dec.{eqb, leb, leb-suc-suc}
 use lib.ListN.{get_elem?}
+use Rattle.std.specs.Prelude as code
 use Rattle.definitions.specs.{TimeStamp, MAX, is_complete}
 use Rattle.definitions.specs as said
 use Rattle.definitions.specs.Book as books
@@ -29,8 +30,7 @@ use Rattle.definitions.proofs.Lists.{take_empty}
 use Rattle.strands.specs.declared.Answer.{Answer}
 use Rattle.strands.specs.declared.Selected.TheVariants.{Nothing}
 use Rattle.strands.specs.declared.Strand.{Strand}
-use Rattle.strands.specs.declared.delaying.Delayed.{Delayed}
-use Rattle.strands.specs.Delaying.{delayed_by, delay_goals}
+use Rattle.strands.specs.Delaying.{delayed, strand_or, delay_goals}
 use Rattle.strands.specs.Fields.{with_selected, next_of}
 use Rattle.strands.specs.Floundering.{flounder}
 use Rattle.strands.specs.Literals.{without_last, last_removed}
@@ -107,21 +107,21 @@ module _ (time : TimeStamp) (clock_at : ℕ → TimeStamp) (s : Strand) (a : Ans
   fitting copy (stop n) = refl
   fitting copy (go x) = refl
 
-  into_means : (over : Bool) (t : Strand) (copies : Bool) (copy : Strand) → Kept (deselected s) t
-      → means (merge_into_by true over s t a copies copy) ≡ going_on (copy_by copies (seen time copy)) (delayed_by over (clause t))
-  into_means true t copies copy k = refl
-  into_means false t copies copy k =
+  into_means : (d : code.Option Strand) (copies : Bool) (copy : Strand) → Kept (deselected s) (strand_or (deselected s) d)
+      → means (merge_into_by true d s a copies copy) ≡ going_on (copy_by copies (seen time copy)) (delayed d)
+  into_means code.None copies copy k = refl
+  into_means (code.Some t) copies copy k =
       ap (λ (r : held.Strand). go (split.goes_on (copy_by copies (seen time copy)) r)) (kept_seen (deselected s) t k time)
 
   module _ (o : Sound s) (left : 0 < s.literal_count) where
-    abbrev taken : Delayed
+    abbrev taken : code.Option Strand
     taken = take_answer a (deselected s)
 
-    into_by_view : (fits copies : Bool) (copy : Strand) → means (merge_into_by fits taken.over s taken.strand a copies copy)
+    into_by_view : (fits copies : Bool) (copy : Strand) → means (merge_into_by fits taken s a copies copy)
         ≡ (applied_by fits (delay (answer a).delayed_subgoals less.ex_clause) >>= after_fit (copy_by copies (seen time copy)))
     into_by_view true copies copy =
         let c : Option held.Strand = copy_by copies (seen time copy) in
-        into_means taken.over taken.strand copies copy (take_kept a (deselected s))
+        into_means taken copies copy (take_kept a (deselected s))
         ∙ ap (going_on c) (take_view a (deselected s) (selected_sound s Nothing o) left)
         ∙ fitting c (delay (answer a).delayed_subgoals less.ex_clause)
     into_by_view false copies copy = refl
@@ -133,7 +133,7 @@ module _ (time : TimeStamp) (clock_at : ℕ → TimeStamp) (s : Strand) (a : Ans
       into_view : (l : Literal) → meant l ≡ positive → (copies : Bool) (copy : Strand)
           → means (merge_into s a l copies copy) ≡ decide_into (copy_by copies (seen time copy)) less positive (answer a)
       into_view l e copies copy =
-          ap (λ (m : books.Literal). means (merge_into_by (answer_fits m a.variant) taken.over s taken.strand a copies copy)) e
+          ap (λ (m : books.Literal). means (merge_into_by (answer_fits m a.variant) taken s a copies copy)) e
           ∙ into_by_view (answer_fits positive a.variant) copies copy
 
       module _ (k : held.SelectedSubgoal) (c : Selects s k) where
@@ -207,25 +207,30 @@ module _ (time : TimeStamp) (clock_at : ℕ → TimeStamp) (s : Strand) (o : Sou
       delay (goal ∷ []) (held.with_subgoals (clause s) (remove (clause s).subgoals i)) >>= λ x. go (split.goes_on none (rest time s x))
   delaying i (books.Negative goal outsized) = stop 28
 
-  cycle_means : (over : Bool) (t : Strand) (a : Answer) → Kept (deselected s) t
-      → meaning time clock_at (coinductive_by false over s t a) ≡
-      (delayed_by over (clause t) >>= λ x. go (split.goes_on none (rest time s x)))
-  cycle_means true t a kept = refl
-  cycle_means false t a kept = ap (λ (r : held.Strand). go (split.goes_on none r)) (kept_seen (deselected s) t kept time)
+  cycle_means : (d : code.Option Strand) (a : Answer) → Kept (deselected s) (strand_or (deselected s) d)
+      → meaning time clock_at (coinductive_by false d s a) ≡ (delayed d >>= λ x. go (split.goes_on none (rest time s x)))
+  cycle_means code.None a kept = refl
+  cycle_means (code.Some t) a kept = ap (λ (r : held.Strand). go (split.goes_on none r)) (kept_seen (deselected s) t kept time)
+
+  -- what is kept of the strand without its literal is kept of the strand
+  kept_still : (d : code.Option Strand) → Kept (last_removed (deselected s)) (strand_or (last_removed (deselected s)) d)
+      → Kept (deselected s) (strand_or (deselected s) d)
+  kept_still code.None k = refl
+  kept_still (code.Some t) k = kept_on (deselected s) (last_removed (deselected s)) t refl k
 
   -- by the literal that is chosen
-  abbrev goal_of_delayed : books.Literal → Delayed
+  abbrev goal_of_delayed : books.Literal → code.Option Strand
   goal_of_delayed l = delay_goals (books.goal_of l ∷ []) (last_removed (deselected s))
 
   abbrev cycle_by : Answer → books.Literal → Stops split.Deed
-  cycle_by a l = meaning time clock_at (coinductive_by (is_negative l) (goal_of_delayed l).over s (goal_of_delayed l).strand a)
+  cycle_by a l = meaning time clock_at (coinductive_by (is_negative l) (goal_of_delayed l) s a)
 
   cycle_view : (a : Answer) (l : books.Literal) → cycle_by a l ≡ delaying (next_subgoal_index (clause s)) l
   cycle_view a (books.Positive goal want outsized) =
       let t : Strand = last_removed (deselected s) in
-      let u : Delayed = delay_goals (goal ∷ []) t in
+      let u : code.Option Strand = delay_goals (goal ∷ []) t in
       let sound : Sound (deselected s) = selected_sound s Nothing o in
-      cycle_means u.over u.strand a (kept_on (deselected s) t u.strand refl (delay_kept (goal ∷ []) t))
+      cycle_means u a (kept_still u (delay_kept (goal ∷ []) t))
       ∙ ap (λ (x : Stops said.ExClause). x >>= λ y. go (split.goes_on none (rest time s y)))
       (delay_view (goal ∷ []) t o.delayed_long ∙ ap (delay (goal ∷ [])) (last_removed_clause (deselected s) sound))
   cycle_view a (books.Negative goal outsized) = refl

@@ -5,6 +5,7 @@ use mathlib.Core.Bool.{Bool, true, false, not, ◌&&◌}
 use mathlib.Core.List.{[], ◌∷◌}
 use mathlib.Core.Path.{◌≡◌, refl}
 use lib.Dec.{eqb, leb}
+use Rattle.std.specs.Prelude.{Option, Some, None}
 use Rattle.definitions.specs.Book.{goal_of}
 use Rattle.definitions.specs.Fitting.{answer_fits, is_trivial}
 use Rattle.book.specs.View.{meant}
@@ -12,7 +13,7 @@ use Rattle.book.specs.declared.Literal.{Literal}
 use Rattle.strands.specs.declared.Answer.{Answer}
 use Rattle.strands.specs.declared.Selected.TheVariants.{Nothing}
 use Rattle.strands.specs.declared.Strand.{Strand}
-use Rattle.strands.specs.declared.delaying.Delayed.{Delayed}
+use Rattle.strands.specs.Delaying.{strand_or}
 use Rattle.strands.specs.Fields.{with_selected, with_ambiguous, next_of}
 use Rattle.strands.specs.Floundering.{flounder}
 use Rattle.strands.specs.Literals.{last_removed}
@@ -47,16 +48,15 @@ module _ (s : Strand) (a : Answer) where
         (ambiguous_sound (last_removed (deselected s)) true (last_removed_sound (deselected s) free)) p
     not_by_sound false false = alone_sound _ s a o p
 
-    into_by_sound : (fits over : Bool) (t : Strand) (copies : Bool) (copy : Strand) → Sound t → Sound copy
-        → SoundDecision (merge_into_by fits over s t a copies copy)
-    into_by_sound true true t copies copy q r = alone_sound _ s a o p
-    into_by_sound true false t copies copy q r = record { strand = q; copy = r; answer = p }
-    into_by_sound false over t copies copy q r = record { strand = o; copy = r; answer = p }
+    into_by_sound : (fits : Bool) (d : Option Strand) (copies : Bool) (copy : Strand) → Sound (strand_or (deselected s) d) → Sound copy
+        → SoundDecision (merge_into_by fits d s a copies copy)
+    into_by_sound true None copies copy q r = alone_sound _ s a o p
+    into_by_sound true (Some t) copies copy q r = record { strand = q; copy = r; answer = p }
+    into_by_sound false d copies copy q r = record { strand = o; copy = r; answer = p }
 
     into_sound : (l : Literal) (copies : Bool) (copy : Strand) → Sound copy → SoundDecision (merge_into s a l copies copy)
     into_sound l copies copy r =
-        let d : Delayed = take_answer a (deselected s) in
-        into_by_sound (answer_fits (meant l) a.variant) d.over d.strand copies copy (take_sound a (deselected s) free) r
+        into_by_sound (answer_fits (meant l) a.variant) (take_answer a (deselected s)) copies copy (take_sound a (deselected s) free) r
 
     positive_by_sound : (trivial full : Bool) (l : Literal) → SoundDecision (merge_positive_by trivial full s a l)
     positive_by_sound true full l = into_sound l false s o
@@ -75,15 +75,16 @@ module _ (s : Strand) (a : Answer) where
     pub merge_answer_sound : (complete : Bool) (live : ℕ) → SoundDecision (merge_answer s a complete live)
     merge_answer_sound complete live = merge_by_sound (complete && a.ambiguous) live
 
-    coinductive_by_sound : (negative over : Bool) (t : Strand) → Sound t → SoundDecision (coinductive_by negative over s t a)
-    coinductive_by_sound true over t q = alone_sound _ s a o p
-    coinductive_by_sound false true t q = alone_sound _ s a o p
-    coinductive_by_sound false false t q = alone_sound GoesOn t a q p
+    coinductive_by_sound : (negative : Bool) (d : Option Strand) → Sound (strand_or (last_removed (deselected s)) d)
+        → SoundDecision (coinductive_by negative d s a)
+    coinductive_by_sound true d q = alone_sound _ s a o p
+    coinductive_by_sound false None q = alone_sound _ s a o p
+    coinductive_by_sound false (Some t) q = alone_sound GoesOn t a q p
 
     pub coinductive_sound : SoundDecision (coinductive s a)
     coinductive_sound =
         let goals = goal_of (meant (chosen s)) ∷ [] in
-        coinductive_by_sound (is_negative (meant (chosen s))) (goal_delayed s).over (goal_delayed s).strand
+        coinductive_by_sound (is_negative (meant (chosen s))) (goal_delayed s)
         (delay_sound goals (last_removed (deselected s)) (last_removed_sound (deselected s) free))
 
     push_sound : (late : Bool) (table : ℕ) → SoundDecision (push_table late table s a)
@@ -104,18 +105,16 @@ module _ (s : Strand) (a : Answer) where
   not_by_leaves false true = alone_leaves GoesOn s (with_ambiguous (last_removed (deselected s)) true) a a a refl refl
   not_by_leaves false false = alone_leaves _ s s a a a refl refl
 
-  into_by_leaves : (fits over : Bool) (t : Strand) (copies : Bool) (copy : Strand) → t.selected ≡ Nothing
-      → (copies ≡ true → copy ≡ with_selected s (next_of s.selected)) → Leaves s a a (merge_into_by fits over s t a copies copy)
-  into_by_leaves true true t copies copy q r = alone_leaves _ s s a a a refl refl
-  into_by_leaves true false t copies copy q r = record { strand = q; copy = r; answer = refl }
-  into_by_leaves false over t copies copy q r = record { strand = refl; copy = r; answer = refl }
+  into_by_leaves : (fits : Bool) (d : Option Strand) (copies : Bool) (copy : Strand) → (strand_or (deselected s) d).selected ≡ Nothing
+      → (copies ≡ true → copy ≡ with_selected s (next_of s.selected)) → Leaves s a a (merge_into_by fits d s a copies copy)
+  into_by_leaves true None copies copy q r = alone_leaves _ s s a a a refl refl
+  into_by_leaves true (Some t) copies copy q r = record { strand = q; copy = r; answer = refl }
+  into_by_leaves false d copies copy q r = record { strand = refl; copy = r; answer = refl }
 
   into_leaves : (l : Literal) (copies : Bool) (copy : Strand) → (copies ≡ true → copy ≡ with_selected s (next_of s.selected))
       → Leaves s a a (merge_into s a l copies copy)
   into_leaves l copies copy r =
-      let d : Delayed = take_answer a (deselected s) in
-      into_by_leaves (answer_fits (meant l) a.variant) d.over d.strand copies copy
-      (take_kept a (deselected s)) r
+      into_by_leaves (answer_fits (meant l) a.variant) (take_answer a (deselected s)) copies copy (take_kept a (deselected s)) r
 
   positive_by_leaves : (trivial full : Bool) (l : Literal) → Leaves s a a (merge_positive_by trivial full s a l)
   positive_by_leaves true full l = into_leaves l false s (λ never. cc)
@@ -135,18 +134,18 @@ module _ (s : Strand) (a : Answer) where
   pub merge_answer_leaves : (complete : Bool) (live : ℕ) → Leaves s a a (merge_answer s a complete live)
   merge_answer_leaves complete live = merge_by_leaves (complete && a.ambiguous) live
 
-  coinductive_by_leaves : (negative over : Bool) (t : Strand) → t.selected ≡ Nothing → Leaves s a a (coinductive_by negative over s t a)
-  coinductive_by_leaves true over t q = alone_leaves _ s s a a a refl refl
-  coinductive_by_leaves false true t q = alone_leaves _ s s a a a refl refl
-  coinductive_by_leaves false false t q = alone_leaves GoesOn s t a a a q refl
+  coinductive_by_leaves : (negative : Bool) (d : Option Strand) → (strand_or (last_removed (deselected s)) d).selected ≡ Nothing
+      → Leaves s a a (coinductive_by negative d s a)
+  coinductive_by_leaves true d q = alone_leaves _ s s a a a refl refl
+  coinductive_by_leaves false None q = alone_leaves _ s s a a a refl refl
+  coinductive_by_leaves false (Some t) q = alone_leaves GoesOn s t a a a q refl
 
   pub coinductive_leaves : Leaves s a a (coinductive s a)
   coinductive_leaves =
       let goals = goal_of (meant (chosen s)) ∷ [] in
       let t : Strand = last_removed (deselected s) in
-      let u : Strand = (goal_delayed s).strand in
-      coinductive_by_leaves (is_negative (meant (chosen s))) (goal_delayed s).over u
-      (kept_on (deselected s) t u refl (delay_kept goals t))
+      coinductive_by_leaves (is_negative (meant (chosen s))) (goal_delayed s)
+      (kept_on (deselected s) t (strand_or t (goal_delayed s)) refl (delay_kept goals t))
 
   push_leaves : (late : Bool) (table : ℕ) → Leaves s a a (push_table late table s a)
   push_leaves true table = alone_leaves _ s s a a a refl refl

@@ -7,6 +7,7 @@ use mathlib.Core.List.{List}
 use mathlib.Core.Path.{◌≡◌, refl, sym, ap, subst}
 use lib.ListN.{get_or}
 use borrow.Author.Tests.{le-ltb}
+use Rattle.std.specs.Prelude as code
 use Rattle.definitions.specs.Turn as turns
 use Rattle.rings.specs.Rings.{place_if}
 use Rattle.stores.specs.declared.places.Places.{Places}
@@ -14,7 +15,7 @@ use Rattle.stores.specs.declared.queue.Spot.{Spot}
 use Rattle.stores.specs.declared.queue.Strands.{Strands}
 use Rattle.stores.specs.Numbers.{flag}
 use Rattle.stores.specs.Places.{ring}
-use Rattle.stores.specs.Queue.{with_places, test_at, taken_strand, strand_place, spot_from}
+use Rattle.stores.specs.Queue.{with_places, test_at, taken_strand, strand_place, spot_from, is_found, place_found}
 use Rattle.stores.specs.QueueInPlace.{InPlace}
 use Rattle.stores.specs.View.{mode}
 use Rattle.stores.proofs.QueueCases.{looked_none, looked_unlinked}
@@ -56,22 +57,22 @@ module _ (root index first : ℕ) (z : Stores) (o : SoundStores root index first
   abbrev SaysOf : Next → (table : ℕ) → Type 0
   SaysOf x table = Says (taken_out x.found x table z.strands) (place_if x.found x.place)
 
-  abbrev spot : Spot
+  abbrev spot : code.Option Spot
   spot = spot_from (test_at clock complete z.strands) (get_or p.tail t 0) (ring p t)
 
   -- what was found is taken, by what `take_strand` gives and leaves
-  taken_by_spot : (b : Bool) → spot.found ≡ b
-      → Says (taken_out b (next_by false 256 spot) t z.strands) (place_if b spot.place)
-  taken_by_spot b e = let (is, left) = two b e in rw (is, left) whole
+  taken_by_spot : (s : code.Option Spot) → spot ≡ s
+      → Says (taken_out (is_found s) (next_by false 256 s) t z.strands) (place_if (is_found s) (place_found s))
+  taken_by_spot s e = let (is, left) = two s e in rw (is, left) whole
     where
       whole : Says (taken_strand clock complete t z.strands) (strand_place clock complete t z.strands)
       whole = in_place (first_strands z.book) z.tables z.answers z.strands (held_places z) t clock
           (table_made root index first z o n d) o.strands
 
-      two : (c : Bool) → spot.found ≡ c → (place_if c spot.place ≡ strand_place clock complete t z.strands)
-          × (taken_out c (next_by false 256 spot) t z.strands ≡ taken_strand clock complete t z.strands)
-      two true f = let l = looked_unlinked (test_at clock complete z.strands) t p f in (l.0, ap (with_places z.strands) l.1)
-      two false f = let l = looked_none (test_at clock complete z.strands) t p f in (l.0, ap (with_places z.strands) l.1)
+      two : (s : code.Option Spot) → spot ≡ s → (place_if (is_found s) (place_found s) ≡ strand_place clock complete t z.strands)
+          × (taken_out (is_found s) (next_by false 256 s) t z.strands ≡ taken_strand clock complete t z.strands)
+      two (code.Some s) f = let l = looked_unlinked (test_at clock complete z.strands) t p s f in (l.0, ap (with_places z.strands) l.1)
+      two code.None f = let l = looked_none (test_at clock complete z.strands) t p f in (l.0, ap (with_places z.strands) l.1)
 
   -- by the numbers of any top
   abbrev next_under : Top → Next
@@ -81,7 +82,7 @@ module _ (root index first : ℕ) (z : Stores) (o : SoundStores root index first
   found_in_place =
       subst (λ (x : Top). SaysOf (next_under x) x.table) (sym (top_is root index first z o n d))
       (subst (λ (b : Bool). SaysOf (next_by b (get_or z.stack.active n 0) spot) t)
-      (sym (le-ltb (get_or z.stack.active n 0) 256 (omega arith))) (taken_by_spot spot.found refl))
+      (sym (le-ltb (get_or z.stack.active n 0) 256 (omega arith))) (taken_by_spot spot refl))
 
   pub control_in_place : TakesInPlace z n
   control_in_place =

@@ -4,6 +4,7 @@ use native.Mathlib.Omega.{arith}
 use mathlib.Core.Option.{Option, none, some}
 use mathlib.Core.Path.{◌≡◌, refl, ap, ◌∙◌}
 use lib.ListN.{length, get_elem?}
+use Rattle.std.specs.Prelude as code
 use Rattle.definitions.specs as said
 use Rattle.definitions.specs.Book as books
 use Rattle.definitions.specs.Slg.{next_subgoal_index}
@@ -11,9 +12,8 @@ use Rattle.definitions.specs.Stop.{go, ◌>>=◌, unwrap}
 use Rattle.definitions.specs.Strand as held
 use Rattle.small_steps.specs.Decide.{or, no_literal, with_literal_floundered}
 use Rattle.book.specs.View.{meant}
+use Rattle.book.specs.declared.Literal.{Literal}
 use Rattle.strands.specs.declared.Strand.{Strand}
-use Rattle.strands.specs.declared.literals.Found.TheVariants as finds
-use Rattle.strands.specs.declared.literals.Found.{Found}
 use Rattle.strands.specs.Floundering.{flounder}
 use Rattle.strands.specs.Literals.{literal_of, subgoal_at, without_last, last_removed}
 use Rattle.strands.specs.View.{Sound, clause}
@@ -25,9 +25,9 @@ use Rattle.control.specs.SelectSubgoal.{chosen_by, chosen}
 
 -- The last literal.
 
-found_means : (f : Found) → meant (chosen_by f) ≡ or no_literal (literal_of f)
-found_means finds.Nothing = refl
-found_means (finds.There l) = refl
+found_means : (f : code.Option Literal) → meant (chosen_by f) ≡ or no_literal (literal_of f)
+found_means code.None = refl
+found_means (code.Some l) = refl
 
 module _ (s : Strand) (o : Sound s) where
   pub chosen_means : meant (chosen s) ≡ last_literal s

@@ -23,7 +23,6 @@ use Rattle.stores.specs.Numbers.{within, flag_at}
 use Rattle.stores.proofs.NumbersSearch.{first_bound}
 use Rattle.control.specs.declared.select_subgoal.Made.{Made}
 use Rattle.control.specs.declared.select_subgoal.Selection.TheVariants as selection
-use Rattle.control.specs.declared.select_subgoal.Selection.{Selection}
 use Rattle.control.specs.declared.select_subgoal.Choice.{Choice}
 use Rattle.control.specs.SelectSubgoal.{chosen, noted_count, note_if, note, made_at, noted_at, table_by, table_number, floundered_by}
 use Rattle.control.specs.SelectSubgoal.{table_floundered, strands_by, live_with, leaves, selects, propagated_by, propagated, made_by}
@@ -225,10 +224,6 @@ module _ (goal floundered : List ℕ) (count : ℕ) (goal_flags goal_len : List 
   pub select_done : (passes : ℕ) (r : Choice) (b : Bool) → (passes ≡ 0 → ⊥) → r ≡ passed goal floundered count goal_flags goal_len c
       → b ≡ goes_on r.selection → b ≡ false → r ≡ from passes c
   select_done passes r b some_left er eb p = er ∙ ap (on_by (passes - 1)) (sym p) ∙ on passes r b some_left er eb
-
--- the choice that the loop is left with, and its outcome
-pub outcome : (x y : Choice) (k j : Selection) → x ≡ y → k ≡ j → leaves k x.strand x ≡ leaves j y.strand y
-outcome x y k j e d = ap₂ (λ (z : Choice) (i : Selection). leaves i z.strand z) e d
 
 -- the search among the goals noted ends within them
 pub noted_within : (g : ℕ) (m : Made) → noted_at g m ≤ 8

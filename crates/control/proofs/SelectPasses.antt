@@ -16,7 +16,7 @@ use Rattle.definitions.specs.Strand as held
 use Rattle.laws.specs.All.{All}
 use Rattle.definitions.proofs.Lists.{is_nil, not_nil}
 use Rattle.asserts.specs.Sound.{SoundClause}
-use Rattle.asserts.proofs.Returning.{late, lates, Returned}
+use Rattle.asserts.proofs.Returning.{lates, Returned}
 use Rattle.small_steps.specs.Decide.{picking, table_of, literal_at, with_literal_floundered, decide_from}
 use Rattle.book.specs.View.{meant}
 use Rattle.strands.specs.declared.Selected.TheVariants.{Nothing, Subgoal}

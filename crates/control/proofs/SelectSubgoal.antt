@@ -1,6 +1,6 @@
 -- `select_subgoal` chooses what `decide_subgoal` of crate `small_steps` decides. Pass by pass: what is left for the definitions to decide
 -- is what is left to do for the choice in hand; what the strand and the goals noted are known to be is kept; and the passes are enough.
-use Prim.Native.Nat.{ℕ, zero, suc, ◌+◌, ◌*◌, ◌<◌, min}
+use Prim.Native.Nat.{ℕ, zero, suc, ◌+◌, ◌*◌, ◌<◌}
 use native.Mathlib.Omega.{arith}
 use mathlib.Core.Path.{◌≡◌, refl, sym, ap, ◌∙◌}
 use mathlib.Core.Bool.{Bool, true, false}

@@ -1,6 +1,6 @@
 -- What sound stores say, with n entries below the top: the top's table is made, the numbers that are lent are the tables' and the book's,
 -- and how many strands are live and answers held is what the definitions count.
-use Prim.Native.Nat.{ℕ, zero, suc, ◌+◌, ◌-◌, ◌≤◌, ◌<◌}
+use Prim.Native.Nat.{ℕ, zero, suc, ◌+◌, ◌≤◌, ◌<◌}
 use native.Mathlib.Omega.{arith}
 use mathlib.Core.Bool.{Bool, true, false}
 use mathlib.Core.List.{List, [], ◌∷◌}
@@ -24,7 +24,7 @@ use Rattle.small_steps.specs.Decide.{or, no_table, table_of}
 use Rattle.small_steps.proofs.Reading.{there_still}
 use Rattle.book.specs.View.{clause_viewed, goal_viewed}
 use Rattle.stores.specs.Numbers.{flag}
-use Rattle.stores.specs.View.{FirstStrands, held_table, tables, entry_at, entries}
+use Rattle.stores.specs.View.{FirstStrands, held_table, entry_at, entries}
 use Rattle.stores.proofs.ListsSpans.{span_at}
 use Rattle.stores.proofs.PlacesViews.{in_use_is}
 use Rattle.stores.proofs.QueueStores.{queued_is}

@@ -1,5 +1,5 @@
 -- What a turn leaves at the strand's place: a refinement strand where the root has its answer.
-use Rattle.std.specs.Prelude.{ℕ, Bool, true, false, ltb}
+use Rattle.std.specs.Prelude.{ℕ, Bool, true, false, ltb, Option, Some, None}
 use Rattle.definitions.specs.{TimeStamp}
 use Rattle.strands.specs.declared.Answer.{Answer}
 use Rattle.strands.specs.declared.Strand.{Strand}
@@ -11,13 +11,13 @@ use Rattle.control.specs.declared.decision.Deed.TheVariants.{Stop, GoesOn, Gives
 abbrev pub left : Strand → TimeStamp → (refines : Bool) → Left
 left s time refines = record { strand = s; time = time; refines = refines }
 
-abbrev pub answer_left_by : (root made : Bool) → (s refinement : Strand) → TimeStamp → Left
-answer_left_by false made s f time = left s time false
-answer_left_by true true s f time = left f 0 true
-answer_left_by true false s f time = left s time false
+abbrev pub answer_left_by : (root : Bool) → (refinement : Option Strand) → (s : Strand) → TimeStamp → Left
+answer_left_by false r s time = left s time false
+answer_left_by true (Some f) s time = left f 0 true
+answer_left_by true None s time = left s time false
 
 abbrev pub answer_left : (depth : ℕ) → Answer → Strand → TimeStamp → Left
-answer_left depth x s time = answer_left_by (ltb depth 2) (refine x).made s (refine x).strand time
+answer_left depth x s time = answer_left_by (ltb depth 2) (refine x) s time
 
 abbrev pub gives_answer : Deed → Bool
 gives_answer (Stop n) = false

@@ -1,6 +1,6 @@
 -- The head of the loop of `ensure_root_answer`: the top of the stack, the strand that it goes on with, and that strand where its place is
 -- fresh.
-use Rattle.std.specs.Prelude.{ℕ, zero, suc, ◌-◌, Bool, true, false, List, eqb, ltb, get_or, set, replicate}
+use Rattle.std.specs.Prelude.{ℕ, zero, suc, ◌-◌, Bool, true, false, List, eqb, ltb, get_or, set, replicate, Option}
 use Rattle.book.specs.Access.{literal_read}
 use Rattle.book.specs.declared.Literal.{Literal}
 use Rattle.sizes.specs.Limits.{most_clauses, most_entries, most_places}
@@ -10,7 +10,7 @@ use Rattle.strands.specs.Fields.{no_literal}
 use Rattle.strands.specs.Making.{blank_strand, strand_of}
 use Rattle.stores.specs.declared.queue.Spot.{Spot}
 use Rattle.stores.specs.Numbers.{waits_fresh, flag_at}
-use Rattle.stores.specs.Queue.{eligible, spot_from}
+use Rattle.stores.specs.Queue.{eligible, spot_from, is_found, place_found, before_found}
 use Rattle.control.specs.declared.ensure_root_answer.Top.{Top}
 use Rattle.control.specs.declared.ensure_root_answer.Next.{Next}
 
@@ -39,9 +39,9 @@ module _ (entry_table entry_clock active complete : List ℕ) (depth : ℕ) wher
 
 -- The strand that it goes on with: the active one, or what the queue was looked along for.
 
-abbrev pub next_by : (active : Bool) → (place : ℕ) → Spot → Next
+abbrev pub next_by : (active : Bool) → (place : ℕ) → Option Spot → Next
 next_by true place s = record { found = true; queued = false; place = place; before = 0 }
-next_by false place s = record { found = s.found; queued = true; place = s.place; before = s.before }
+next_by false place s = record { found = is_found s; queued = true; place = place_found s; before = before_found s }
 
 abbrev pub next_strand : (next tail len time ambiguous : List ℕ) → Top → Next
 next_strand next tail len time ambiguous top =

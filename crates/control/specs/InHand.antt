@@ -1,6 +1,5 @@
 -- Stores while a turn is done: what is lent of them, and when they are sound with places in hand.
-use Rattle.std.specs.Prelude.{ℕ, ◌<◌, List, [], ◌∷◌, ◌++◌, get_or}
-use Rattle.definitions.specs.{TimeStamp}
+use Rattle.std.specs.Prelude.{ℕ, ◌<◌, List, ◌∷◌, ◌++◌, get_or}
 use Rattle.definitions.specs.Logic as logic
 use Rattle.definitions.specs.Logic.{SolveState, continue, return_ok, return_err}
 use Rattle.definitions.specs.Stop.{Stops, stop, go}

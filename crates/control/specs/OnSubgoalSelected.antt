@@ -1,5 +1,5 @@
 -- What a strand that has selected its last literal is decided to do, by what the selected table holds for it.
-use Rattle.std.specs.Prelude.{ℕ, suc, ◌<◌, Bool, true, false, not, ◌&&◌, [], ◌∷◌, map, ◌≡◌, eqb, leb, length}
+use Rattle.std.specs.Prelude.{ℕ, suc, ◌<◌, Bool, true, false, not, ◌&&◌, [], ◌∷◌, map, ◌≡◌, eqb, leb, length, Option, Some, None}
 use Rattle.std.proofs.Math.Option.{none, some}
 use Rattle.std.proofs.Math.ListN.{get_elem?}
 use Rattle.definitions.specs.{TimeStamp}
@@ -15,7 +15,6 @@ use Rattle.book.specs.declared.Literal.{Literal}
 use Rattle.strands.specs.declared.Answer.{Answer}
 use Rattle.strands.specs.declared.Selected.TheVariants as selection
 use Rattle.strands.specs.declared.Strand.{Strand}
-use Rattle.strands.specs.declared.delaying.Delayed.{Delayed}
 use Rattle.strands.specs.Delaying.{delay_goals}
 use Rattle.strands.specs.Fields.{with_selected, with_ambiguous, next_of}
 use Rattle.strands.specs.Floundering.{flounder}
@@ -44,17 +43,15 @@ merge_not_by false false s a = decided GivesUp false s s a
 abbrev pub merge_not : Strand → Answer → Decision
 merge_not s a = merge_not_by (not (eqb a.delayed_count 0)) a.ambiguous s a
 
--- An answer for a positive literal: t is the strand that has taken it, and the copy is made before.
+-- An answer for a positive literal: d is the strand that has taken it, or none, and the copy is made before.
 
-abbrev pub merge_into_by : (fits over : Bool) → (s t : Strand) → Answer → (copies : Bool) → (copy : Strand) → Decision
-merge_into_by true true s t a copies copy = decided (Stop 24) false s s a
-merge_into_by true false s t a copies copy = decided GoesOn copies t copy a
-merge_into_by false over s t a copies copy = decided GivesUp copies s copy a
+abbrev pub merge_into_by : (fits : Bool) → (d : Option Strand) → (s : Strand) → Answer → (copies : Bool) → (copy : Strand) → Decision
+merge_into_by true None s a copies copy = decided (Stop 24) false s s a
+merge_into_by true (Some t) s a copies copy = decided GoesOn copies t copy a
+merge_into_by false d s a copies copy = decided GivesUp copies s copy a
 
 abbrev pub merge_into : Strand → Answer → Literal → (copies : Bool) → (copy : Strand) → Decision
-merge_into s a l copies copy =
-    let d : Delayed = take_answer a (deselected s) in
-    merge_into_by (answer_fits (meant l) a.variant) d.over s d.strand a copies copy
+merge_into s a l copies copy = merge_into_by (answer_fits (meant l) a.variant) (take_answer a (deselected s)) s a copies copy
 
 abbrev pub merge_positive_by : (trivial full : Bool) → Strand → Answer → Literal → Decision
 merge_positive_by true full s a l = merge_into s a l false s
@@ -83,18 +80,18 @@ merge_answer_by false s a live = merge_literal s a live
 abbrev pub merge_answer : Strand → Answer → (complete : Bool) → (live : ℕ) → Decision
 merge_answer s a complete live = merge_answer_by (complete && a.ambiguous) s a live
 
--- `on_coinductive_subgoal`: t is the strand whose goal is delayed.
+-- `on_coinductive_subgoal`: d is the strand whose goal is delayed, or none.
 
-abbrev pub coinductive_by : (negative over : Bool) → (s t : Strand) → Answer → Decision
-coinductive_by true over s t a = decided (Stop 28) false s s a
-coinductive_by false true s t a = decided (Stop 24) false s s a
-coinductive_by false false s t a = decided GoesOn false t t a
+abbrev pub coinductive_by : (negative : Bool) → (d : Option Strand) → (s : Strand) → Answer → Decision
+coinductive_by true d s a = decided (Stop 28) false s s a
+coinductive_by false None s a = decided (Stop 24) false s s a
+coinductive_by false (Some t) s a = decided GoesOn false t t a
 
-abbrev pub goal_delayed : Strand → Delayed
+abbrev pub goal_delayed : Strand → Option Strand
 goal_delayed s = delay_goals (goal_of (meant (chosen s)) ∷ []) (last_removed (deselected s))
 
 abbrev pub coinductive : Strand → Answer → Decision
-coinductive s a = coinductive_by (is_negative (meant (chosen s))) (goal_delayed s).over s (goal_delayed s).strand a
+coinductive s a = coinductive_by (is_negative (meant (chosen s))) (goal_delayed s) s a
 
 -- `on_subgoal_selected`
 

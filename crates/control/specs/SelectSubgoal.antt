@@ -1,6 +1,6 @@
 -- What each function of select_subgoal.rt leaves, in the order of the code, by clauses on its tests' answers; then what a choice means,
 -- what the lent numbers mean, and what is known of a choice.
-use Rattle.std.specs.Prelude.{ℕ, zero, suc, ◌+◌, ◌*◌, ◌-◌, ◌≤◌, ◌<◌, min, Bool, true, false, List, [], ◌∷◌, ◌⊎◌, ◌≡◌, eqb, leb, ltb, length, get_or, set, replicate}
+use Rattle.std.specs.Prelude.{ℕ, zero, suc, ◌+◌, ◌*◌, ◌-◌, ◌≤◌, ◌<◌, min, Bool, true, false, List, [], ◌∷◌, ◌⊎◌, ◌≡◌, eqb, leb, ltb, length, get_or, set, replicate, Option, Some, None}
 use Rattle.std.proofs.Math.Option.{none, some}
 use Rattle.std.proofs.Math.ListN.{get_elem?}
 use Rattle.definitions.specs.{TimeStamp, ExClause}
@@ -22,8 +22,6 @@ use Rattle.book.specs.declared.Literal.{Literal}
 use Rattle.strands.specs.declared.Selected.TheVariants.{Nothing, Subgoal}
 use Rattle.strands.specs.declared.Selected.{Selected}
 use Rattle.strands.specs.declared.Strand.{Strand}
-use Rattle.strands.specs.declared.literals.Found.TheVariants as found
-use Rattle.strands.specs.declared.literals.Found.{Found}
 use Rattle.strands.specs.Fields.{no_literal, with_selected, with_ambiguous}
 use Rattle.strands.specs.Floundering.{flounder, reconsider}
 use Rattle.strands.specs.Literals.{subgoal_at}
@@ -35,9 +33,9 @@ use Rattle.control.specs.declared.select_subgoal.Selection.{Selection}
 use Rattle.control.specs.declared.select_subgoal.Choice.{Choice}
 
 -- the literal that is chosen, the last one; past the end of an array where there is none
-abbrev pub chosen_by : Found → Literal
-chosen_by found.Nothing = no_literal
-chosen_by (found.There l) = l
+abbrev pub chosen_by : Option Literal → Literal
+chosen_by None = no_literal
+chosen_by (Some l) = l
 
 abbrev pub chosen : Strand → Literal
 chosen s = chosen_by (subgoal_at s (next_subgoal_index (clause s)))

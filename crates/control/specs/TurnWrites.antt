@@ -1,8 +1,7 @@
 -- The doing half of a turn put together: what is done to the stores, in the order of the loop, and what that means.
-use Rattle.std.specs.Prelude.{ℕ, ◌%◌, Bool, true, false, List, [], ◌≡◌, get_or, set}
+use Rattle.std.specs.Prelude.{ℕ, ◌%◌, Bool, true, false, [], ◌≡◌, get_or, set}
 use Rattle.definitions.specs.Stop.{◌>>=◌, go}
 use Rattle.small_steps.specs.Acts as split
-use Rattle.strands.specs.declared.Strand.{Strand}
 use Rattle.stores.specs.Numbers.{within}
 use Rattle.stores.specs.Queue.{store, with_places}
 use Rattle.stores.specs.Stack.{caller_place}

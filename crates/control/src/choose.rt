@@ -51,15 +51,15 @@ fn on_stack(
 ) -> Look
     ensures { result ≡ on_stack entry_table.now coinductive.now depth t }
 {
-    let n = upto(depth);
-    let height = first_of(entry_table, depth, t);
-    if height >= n {
-        return Look::Push(t);
+    match first_of(entry_table, depth, t) {
+        None => Look::Push(t),
+        Some(height) => {
+            if coinductive_from(entry_table, coinductive, height, depth) {
+                return Look::Coinductive;
+            }
+            Look::Cycle(height as u8)
+        }
     }
-    if coinductive_from(entry_table, coinductive, height, depth) {
-        return Look::Coinductive;
-    }
-    Look::Cycle(height as u8)
 }
 
 // The answer at an index of the table, or else where the table is.
@@ -76,11 +76,10 @@ pub fn look_at(
     ensures { result ≡ look_at entry_table.now coinductive.now depth answer_next.now
         answer_tail.now answer_len.now t index }
 {
-    let p = ring_at(answer_next, answer_tail, answer_len, t, index);
-    if p < PLACES {
-        return Look::Answer(p as u8);
+    match ring_at(answer_next, answer_tail, answer_len, t, index) {
+        Some(place) => Look::Answer(place),
+        None => on_stack(t, entry_table, coinductive, depth),
     }
-    on_stack(t, entry_table, coinductive, depth)
 }
 
 fn selected_sight(
@@ -130,7 +129,7 @@ fn answer_sight(
     ensures { result ≡ answer_sight answer_next.now answer_tail.now answer_len.now
         answer_variant.now answer_key.now t x }
 {
-    let p = find_answer(
+    let same = find_answer(
         answer_next,
         answer_tail,
         answer_len,
@@ -139,10 +138,10 @@ fn answer_sight(
         answer_key,
         x,
     );
-    if p < PLACES {
-        return Sight::Same(p as u8);
+    match same {
+        Some(place) => Sight::Same(place),
+        None => Sight::Fresh,
     }
-    Sight::Fresh
 }
 
 fn sight_for(

@@ -30,13 +30,13 @@ fn clear(
 {
     let t = w % 64;
     let k = wide(t);
-    let mut left = len[k];
+    let left = len[k];
     if left == 0 {
         return false;
     }
     let mut p = next[wide(tail[k])];
     ring_move(next, tail, len, t, 64);
-    while left > 0 {
+    for _step in 0..left {
         let waiting = waits[wide(p)];
         if waiting >= 128 {
             return true;
@@ -45,7 +45,6 @@ fn clear(
             return true;
         }
         p = next[wide(p)];
-        left = left - 1;
     }
     false
 }

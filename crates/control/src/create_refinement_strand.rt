@@ -25,35 +25,24 @@ fn answer_left(x: Answer, s: Strand, depth: usize, at: u64) -> Left
             refines: false,
         };
     }
-    let r = create_refinement_strand(x);
-    if r.made {
-        let f = r.strand;
-        return Left {
+    match create_refinement_strand(x) {
+        Some(f) => Left {
             strand: f,
             time: 0,
             refines: true,
-        };
-    }
-    Left {
-        strand: s,
-        time: at,
-        refines: false,
+        },
+        None => Left {
+            strand: s,
+            time: at,
+            refines: false,
+        },
     }
 }
 
 fn gives_answer(deed: Deed) -> bool
     ensures { result ≡ gives_answer deed }
 {
-    match deed {
-        Deed::Stop(_) => false,
-        Deed::GoesOn => false,
-        Deed::GivesUp => false,
-        Deed::Cycles(_) => false,
-        Deed::Pushes(_) => false,
-        Deed::Requeues => false,
-        Deed::Flounders => false,
-        Deed::Answers(_) => true,
-    }
+    matches!(deed, Deed::Answers(_))
 }
 
 pub fn strand_left(deed: Deed, x: Answer, s: Strand, depth: usize, at: u64) -> Left

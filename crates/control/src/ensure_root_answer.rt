@@ -9,6 +9,7 @@ use sizes::{BOOK_LITERALS, MOST_CLAUSES, MOST_ENTRIES, MOST_LITERALS, MOST_TABLE
 use stores::numbers::{NO_PLACE, WAITS_FRESH, flag_at};
 use stores::queue::find_strand;
 use strands::Strand;
+use strands::literals::NO_LITERAL;
 use strands::making::{blank, initial_strand};
 
 // The topmost entry, with the answer mode of its table. `active` is a place, or none where the entry has no active strand.
@@ -90,7 +91,7 @@ pub fn next_strand(
             before: 0,
         };
     }
-    let s = find_strand(
+    let spot = find_strand(
         next,
         tail,
         len,
@@ -100,11 +101,19 @@ pub fn next_strand(
         top.clock,
         top.complete,
     );
-    Next {
-        found: s.found,
-        queued: true,
-        place: s.place,
-        before: s.before,
+    match spot {
+        Some(s) => Next {
+            found: true,
+            queued: true,
+            place: s.place,
+            before: s.before,
+        },
+        None => Next {
+            found: false,
+            queued: true,
+            place: 0,
+            before: 0,
+        },
     }
 }
 
@@ -116,17 +125,9 @@ fn clause_literals(
 ) -> [Literal; MOST_LITERALS]
     ensures { result ≡ clause_literals literal_kind.now literal_goal.now literal_want.now c 8 }
 {
-    let l = Literal {
-        goal: 0,
-        kind: 0,
-        want: 0,
-        high: 0,
-    };
-    let mut literals = [l; MOST_LITERALS];
-    let mut i: usize = 0;
-    while i < MOST_LITERALS {
+    let mut literals = [NO_LITERAL; MOST_LITERALS];
+    for i in 0..MOST_LITERALS {
         literals[i] = literal_at(literal_kind, literal_goal, literal_want, c, i);
-        i += 1;
     }
     literals
 }

@@ -122,11 +122,8 @@ pub fn make_tables(
         (store strands time.old ambiguous.old variant.old waits.old wants.old
         (places next.old tail.old len.old used.old))) }
 {
-    let goals = made.goals;
-    let mut left = within(made.count);
-    let mut i: usize = 0;
     let mut tables = count;
-    while left > 0 {
+    for i in 0..within(made.count) {
         tables = make_table(
             goal,
             coinductive,
@@ -147,10 +144,8 @@ pub fn make_tables(
             clause_variant,
             clause_flags,
             tables,
-            goals[i],
+            made.goals[i],
         );
-        i = i + 1;
-        left = left - 1;
     }
     tables
 }

@@ -45,17 +45,15 @@ fn merge_into(s: Strand, a: Answer, l: Literal, copies: bool, copy: Strand) -> D
     ensures { result ≡ merge_into s a l copies copy }
 {
     if answer_fits(l, a.variant) {
-        let d = take_answer(deselected(s), a);
-        if d.over {
-            return decide_on(Deed::Stop(24), s, a);
-        }
-        let t = d.strand;
-        return Decision {
-            deed: Deed::GoesOn,
-            copies,
-            strand: t,
-            copy,
-            answer: a,
+        return match take_answer(deselected(s), a) {
+            None => decide_on(Deed::Stop(24), s, a),
+            Some(t) => Decision {
+                deed: Deed::GoesOn,
+                copies,
+                strand: t,
+                copy,
+                answer: a,
+            },
         };
     }
     Decision {
@@ -112,12 +110,10 @@ pub fn on_coinductive_subgoal(s: Strand, a: Answer) -> Decision
     }
     let goal = goal_of(l);
     let rest = without_last(deselected(s));
-    let d = delay_goal(rest, goal);
-    if d.over {
-        return decide_on(Deed::Stop(24), s, a);
+    match delay_goal(rest, goal) {
+        None => decide_on(Deed::Stop(24), s, a),
+        Some(t) => decide_on(Deed::GoesOn, t, a),
     }
-    let t = d.strand;
-    decide_on(Deed::GoesOn, t, a)
 }
 
 // A push takes the next time of the clock.

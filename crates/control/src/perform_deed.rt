@@ -186,8 +186,7 @@ fn keep_answer(
         (places answer_next.old answer_tail.old answer_len.old answer_used))) }
 {
     let mut used = answer_used;
-    let q = take_place(answer_next, answer_tail, answer_len, &mut used);
-    let place = (q % 256) as u8;
+    let place = take_place(answer_next, answer_tail, answer_len, &mut used).unwrap_or(0);
     number_answer(answer_variant, answer_key, answer_ambiguous, place, x);
     ring_enqueue(answer_next, answer_tail, answer_len, t, place);
     Kept { place, used }

@@ -116,8 +116,7 @@ fn store_copy(
         (places next.old tail.old len.old used.old))) }
 {
     if copies {
-        let q = take_place(next, tail, len, used);
-        let k = (q % 256) as u8;
+        let k = take_place(next, tail, len, used).unwrap_or(0);
         number_strand(time, ambiguous, variant, waits, wants, k, at, copy);
         ring_enqueue(next, tail, len, t, k);
         return k;

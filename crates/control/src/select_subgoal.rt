@@ -9,12 +9,11 @@ use book::Literal;
 use book::access::{goal_number, is_floundered};
 use book::fitting::gets_table;
 use sizes::{MOST_GOALS, MOST_LITERALS, MOST_TABLES};
-use stores::numbers::{flag_at, upto};
-use stores::tables::index_of;
+use stores::numbers::{first_of, flag_at, upto};
 use strands::fields::{deselected, made_ambiguous, select};
 use strands::floundering::{flounder_subgoal, reconsider_floundered_subgoals};
 use strands::literals::{
-    Found, goal_of, is_negative, last_subgoal, next_subgoal_index, no_floundered, no_subgoals,
+    NO_LITERAL, goal_of, is_negative, last_subgoal, next_subgoal_index, no_floundered, no_subgoals,
 };
 use strands::{Selected, Strand, within};
 
@@ -47,16 +46,7 @@ pub struct Choice {
 pub fn last_literal(s: Strand) -> Literal
     ensures { result ≡ chosen s }
 {
-    let f = last_subgoal(s);
-    match f {
-        Found::Nothing => Literal {
-            goal: 0,
-            kind: 0,
-            want: 0,
-            high: 0,
-        },
-        Found::There(l) => l,
-    }
+    last_subgoal(s).unwrap_or(NO_LITERAL)
 }
 
 // One more goal is noted.
@@ -78,28 +68,22 @@ fn first_noted(made: Made, g: u8) -> usize
     ensures { result ≡ noted_at g made }
 {
     let n = within(made.count);
-    let goals = made.goals;
-    let mut i: usize = 0;
-    while i < n {
-        if goals[i] == g {
+    for i in 0..n {
+        if made.goals[i] == g {
             return i;
         }
-        i = i + 1;
     }
-    i
+    n
 }
 
 // `index_of` among the tables and, after these, those that are to be made; the number of the next one where the goal has none.
 fn table_of(made: Made, goal: &[u8; MOST_TABLES], count: usize, g: u8) -> u8
     ensures { result ≡ table_number goal.now count g made }
 {
-    let n = upto(count);
-    let i = index_of(goal, count, g);
-    if i < n {
-        return i as u8;
+    match first_of(goal, count, g) {
+        Some(i) => i as u8,
+        None => (upto(count) + first_noted(made, g)) as u8,
     }
-    let j = first_noted(made, g);
-    (n + j) as u8
 }
 
 // Whether a table is floundered; one that is to be made has its goal's flag.
@@ -331,12 +315,7 @@ fn pass(
 fn goes_on(k: Selection) -> bool
     ensures { result ≡ goes_on k }
 {
-    match k {
-        Selection::Again => true,
-        Selection::Selected => false,
-        Selection::NotSelected => false,
-        Selection::Stop(_) => false,
-    }
+    matches!(k, Selection::Again)
 }
 
 // How many passes the loop may do: in one call a literal is floundered at most once, which takes two of them.
@@ -370,18 +349,12 @@ pub fn select_subgoal(
         made,
         strand: s,
     };
-    let mut passes = passes_for(s);
-    let selection = loop {
-        if passes == 0 {
-            break Selection::NotSelected;
-        }
-        passes = passes - 1;
+    for _pass in 0..passes_for(s) {
         c = pass(c, goal, floundered, count, goal_flags, goal_len);
-        let k = c.selection;
-        if goes_on(k) {
-            continue;
+        if !goes_on(c.selection) {
+            return c;
         }
-        break k;
-    };
-    Choice { selection, ..c }
+    }
+    let k = Selection::NotSelected;
+    Choice { selection: k, ..c }
 }

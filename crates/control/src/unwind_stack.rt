@@ -20,10 +20,9 @@ pub fn enqueue_active(
     ensures { Rings (enqueued_back table place) next.old tail.old len.old
         next.new tail.new len.new }
 {
-    if place >= 256 {
-        return;
+    if place < 256 {
+        ring_enqueue(next, tail, len, table, place as u8);
     }
-    ring_enqueue(next, tail, len, table, place as u8);
 }
 
 // The active strands of the lowest n entries, from the topmost of them down.
@@ -38,9 +37,7 @@ fn enqueue_below(
     ensures { Rings (all_back entry_table.now active.now (within n))
         next.old tail.old len.old next.new tail.new len.new }
 {
-    let mut i = upto(n);
-    while i > 0 {
-        i = i - 1;
+    for i in (0..upto(n)).rev() {
         enqueue_active(next, tail, len, entry_table[i], active[i]);
     }
 }

@@ -46,17 +46,17 @@ module _ (f : Forest) (table index variant : ℕ) where
   abbrev says_by : (unmade : Bool) → Refusable Bool
   says_by b = unless (b refuses 10 ∷ []) (said.future (view f) table index variant)
 
-  pub says_unmade : f.count ≤ table → FutureSays f table index variant (futures.Refused 10)
+  pub says_unmade : f.stores.tables.count ≤ table → FutureSays f table index variant (futures.Refused 10)
   says_unmade h = record {
-    says = λ s. sym (ap says_by (ap (λ (n : ℕ). leb n table) (tables_counted f) ∙ le-leb f.count table h));
+    says = λ s. sym (ap says_by (ap (λ (n : ℕ). leb n table) (tables_counted f) ∙ le-leb f.stores.tables.count table h));
     unmade = λ _. refl;
   }
 
-  module _ (made : table < f.count) where
+  module _ (made : table < f.stores.tables.count) where
     found_as : (any : Bool) → (Sound f → said.future (view f) table index variant ≡ any)
         → FutureSays f table index variant (futures.Found any)
     found_as any h = record {
-      says = λ s. sym (ap says_by (ap (λ (n : ℕ). leb n table) (tables_counted f) ∙ lt-leb f.count table made) ∙ ap accepted (h s));
+      says = λ s. sym (ap says_by (ap (λ (n : ℕ). leb n table) (tables_counted f) ∙ lt-leb f.stores.tables.count table made) ∙ ap accepted (h s));
       unmade = λ k. absurd (omega (arith, made, k));
     }
 
@@ -75,14 +75,14 @@ module _ (f : Forest) (table index variant : ℕ) where
         s.sounds.strands s.sounds.answers (view f) refl (stored_at table index variant) (queued_at table variant) refl refl
 
     -- no variant is above 65535
-    pub says_large : 65535 < variant → ((q : ℕ) → get_or f.variant q 0 < 65536) → ((q : ℕ) → get_or f.answer_variant q 0 < 65536)
+    pub says_large : 65535 < variant → ((q : ℕ) → get_or f.stores.strands.variant q 0 < 65536) → ((q : ℕ) → get_or f.stores.answers.variant q 0 < 65536)
         → FutureSays f table index variant (futures.Found false)
     says_large large small small' = found_as false (λ s. in_view s ∙ ap₂ (λ (b c : Bool). b || c)
-        (found_none (numbered false f.answer_variant variant f.answer_key 0)
-        (λ q. ne_eqb (get_or f.answer_variant q 0) variant (λ e. omega (arith, e, large, small' q)))
+        (found_none (numbered false f.stores.answers.variant variant f.stores.answers.key 0)
+        (λ q. ne_eqb (get_or f.stores.answers.variant q 0) variant (λ e. omega (arith, e, large, small' q)))
         (drop index (ring z.answers.places table)))
-        (found_none (numbered false f.variant variant f.time 0)
-        (λ q. ne_eqb (get_or f.variant q 0) variant (λ e. omega (arith, e, large, small q)))
+        (found_none (numbered false f.stores.strands.variant variant f.stores.strands.time 0)
+        (λ q. ne_eqb (get_or f.stores.strands.variant q 0) variant (λ e. omega (arith, e, large, small q)))
         (ring z.strands.places table)))
 
     -- the variant, by a number that is the same

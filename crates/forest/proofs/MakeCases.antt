@@ -1,9 +1,9 @@
 -- The ways out of `make_of`, over variables, and the two ways in.
 use Prim.Native.Nat.{ℕ, ◌≤◌, ◌<◌}
 use native.Mathlib.Omega.{arith}
-use mathlib.Core.Bool.{Bool, false, ◌||◌}
+use mathlib.Core.Bool.{Bool, true, ◌||◌}
 use mathlib.Core.List.{List, [], ◌∷◌}
-use mathlib.Core.Path.{◌≡◌, refl, sym, ap, ◌∙◌, subst}
+use mathlib.Core.Path.{◌≡◌, refl, sym, ap, ap₂, ◌∙◌, subst}
 use lib.Dec.{eqb, leb}
 use borrow.Author.Tests.{le-leb, lt-leb, eq-eqb, ne_eqb}
 use Rattle.definitions.specs.{MAX}
@@ -19,7 +19,9 @@ use Rattle.asserts.proofs.Reading.{bare_sound, made_sound}
 use Rattle.asserts.specs.Sound.{SoundForest}
 use Rattle.book.specs.View as books
 use Rattle.book.specs.declared.Book.{Book}
-use Rattle.book.specs.declared.Reading.{Reading}
+use Rattle.book.specs.declared.refusal.Refusal.{Refusal}
+use Rattle.book.specs.Refusals.{number}
+use Rattle.std.proofs.Common.{Result, Ok, Err}
 use Rattle.book.proofs.Course.{blank_sound}
 use Rattle.stores.specs.declared.queue.Strands.{Strands}
 use Rattle.stores.specs.declared.table.Answers.{Answers}
@@ -48,21 +50,6 @@ WasMade makings.Made = Unit {0}
 abbrev number_in : Making → ℕ
 number_in (makings.Refused n) = n
 number_in makings.Made = 0
-
--- the stores that are put together
-pub bare_is : (b : Book) (limit mark : ℕ) (ts : Tables) → ts ≡ blank_tables → (s : Strands) → s ≡ blank_strands → (a : Answers)
-    → a ≡ blank_answers → forest_with b ts s a limit mark ≡ bare b limit mark
-bare_is b limit mark ts et s es a ea =
-    ap (λ (u : Tables). forest_with b u s a limit mark) et
-    ∙ ap (λ (u : Strands). forest_with b blank_tables u a limit mark) es
-    ∙ ap (λ (u : Answers). forest_with b blank_tables blank_strands u limit mark) ea
-
-pub refused_is : (n : ℕ) (b : Book) (f : Forest) → f ≡ bare b 0 n
-    → ◌≡◌ {A = Made} (record { making = makings.Refused n; forest = f }) (refused_with n b)
-refused_is n b f e = ap (λ (g : Forest). record { making = makings.Refused n; forest = g }) e
-
-pub limit_refused_is : (b : Book) → b ≡ books.blank → (m : Made) → m ≡ refused_with 13 b → m ≡ refused_with 13 books.blank
-limit_refused_is b eb m e = e ∙ ap (refused_with 13) eb
 
 -- blank stores are sound, with any book
 pub bare_sounds : (b : Book) (limit mark : ℕ) → Sounds [] (stores_in (bare b limit mark))
@@ -99,89 +86,54 @@ module _ (limit : ℕ) where
   abbrev limited : (zero large : Bool) → said_book.Book → Refusable tables.Forest
   limited zero large book = unless ((zero || large) refuses 13 ∷ []) (begun book)
 
-  module _ (r : Reading) where
+  -- refused as it was read
+  pub says_unread : (e : Refusal) → (m : Made) → m ≡ refused_with (number e) books.blank → MakeOfSays (Err e) limit m
+  says_unread e m is = subst (MadeSays (refused (number e))) (sym is) (refused_says (refused (number e)) (number e) refl)
+
+  module _ (b : Book) where
     abbrev what : Refusable tables.Forest
-    what = said.make_of (books.seen r) limit
+    what = limited (eqb limit 0) (leb MAX limit) (books.view b)
 
-    -- the book's number
-    pub says_unread : Stems r → 0 < r.number → (m : Made) → m ≡ refused_with r.number r.book → MakeOfSays r limit m
-    says_unread h some m is =
-        let blank = ap (refused_with r.number) (h.bare (λ e. omega (arith, e, some))) in
-        subst (MadeSays what) (sym (is ∙ blank)) (refused_says what r.number
-        (sym (ap (λ (b : Bool). said.make_of (books.seen_by b r) limit) (ne_eqb r.number 0 (λ e. omega (arith, e, some))))))
+    -- the limit is 0, or the largest number
+    pub says_limited : (zero large : Bool) → eqb limit 0 ≡ zero → leb MAX limit ≡ large → (zero || large) ≡ true → (m : Made)
+        → m ≡ refused_with 13 books.blank → MakeOfSays (Ok b) limit m
+    says_limited zero large ez el e m is =
+        subst (MadeSays what) (sym is) (refused_says what 13
+        (sym (ap₂ (λ (x y : Bool). limited x y (books.view b)) ez el
+        ∙ ap (λ (x : Bool). unless (x refuses 13 ∷ []) (begun (books.view b))) e)))
 
-    module _ (read : r.number ≤ 0) where
-      make_is : limited (eqb limit 0) (leb MAX limit) (books.view r.book) ≡ what
-      make_is = sym (ap (λ (b : Bool). said.make_of (books.seen_by b r) limit) (eq-eqb r.number 0 (omega (arith, read))))
+    -- made
+    module _ (some : limit ≡ 0 → ⊥) (low : limit < MAX) where
+      is_made : accepted (view (bare b limit 0)) ≡ what
+      is_made = sym (ap₂ (λ (x y : Bool). limited x y (books.view b)) (ne_eqb limit 0 some) (lt-leb MAX limit low))
 
-      -- the limit's number
-      pub says_zero : limit ≡ 0 → (m : Made) → m ≡ refused_with 13 books.blank → MakeOfSays r limit m
-      says_zero e m is = subst (MadeSays what) (sym is) (refused_says what 13
-          (sym (ap (λ (b : Bool). limited b (leb MAX limit) (books.view r.book)) (eq-eqb limit 0 e)) ∙ make_is))
+      module _ (h : Stems (Ok b)) where
+        rests : Sound (bare b limit 0)
+        rests = record {
+          book = h.sound;
+          sounds = bare_sounds b limit 0;
+          empty = refl;
+          forest = subst (λ (n : ℕ). SoundForest n (view (bare b limit 0)))
+              (length_span (books.goal_viewed b) 0 b.goals)
+              (made_sound h.from.0 limit (view (bare b limit 0))
+              (ap (λ (o : Refusable said_book.Book). said.make_of o limit) h.from.1 ∙ sym is_made));
+        }
 
-      module _ (some : limit ≡ 0 → ⊥) where
-        above : limited false (leb MAX limit) (books.view r.book) ≡ limited (eqb limit 0) (leb MAX limit) (books.view r.book)
-        above = sym (ap (λ (b : Bool). limited b (leb MAX limit) (books.view r.book)) (ne_eqb limit 0 some))
-
-        pub says_large : MAX ≤ limit → (m : Made) → m ≡ refused_with 13 books.blank → MakeOfSays r limit m
-        says_large large m is = subst (MadeSays what) (sym is) (refused_says what 13
-            (sym (ap (λ (b : Bool). limited false b (books.view r.book)) (le-leb MAX limit large)) ∙ above ∙ make_is))
-
-        -- made
-        module _ (low : limit < MAX) where
-          is_made : accepted (view (bare r.book limit 0)) ≡ limited (eqb limit 0) (leb MAX limit) (books.view r.book)
-          is_made = sym (ap (λ (b : Bool). limited false b (books.view r.book)) (lt-leb MAX limit low)) ∙ above
-
-          module _ (h : Stems r) where
-            rests : Sound (bare r.book limit 0)
-            rests =
-                let from = h.from (omega (arith, read)) in
-                record {
-                  book = h.sound (omega (arith, read));
-                  sounds = bare_sounds r.book limit 0;
-                  empty = refl;
-                  forest = subst (λ (n : ℕ). SoundForest n (view (bare r.book limit 0)))
-                      (length_span (books.goal_viewed r.book) 0 r.book.goals)
-                      (made_sound from.0 limit (view (bare r.book limit 0))
-                      (ap (λ (o : Refusable said_book.Book). said.make_of o limit) from.1 ∙ sym is_made));
-                }
-
-            pub says_made : (f : Forest) → f ≡ bare r.book limit 0
-                → MakeOfSays r limit (record { making = makings.Made; forest = f })
-            says_made f is = record {
-              says = ap (λ (g : Forest). accepted (view g)) is ∙ is_made ∙ make_is;
-              sound = subst Sound (sym is) rests;
-              marked = λ n never. absurd (subst WasMade never tt);
-            }
+        pub says_made : (f : Forest) → f ≡ bare b limit 0 → MakeOfSays (Ok b) limit (record { making = makings.Made; forest = f })
+        says_made f is = record {
+          says = ap (λ (g : Forest). accepted (view g)) is ∙ is_made;
+          sound = subst Sound (sym is) rests;
+          marked = λ n never. absurd (subst WasMade never tt);
+        }
 
 -- THE WAYS IN
 
-module _ (bytes : List ℕ) (r : Reading) where
-  -- of a reading that gives a book only if `read` does
-  gives_stems : (given : Refusable said_book.Book) → books.Gives given r
-      → ((b : said_book.Book) → given ≡ accepted b → said_book.read bytes ≡ accepted b) → Stems r
-  gives_stems given h as_read = record {
-    sound = h.sound;
-    from = λ e. (
-      bytes,
-      as_read (books.view r.book) (sym h.means ∙ ap (λ (b : Bool). books.seen_by b r) (eq-eqb r.number 0 e)),
-    );
-    bare = h.bare;
-  }
+module _ (bytes : List ℕ) where
+  module _ (r : Result Book Refusal) where
+    gives_says : (given : Refusable said_book.Book) → books.Gives given r → (limit : ℕ) (m : Made) → MakeOfSays r limit m
+        → MadeSays (said.make_of given limit) m
+    gives_says given h limit m says =
+        subst (λ (o : Refusable said_book.Book). MadeSays (said.make_of o limit) m) h.means says
 
-  gives_says : (given : Refusable said_book.Book) → books.Gives given r → (limit : ℕ) (m : Made) → MakeOfSays r limit m
-      → MadeSays (said.make_of given limit) m
-  gives_says given h limit m says =
-      subst (λ (o : Refusable said_book.Book). MadeSays (said.make_of o limit) m) h.means says
-
-  pub read_stems : books.Read bytes r → Stems r
-  read_stems h = gives_stems (said_book.read bytes) h (λ b e. e)
-
-  pub says_read : books.Read bytes r → (limit : ℕ) (m : Made) → MakeOfSays r limit m → MakeSays bytes limit m
-  says_read h limit m says = gives_says (said_book.read bytes) h limit m says
-
-  pub taken_stems : books.Taken bytes r → Stems r
-  taken_stems h = gives_stems (desk bytes) h (λ b e. (desk_reads bytes b e).0)
-
-  pub says_taken : books.Taken bytes r → (limit : ℕ) (m : Made) → MakeOfSays r limit m → MakeAtDeskSays bytes limit m
-  says_taken h limit m says = gives_says (desk bytes) h limit m says
+    pub says_taken : books.Taken bytes r → (limit : ℕ) (m : Made) → MakeOfSays r limit m → MakeAtDeskSays bytes limit m
+    says_taken h limit m says = gives_says (desk bytes) h limit m says

@@ -58,7 +58,7 @@ tabling_in f = tabling (lent_with f blank_stack).tables (lent_with f blank_stack
 -- with the table of this goal
 abbrev made_for : (g : ℕ) → Forest → Tabling
 made_for g f =
-    tables_from f.goal_flags f.goal_first f.goal_len f.clause_variant f.clause_flags
+    tables_from f.book.goal_flags f.book.goal_first f.book.goal_len f.book.clause_variant f.book.clause_flags
     (g ∷ 0 ∷ 0 ∷ 0 ∷ 0 ∷ 0 ∷ 0 ∷ 0 ∷ []) 1 0 (tabling_in f)
 
 -- a forest with these tables and strands, and this mark
@@ -123,7 +123,7 @@ opened_sound n f goal s h =
     (λ m z. (mark_kept m s).sound) (λ r x. x.kept.sound)
 
 -- FOR A SOUND FOREST
-module _ (f : Forest) (o : Sound f) (goal : ℕ) (named : goal < f.goals) where
+module _ (f : Forest) (o : Sound f) (goal : ℕ) (named : goal < f.book.goals) where
   abbrev z : Stores
   z = stores_in f
 
@@ -137,19 +137,19 @@ module _ (f : Forest) (o : Sound f) (goal : ℕ) (named : goal < f.goals) where
   in_book = omega (arith, o.forest.goals)
 
   -- it has a table, or none
-  index_is : (t : ℕ) → t ≡ first_at (λ i. eqb (get_or f.goal i 0) (goal % 256)) 0 (within f.count)
-      → index_of goal (view f).tables ≡ first_if (ltb t f.count) t
+  index_is : (t : ℕ) → t ≡ first_at (λ i. eqb (get_or f.stores.tables.goal i 0) (goal % 256)) 0 (within f.stores.tables.count)
+      → index_of goal (view f).tables ≡ first_if (ltb t f.stores.tables.count) t
   index_is t e =
       index_of_view (first_strands z.book) z.tables z.strands z.answers goal t o.sounds.tables.few
-      (e ∙ ap (λ (g : ℕ). first_at (λ i. eqb (get_or f.goal i 0) g) 0 (within f.count)) goal_small)
+      (e ∙ ap (λ (g : ℕ). first_at (λ i. eqb (get_or f.stores.tables.goal i 0) g) 0 (within f.stores.tables.count)) goal_small)
 
   -- the strands that are live with it
-  live_counted : (live fresh : ℕ) → live ≡ f.used - get_or f.len free 0
-      → fresh ≡ strands_for f.goal_flags f.goal_len (goal % 256)
+  live_counted : (live fresh : ℕ) → live ≡ f.stores.strands.places.top - get_or f.stores.strands.places.len free 0
+      → fresh ≡ strands_for f.book.goal_flags f.book.goal_len (goal % 256)
       → live + fresh ≡ 0 + queued (grown (view f) goal)
   live_counted live fresh e q =
-      let small = ap (strands_for f.goal_flags f.goal_len) goal_small in
-      let used = in_use_is z.strands.places f.count [] o.sounds.strands.places in
+      let small = ap (strands_for f.book.goal_flags f.book.goal_len) goal_small in
+      let used = in_use_is z.strands.places f.stores.tables.count [] o.sounds.strands.places in
       let waits = queued_is (first_strands z.book) z.tables z.strands z.answers in
       let one = built_counted z o.book [] o.sounds goal named in
       let all = total_append (λ (t : Table). length t.strands) (view f).tables (built (view f).book goal ∷ []) in
@@ -157,7 +157,7 @@ module _ (f : Forest) (o : Sound f) (goal : ℕ) (named : goal < f.goals) where
 
   -- it is made
   module _ (new : index_of goal (view f).tables ≡ none) where
-    room : f.count + 1 ≤ 64
+    room : f.stores.tables.count + 1 ≤ 64
     room =
         let noted : Made = record { count = 1; goals = only } in
         let n = o.forest.goals in
@@ -168,7 +168,7 @@ module _ (f : Forest) (o : Sound f) (goal : ℕ) (named : goal < f.goals) where
           tables_counted f,
         )
 
-    named_each : (j : ℕ) → 0 ≤ j → j < 0 + 1 → get_or only j 0 < f.goals
+    named_each : (j : ℕ) → 0 ≤ j → j < 0 + 1 → get_or only j 0 < f.book.goals
     named_each zero a b = named
     named_each (suc j) a b = absurd (omega arith)
 
@@ -206,19 +206,19 @@ module _ (f : Forest) (goal : ℕ) where
     none_marked : {A : Type 0} → (f.mark ≡ 0 → ⊥) → A
     none_marked m = absurd (m (omega arith))
 
-    tested : Sound f → (missing : Bool) → leb f.goals goal ≡ missing → said.open_goal (view f) goal ≡ unless_named false missing
+    tested : Sound f → (missing : Bool) → leb f.book.goals goal ≡ missing → said.open_goal (view f) goal ≡ unless_named false missing
     tested o missing e =
         ap₂ (λ (b : Bool) (n : ℕ). unless_named (not b) (leb n goal)) is_unmarked o.forest.goals ∙ ap (unless_named false) e
 
-    pub open_missing : f.goals ≤ goal → OpenSays f goal (record { opening = openings.Refused 9; forest = f })
+    pub open_missing : f.book.goals ≤ goal → OpenSays f goal (record { opening = openings.Refused 9; forest = f })
     open_missing h = record {
-      says = λ o. sym (tested o true (le-leb f.goals goal h));
+      says = λ o. sym (tested o true (le-leb f.book.goals goal h));
       sound = λ o. o;
       unchanged = λ n e. refl;
       marked = λ m. none_marked m;
     }
 
-    module _ (named : goal < f.goals) where
+    module _ (named : goal < f.book.goals) where
       -- what is accepted is said where it is what the definitions open
       abbrev accepts : Opening → Forest → said.Opened → Type 0
       accepts x g r = opened_by x (view g) ≡ accepted r
@@ -226,24 +226,24 @@ module _ (f : Forest) (goal : ℕ) where
       comes : (x : Opening) (g : Forest) (r : said.Opened) → accepts x g r → (Sound f → opened 0 (view f) goal ≡ r) → (Sound f → Sound g)
           → OpenSays f goal (record { opening = x; forest = g })
       comes x g r is e s = record {
-        says = λ o. is ∙ ap accepted (sym (e o)) ∙ sym (tested o false (lt-leb f.goals goal named));
+        says = λ o. is ∙ ap accepted (sym (e o)) ∙ sym (tested o false (lt-leb f.book.goals goal named));
         sound = s;
         unchanged = λ n q. absurd (never_refused x (view g) r is n q);
         marked = λ m. none_marked m;
       }
 
-      module _ (t : ℕ) (is : t ≡ first_at (λ i. eqb (get_or f.goal i 0) (goal % 256)) 0 (within f.count)) where
-        pub open_found : t < f.count → OpenSays f goal (record { opening = openings.Table t; forest = f })
+      module _ (t : ℕ) (is : t ≡ first_at (λ i. eqb (get_or f.stores.tables.goal i 0) (goal % 256)) 0 (within f.stores.tables.count)) where
+        pub open_found : t < f.stores.tables.count → OpenSays f goal (record { opening = openings.Table t; forest = f })
         open_found h =
             comes (openings.Table t) f (record { table = go t; forest = view f }) refl
-            (λ o. found_is (view f) goal t (index_is f o goal named t is ∙ ap (λ (b : Bool). first_if b t) (lt-ltb t f.count h)))
+            (λ o. found_is (view f) goal t (index_is f o goal named t is ∙ ap (λ (b : Bool). first_if b t) (lt-ltb t f.stores.tables.count h)))
             (λ o. o)
 
-        module _ (past : f.count ≤ t) (live fresh : ℕ) (lives : live ≡ f.used - get_or f.len free 0)
-            (begins : fresh ≡ strands_for f.goal_flags f.goal_len (goal % 256)) (full : Bool)
+        module _ (past : f.stores.tables.count ≤ t) (live fresh : ℕ) (lives : live ≡ f.stores.strands.places.top - get_or f.stores.strands.places.len free 0)
+            (begins : fresh ≡ strands_for f.book.goal_flags f.book.goal_len (goal % 256)) (full : Bool)
             (test : full ≡ ltb 256 (live + fresh)) where
           none_made : Sound f → index_of goal (view f).tables ≡ none
-          none_made o = index_is f o goal named t is ∙ ap (λ (b : Bool). first_if b t) (le-ltb t f.count past)
+          none_made o = index_is f o goal named t is ∙ ap (λ (b : Bool). first_if b t) (le-ltb t f.stores.tables.count past)
 
           comes_to : Sound f → opened 0 (view f) goal
               ≡ opened_so (view f) goal (stop_if full 22 >> go (length (view f).tables, grown (view f) goal))
@@ -251,9 +251,9 @@ module _ (f : Forest) (goal : ℕ) where
               new_is (view f) goal (none_made o) (in_book f o goal named) full
               (ap (ltb 256) (sym (live_counted f o goal named live fresh lives begins)) ∙ sym test)
 
-          left_sound : (o : Sound f) (r : said.Opened) → opened 0 (view f) goal ≡ r → SoundForest f.goals r.forest
+          left_sound : (o : Sound f) (r : said.Opened) → opened 0 (view f) goal ≡ r → SoundForest f.book.goals r.forest
           left_sound o r e =
-              subst (λ (x : said.Opened). SoundForest f.goals x.forest) e (opened_sound f.goals (view f) goal o.forest named)
+              subst (λ (x : said.Opened). SoundForest f.book.goals x.forest) e (opened_sound f.book.goals (view f) goal o.forest named)
 
           module _ (e : full ≡ true) where
             full_is : Sound f → opened 0 (view f) goal ≡ (record { table = stop 22; forest = with_mark (view f) 22 })
@@ -292,7 +292,7 @@ module _ (f : Forest) (goal : ℕ) where
                 let few = ltb-false 256 (live + fresh) (sym test ∙ e) in
                 omega (arith, live_counted f o goal named live fresh lives begins)
 
-            made_is : Sound f → opened 0 (view f) goal ≡ (record { table = go f.count; forest = view made })
+            made_is : Sound f → opened 0 (view f) goal ≡ (record { table = go f.stores.tables.count; forest = view made })
             made_is o =
                 let counted = tables_counted f in
                 let viewed = made_view f o goal named (none_made o) (fits o) in
@@ -305,15 +305,15 @@ module _ (f : Forest) (goal : ℕ) where
               book = o.book;
               sounds = (made_tabled f o goal named (none_made o) (fits o)).sound;
               empty = refl;
-              forest = left_sound o (record { table = go f.count; forest = view made }) (made_is o);
+              forest = left_sound o (record { table = go f.stores.tables.count; forest = view made }) (made_is o);
             }
 
             pub open_made : (g : Forest) → g ≡ forest_with (made_for (goal % 256) f) f.mark f
-                → OpenSays f goal (record { opening = openings.Table f.count; forest = g })
+                → OpenSays f goal (record { opening = openings.Table f.stores.tables.count; forest = g })
             open_made g q =
-                comes (openings.Table f.count) g (record { table = go f.count; forest = view g }) refl
+                comes (openings.Table f.stores.tables.count) g (record { table = go f.stores.tables.count; forest = view g }) refl
                 (λ o.
-                made_is o ∙ ap (λ (h : Forest). opened_so (view f) goal (go (f.count, view h))) (sym (same o)))
+                made_is o ∙ ap (λ (h : Forest). opened_so (view f) goal (go (f.stores.tables.count, view h))) (sym (same o)))
                 (λ o. subst Sound (sym (same o)) (made_rests o))
               where
                 same : Sound f → g ≡ forest_with (made_for goal f) f.mark f

@@ -52,7 +52,7 @@ module _ (f : Forest) where
     -- how its tests come out
     abbrev pub OpensBy : (goal : ℕ) → (marked missing there full : Bool) → Type 0
     OpensBy goal marked missing there full =
-        (ltb 0 s.course.mark ≡ marked) × (leb f.goals goal ≡ missing) × (ltb (t goal) s.course.count ≡ there)
+        (ltb 0 s.course.mark ≡ marked) × (leb f.book.goals goal ≡ missing) × (ltb (t goal) s.course.count ≡ there)
         × (ltb 256 (live_with (book_in f) (goal % 256) v) ≡ full)
 
     module _ (l : List ℕ) (goal : ℕ) where
@@ -63,19 +63,19 @@ module _ (f : Forest) where
           → OpenSays g goal (told_of (opened_so marked missing there full))
       open_told true missing there full (e1, e2, e3, e4) = open_marked g goal (ltb-true 0 s.course.mark e1)
       open_told false true there full (e1, e2, e3, e4) =
-          open_missing g goal (ltb-false 0 s.course.mark e1) (leb-true f.goals goal e2)
+          open_missing g goal (ltb-false 0 s.course.mark e1) (leb-true f.book.goals goal e2)
       open_told false false true full (e1, e2, e3, e4) =
-          open_found g goal (ltb-false 0 s.course.mark e1) (leb-false f.goals goal e2) (t goal) refl
+          open_found g goal (ltb-false 0 s.course.mark e1) (leb-false f.book.goals goal e2) (t goal) refl
           (ltb-true (t goal) s.course.count e3)
       open_told false false false true (e1, e2, e3, e4) =
-          open_full g goal (ltb-false 0 s.course.mark e1) (leb-false f.goals goal e2) (t goal) refl
-          (ltb-false (t goal) s.course.count e3) (g.used - get_or g.len free 0)
-          (strands_for f.goal_flags f.goal_len (goal % 256)) refl refl true (sym e4) refl
+          open_full g goal (ltb-false 0 s.course.mark e1) (leb-false f.book.goals goal e2) (t goal) refl
+          (ltb-false (t goal) s.course.count e3) (g.stores.strands.places.top - get_or g.stores.strands.places.len free 0)
+          (strands_for f.book.goal_flags f.book.goal_len (goal % 256)) refl refl true (sym e4) refl
           (forest_at f (opened_so false false false true)) refl
       open_told false false false false (e1, e2, e3, e4) =
-          open_made g goal (ltb-false 0 s.course.mark e1) (leb-false f.goals goal e2) (t goal) refl
-          (ltb-false (t goal) s.course.count e3) (g.used - get_or g.len free 0)
-          (strands_for f.goal_flags f.goal_len (goal % 256)) refl refl false (sym e4) refl
+          open_made g goal (ltb-false 0 s.course.mark e1) (leb-false f.book.goals goal e2) (t goal) refl
+          (ltb-false (t goal) s.course.count e3) (g.stores.strands.places.top - get_or g.stores.strands.places.len free 0)
+          (strands_for f.book.goal_flags f.book.goal_len (goal % 256)) refl refl false (sym e4) refl
           (forest_at f (opened_so false false false false)) refl
 
   -- THE WAY OUT of `open`: the call served by itself, from the forest's own stage on

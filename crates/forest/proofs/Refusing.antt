@@ -70,7 +70,7 @@ marked_test (suc n) = ap not (ne_eqb (suc n) 0 (λ e. omega arith)) ∙ sym (lt-
 
 -- a marked forest is refused with 20, whatever it is
 pub marked_refused : (f : Forest) (t i : ℕ) → (f.mark ≡ 0 → ⊥) → refusal_of f t i ≡ 20
-marked_refused f t i m = sym (refusal_marked f.mark f.count f.floundered f.answer_len t i (at f.mark m))
+marked_refused f t i m = sym (refusal_marked f.mark f.stores.tables.count f.stores.tables.floundered f.stores.answers.places.len t i (at f.mark m))
   where
     at : (n : ℕ) → (n ≡ 0 → ⊥) → 0 < n
     at zero m = absurd (m refl)
@@ -81,22 +81,22 @@ module _ (f : Forest) (o : Sound f) (t i : ℕ) where
   abbrev z : Stores
   z = stores_in f
 
-  module _ (there : t < f.count) where
+  module _ (there : t < f.stores.tables.count) where
     pub table_small : t % 256 ≡ t
     table_small = omega (arith, o.sounds.tables.few)
 
-    flag_is : flag_at (t % 256) f.floundered ≡ (table_held z t).floundered
+    flag_is : flag_at (t % 256) f.stores.tables.floundered ≡ (table_held z t).floundered
     flag_is =
-        ap (λ (j : ℕ). flag_at j f.floundered) table_small
+        ap (λ (j : ℕ). flag_at j f.stores.tables.floundered) table_small
         ∙ floundered_view (first_strands z.book) z.tables z.strands z.answers o.sounds.tables t there
 
-    count_is : get_or f.answer_len (t % 256) 0 ≡ length (table_held z t).answers
-    count_is = ap (λ (j : ℕ). get_or f.answer_len j 0) table_small ∙ sym (answers_counted z o.sounds t there)
+    count_is : get_or f.stores.answers.places.len (t % 256) 0 ≡ length (table_held z t).answers
+    count_is = ap (λ (j : ℕ). get_or f.stores.answers.places.len j 0) table_small ∙ sym (answers_counted z o.sounds t there)
 
     is_made : get_elem? (view f).tables t ≡ some (table_held z t)
     is_made = table_there (first_strands z.book) z.tables z.strands z.answers t there
 
-    above_is : index_above (view f) t i ≡ (ltb (get_or f.answer_len (t % 256) 0) i && not (flag_at (t % 256) f.floundered))
+    above_is : index_above (view f) t i ≡ (ltb (get_or f.stores.answers.places.len (t % 256) 0) i && not (flag_at (t % 256) f.stores.tables.floundered))
     above_is =
         ap (λ (x : Option Table). elim x as (λ (y : Option Table). Bool) [
           | none ↦ false
@@ -105,40 +105,40 @@ module _ (f : Forest) (o : Sound f) (t i : ℕ) where
         ∙ ap₂ (λ (n : ℕ) (b : Bool). ltb n i && not b) (sym count_is) (sym flag_is)
 
   module _ {A : Type 0} (rest : List Test) (a : A) where
-    by_missing : (missing : Bool) → leb f.count t ≡ missing
+    by_missing : (missing : Bool) → leb f.stores.tables.count t ≡ missing
         → unless (is_marked (view f) refuses 20 ∷ missing refuses 10 ∷ index_above (view f) t i refuses 11 ∷ rest) a
-        ≡ refused_or (refusal_by (ltb 0 f.mark) missing (flag_at (t % 256) f.floundered)
-        (ltb (get_or f.answer_len (t % 256) 0) i)) rest a
+        ≡ refused_or (refusal_by (ltb 0 f.mark) missing (flag_at (t % 256) f.stores.tables.floundered)
+        (ltb (get_or f.stores.answers.places.len (t % 256) 0) i)) rest a
     by_missing true e =
         ap (λ (m : Bool). tested m true (index_above (view f) t i) rest a) (marked_test f.mark)
-        ∙ missing_tested (ltb 0 f.mark) (flag_at (t % 256) f.floundered) (index_above (view f) t i)
-        (ltb (get_or f.answer_len (t % 256) 0) i) rest a
+        ∙ missing_tested (ltb 0 f.mark) (flag_at (t % 256) f.stores.tables.floundered) (index_above (view f) t i)
+        (ltb (get_or f.stores.answers.places.len (t % 256) 0) i) rest a
     by_missing false e =
-        ap₂ (λ (m b : Bool). tested m false b rest a) (marked_test f.mark) (above_is (leb-false f.count t e))
-        ∙ made_tested (ltb 0 f.mark) (flag_at (t % 256) f.floundered) (ltb (get_or f.answer_len (t % 256) 0) i) rest a
+        ap₂ (λ (m b : Bool). tested m false b rest a) (marked_test f.mark) (above_is (leb-false f.stores.tables.count t e))
+        ∙ made_tested (ltb 0 f.mark) (flag_at (t % 256) f.stores.tables.floundered) (ltb (get_or f.stores.answers.places.len (t % 256) 0) i) rest a
 
     pub refusal_is : unless (is_marked (view f) refuses 20 ∷ not_made (view f) t refuses 10 ∷ index_above (view f) t i refuses 11 ∷ rest) a
         ≡ refused_or (refusal_of f t i) rest a
     refusal_is =
         ap (λ (n : ℕ). tested (is_marked (view f)) (leb n t) (index_above (view f) t i) rest a) (tables_counted f)
-        ∙ by_missing (leb f.count t) refl
+        ∙ by_missing (leb f.stores.tables.count t) refl
 
   -- where none of them refuses, there is the table, and it has the answers below the index
   module _ (e : refusal_of f t i ≡ 0) where
-    passed : (ltb 0 f.mark ≡ false) × (leb f.count t ≡ false)
-        × ((flag_at (t % 256) f.floundered ≡ true) ⊎ (ltb (get_or f.answer_len (t % 256) 0) i ≡ false))
+    passed : (ltb 0 f.mark ≡ false) × (leb f.stores.tables.count t ≡ false)
+        × ((flag_at (t % 256) f.stores.tables.floundered ≡ true) ⊎ (ltb (get_or f.stores.answers.places.len (t % 256) 0) i ≡ false))
     passed =
-        refusal_none (ltb 0 f.mark) (leb f.count t) (flag_at (t % 256) f.floundered)
-        (ltb (get_or f.answer_len (t % 256) 0) i) e
+        refusal_none (ltb 0 f.mark) (leb f.stores.tables.count t) (flag_at (t % 256) f.stores.tables.floundered)
+        (ltb (get_or f.stores.answers.places.len (t % 256) 0) i) e
 
-    pub table_made : t < f.count
-    table_made = leb-false f.count t passed.1
+    pub table_made : t < f.stores.tables.count
+    table_made = leb-false f.stores.tables.count t passed.1
 
-    pub asked_ended : Ended f.goals t i (view f)
+    pub asked_ended : Ended f.book.goals t i (view f)
     asked_ended =
         record { sound = o.forest; own = table_held z t; is_made = is_made table_made; reached = reached_by passed.2 }
       where
-        reached_by : (flag_at (t % 256) f.floundered ≡ true) ⊎ (ltb (get_or f.answer_len (t % 256) 0) i ≡ false)
+        reached_by : (flag_at (t % 256) f.stores.tables.floundered ≡ true) ⊎ (ltb (get_or f.stores.answers.places.len (t % 256) 0) i ≡ false)
             → Reached (table_held z t) i
         reached_by (inl u) = inl (sym (flag_is table_made) ∙ u)
-        reached_by (inr h) = inr (omega (arith, ltb-false (get_or f.answer_len (t % 256) 0) i h, count_is table_made))
+        reached_by (inr h) = inr (omega (arith, ltb-false (get_or f.stores.answers.places.len (t % 256) 0) i h, count_is table_made))

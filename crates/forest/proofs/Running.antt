@@ -30,10 +30,10 @@ use Rattle.forest.specs.declared.searches.Ran.{Ran}
 use Rattle.forest.specs.Searches.{course_in, Carries, RunsWith}
 use Rattle.forest.specs.View.{book_in, lent_with, stores_with, stores_in, view, Sound}
 
-pub tables_counted : (f : Forest) → length (view f).tables ≡ f.count
+pub tables_counted : (f : Forest) → length (view f).tables ≡ f.stores.tables.count
 tables_counted f =
     let z = stores_in f in
-    length_span (held_table (first_strands z.book) z.tables z.strands z.answers) 0 f.count
+    length_span (held_table (first_strands z.book) z.tables z.strands z.answers) 0 f.stores.tables.count
 
 -- stores between two searches hold nothing on their stack, whichever stack that is
 pub rests_bare : (g : Forest) (k : Stack) → Rests (stores_with g k) → Sound g
@@ -44,7 +44,7 @@ rests_bare g k o =
       sounds = record {
         tables = o.sounds.tables;
         strands =
-            subst (λ (n : ℕ). SoundStrands (first_strands (book_in g)) z.strands g.count (active_places k.active n)) o.empty
+            subst (λ (n : ℕ). SoundStrands (first_strands (book_in g)) z.strands g.stores.tables.count (active_places k.active n)) o.empty
             o.sounds.strands;
         answers = o.sounds.answers;
         stack = blank_stack_sound;
@@ -63,7 +63,7 @@ rests_with g k s e o =
       sounds = record {
         tables = o.sounds.tables;
         strands =
-            subst (λ (n : ℕ). SoundStrands (first_strands (book_in g)) z.strands g.count (active_places k.active n)) (sym e)
+            subst (λ (n : ℕ). SoundStrands (first_strands (book_in g)) z.strands g.stores.tables.count (active_places k.active n)) (sym e)
             o.sounds.strands;
         answers = o.sounds.answers;
         stack = s;
@@ -87,26 +87,26 @@ module _ (f : Forest) (asked : Asked) (same : asked.clock_limit ≡ f.clock_limi
           book = x.book i;
           tables = record {
             count = x.count i;
-            goal = g.goal;
-            coinductive = g.coinductive;
-            floundered = g.floundered;
-            complete = g.complete;
+            goal = g.stores.tables.goal;
+            coinductive = g.stores.tables.coinductive;
+            floundered = g.stores.tables.floundered;
+            complete = g.stores.tables.complete;
           };
           strands = record {
-            strands = g.strands;
-            time = g.time;
-            ambiguous = g.ambiguous;
-            variant = g.variant;
-            waits = g.waits;
-            wants = g.wants;
-            places = record { next = g.next; tail = g.tail; len = g.len; top = x.used i };
+            strands = g.stores.strands.strands;
+            time = g.stores.strands.time;
+            ambiguous = g.stores.strands.ambiguous;
+            variant = g.stores.strands.variant;
+            waits = g.stores.strands.waits;
+            wants = g.stores.strands.wants;
+            places = record { next = g.stores.strands.places.next; tail = g.stores.strands.places.tail; len = g.stores.strands.places.len; top = x.used i };
           };
           answers = record {
-            answers = g.answers;
-            variant = g.answer_variant;
-            key = g.answer_key;
-            ambiguous = g.answer_ambiguous;
-            places = record { next = g.answer_next; tail = g.answer_tail; len = g.answer_len; top = x.answer_used i };
+            answers = g.stores.answers.answers;
+            variant = g.stores.answers.variant;
+            key = g.stores.answers.key;
+            ambiguous = g.stores.answers.ambiguous;
+            places = record { next = g.stores.answers.places.next; tail = g.stores.answers.places.tail; len = g.stores.answers.places.len; top = x.answer_used i };
           };
           stack = stack_left c k;
           clock_limit = limit i;
@@ -122,7 +122,7 @@ module _ (f : Forest) (asked : Asked) (same : asked.clock_limit ≡ f.clock_limi
 
   -- WHAT IT IS RUN FROM
   module _ (few : asked.limit ≤ MAX) (no_turn : is_turn asked.mode ≡ false) (index more : ℕ) (k : Stack)
-      (o : Rests (stores_with f k)) (x : Ended f.goals asked.table index (view f)) where
+      (o : Rests (stores_with f k)) (x : Ended f.book.goals asked.table index (view f)) where
     abbrev first : Course
     first = course_in f index more
 
@@ -154,12 +154,12 @@ module _ (f : Forest) (asked : Asked) (same : asked.clock_limit ≡ f.clock_limi
     first_rests : Rests (stores_of (book_in f) asked first_walk)
     first_rests = subst Rests first_is o
 
-    first_ended : Ended f.goals asked.table index (forest (stores_of (book_in f) asked first_walk))
-    first_ended = subst (λ (z : Stores). Ended f.goals asked.table index (forest z)) first_is x
+    first_ended : Ended f.book.goals asked.table index (forest (stores_of (book_in f) asked first_walk))
+    first_ended = subst (λ (z : Stores). Ended f.book.goals asked.table index (forest z)) first_is x
 
     module _ (r : Ran)
-        (h : RunsWith f k asked (start asked f.floundered f.answer_next f.answer_tail f.answer_len f.answer_variant
-        f.answer_key f.answer_ambiguous (course_in f index more)) r) where
+        (h : RunsWith f k asked (start asked f.stores.tables.floundered f.stores.answers.places.next f.stores.answers.places.tail f.stores.answers.places.len f.stores.answers.variant
+        f.stores.answers.key f.stores.answers.ambiguous (course_in f index more)) r) where
       abbrev last : Walk
       last = walk r.course (lent_with r.forest h.stack)
 

@@ -53,8 +53,8 @@ asked_in f mode table limit = record { mode = mode; table = table % 256; limit =
 
 abbrev pub RunsFrom : Forest → Stack → Asked → (index more : ℕ) → Ran → Type 0
 RunsFrom f k asked index more r =
-    RunsWith f k asked (start asked f.floundered f.answer_next f.answer_tail f.answer_len f.answer_variant
-    f.answer_key f.answer_ambiguous (course_in f index more)) r
+    RunsWith f k asked (start asked f.stores.tables.floundered f.stores.answers.places.next f.stores.answers.places.tail f.stores.answers.places.len f.stores.answers.variant
+    f.stores.answers.key f.stores.answers.ambiguous (course_in f index more)) r
 
 -- nothing is refused by the first three, and then the forest is not marked
 module _ (f : Forest) (t i n : ℕ) (is : n ≡ refusal_of f t i) (passes : n ≤ 0) where
@@ -103,7 +103,7 @@ module _ (f : Forest) (t i limit n : ℕ) (is : n ≡ refusal_of f t i) where
           let there = table_made f o t i (none_refuses f t i n is passes) in
           let small = table_small f o t i there in
           let x = search_runs f (asked_in f modes.Search t limit) refl few refl i 0 k (rests o)
-          (subst (λ (j : ℕ). Ended f.goals j i (view f)) (sym small) (asked_ended f o t i (none_refuses f t i n is passes))) r h refl in
+          (subst (λ (j : ℕ). Ended f.book.goals j i (view f)) (sym small) (asked_ended f o t i (none_refuses f t i n is passes))) r h refl in
           (ap (λ (j : ℕ). root_answer limit j i (view f)) (sym small) ∙ x.0, x.1)
 
       pub search_ran : (outcome : Outcome) → outcome ≡ outcome_of r.course.ending
@@ -180,7 +180,7 @@ module _ (f : Forest) (t i rounds limit n : ℕ) (is : n ≡ refusal_of f t i) w
             let there = table_made f o t i (none_refuses f t i n is passes) in
             let small = table_small f o t i there in
             let x = peek_runs f (asked_in f modes.Peek t limit) refl few refl i (rounds - 1) k (rests o)
-            (subst (λ (j : ℕ). Ended f.goals j i (view f)) (sym small) (asked_ended f o t i (none_refuses f t i n is passes))) r h refl
+            (subst (λ (j : ℕ). Ended f.book.goals j i (view f)) (sym small) (asked_ended f o t i (none_refuses f t i n is passes))) r h refl
             (fewer rounds few_rounds) in
             (ap (λ (j : ℕ). peek_rounds (rounds - 1) limit 0 j i (view f)) (sym small) ∙ x.0, x.1)
           where

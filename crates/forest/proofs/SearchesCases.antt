@@ -5,6 +5,7 @@ use mathlib.Core.List.{List}
 use mathlib.Core.Path.{◌≡◌, refl, sym, ap, subst, ◌∙◌}
 use lib.ListN.{replicate}
 use Rattle.definitions.specs.{MAX}
+use Rattle.stores.specs.declared.stack.Stack.{Stack}
 use Rattle.stores.specs.Numbers.{written_at}
 use Rattle.stores.specs.Places.{places}
 use Rattle.stores.specs.Queue.{store}
@@ -15,7 +16,7 @@ use Rattle.control.specs.PerformStrand.{Lent, lent_of}
 use Rattle.search.specs.declared.course.Asked.{Asked}
 use Rattle.search.specs.declared.course.Course.{Course}
 use Rattle.search.specs.RootAnswer.{start}
-use Rattle.search.specs.Walk.{Walk, walk, Comes, is_over}
+use Rattle.search.specs.Walk.{Walk, walk, walking, Comes, is_over}
 use Rattle.forest.specs.declared.Forest.{Forest}
 use Rattle.forest.specs.declared.searches.Ran.{Ran}
 use Rattle.forest.specs.Searches.{course_in, renumbered, rooted, Carries, Runs}
@@ -23,15 +24,15 @@ use Rattle.forest.specs.View.{book_in, lent_with}
 
 module _ (f : Forest) (asked : Asked) where
   abbrev started : Course → Course
-  started d = start asked f.floundered f.answer_next f.answer_tail f.answer_len f.answer_variant f.answer_key
-      f.answer_ambiguous d
+  started d = start asked f.stores.tables.floundered f.stores.answers.places.next f.stores.answers.places.tail f.stores.answers.places.len f.stores.answers.variant f.stores.answers.key
+      f.stores.answers.ambiguous d
 
   -- the course is the one that starts the first search
   pub runs_started : (index more : ℕ) (d : Course) → d ≡ course_in f index more → (c : Course)
-      → c ≡ start asked f.floundered f.answer_next f.answer_tail f.answer_len f.answer_variant f.answer_key
-      f.answer_ambiguous d → (r : Ran) → Runs f asked c r
-      → Runs f asked (start asked f.floundered f.answer_next f.answer_tail f.answer_len f.answer_variant
-      f.answer_key f.answer_ambiguous (course_in f index more)) r
+      → c ≡ start asked f.stores.tables.floundered f.stores.answers.places.next f.stores.answers.places.tail f.stores.answers.places.len f.stores.answers.variant f.stores.answers.key
+      f.stores.answers.ambiguous d → (r : Ran) → Runs f asked c r
+      → Runs f asked (start asked f.stores.tables.floundered f.stores.answers.places.next f.stores.answers.places.tail f.stores.answers.places.len f.stores.answers.variant
+      f.stores.answers.key f.stores.answers.ambiguous (course_in f index more)) r
   runs_started index more d ed c ec r h = subst (λ (x : Course). Runs f asked x r) (ec ∙ ap started ed) h
 
   module _ (c : Course) where
@@ -45,43 +46,23 @@ module _ (f : Forest) (asked : Asked) where
           carries = record { book = refl; limit = refl; mark = refl; count = refl; clock = refl; used = refl; answer_used = refl };
         })
 
-    -- what is lent to the loop: the forest's arrays, the course's numbers, and these entries
-    abbrev pub lent_from : (entry_table entry_clock positive negative active : List ℕ) → Lent
-    lent_from et ec ps ng ac = lent_of (tables_of c.count f.goal f.coinductive f.floundered f.complete)
-        (store f.strands f.time f.ambiguous f.variant f.waits f.wants
-        (places f.next f.tail f.len c.used))
-        (answers_of f.answers f.answer_variant f.answer_key f.answer_ambiguous
-        (places f.answer_next f.answer_tail f.answer_len c.answer_used))
-        (stack_of c.depth et ec ps ng ac) c.clock
+    -- the root's entry is written, so that the loop goes from the rooted stack; and what is left over is what is left of the stack
+    module _ (b : Stack) (eb : b ≡ blank_stack) (k : Stack) (e1 : k.table ≡ written_at 0 asked.table b.table)
+        (e2 : k.clock ≡ written_at 0 c.clock b.clock) (e3 : k.positive ≡ written_at 0 MAX b.positive)
+        (e4 : k.negative ≡ written_at 0 MAX b.negative) (e5 : k.active ≡ written_at 0 256 b.active) where
+      abbrev written : Stack → Stack
+      written x = stack_of 1 (written_at 0 asked.table x.table) (written_at 0 c.clock x.clock) (written_at 0 MAX x.positive)
+          (written_at 0 MAX x.negative) (written_at 0 256 x.active)
 
-    abbrev from : (entry_table entry_clock positive negative active : List ℕ) → Walk
-    from et ec ps ng ac = walk c (lent_from et ec ps ng ac)
-
-    abbrev zeros : List ℕ
-    zeros = replicate 64 0
-
-    module _ (et ec ps ng ac : List ℕ) (e1 : et ≡ written_at 0 asked.table (replicate 64 0))
-        (e2 : ec ≡ written_at 0 c.clock (replicate 64 0)) (e3 : ps ≡ written_at 0 MAX (replicate 64 0))
-        (e4 : ng ≡ written_at 0 MAX (replicate 64 0)) (e5 : ac ≡ written_at 0 256 (replicate 64 256)) where
-      -- the root's entry is written, so that the loop goes from the rooted stack
-      from_root : from et ec ps ng ac ≡ rooted asked (lent_with f blank_stack) c
+      from_root : walking c f.stores k ≡ rooted asked (lent_with f blank_stack) c
       from_root =
-          ap (λ (l : List ℕ). from l ec ps ng ac) e1
-          ∙ ap (λ (l : List ℕ). from (written_at 0 asked.table zeros) l ps ng ac) e2
-          ∙ ap (λ (l : List ℕ). from (written_at 0 asked.table zeros) (written_at 0 c.clock zeros) l ng ac) e3
-          ∙ ap (λ (l : List ℕ). from (written_at 0 asked.table zeros) (written_at 0 c.clock zeros) (written_at 0 MAX zeros) l ac) e4
-          ∙ ap (λ (l : List ℕ). from (written_at 0 asked.table zeros) (written_at 0 c.clock zeros) (written_at 0 MAX zeros)
-          (written_at 0 MAX zeros) l) e5
+          (λ i. walking c f.stores (stack_of 1 (e1 i) (e2 i) (e3 i) (e4 i) (e5 i)))
+          ∙ ap (λ (x : Stack). walking c f.stores (written x)) eb
 
-      -- the entries that are left over are what is left of the stack
-      pub runs_loop : (r : Ran) (tables clocks positives negatives actives : List ℕ)
-          → Comes (book_in f) asked (walk c (lent_from et ec ps ng ac))
-          (walk r.course (lent_with r.forest (stack_of r.course.depth tables clocks positives negatives actives)))
-          → Carries f r.course r.forest → Runs f asked c r
-      runs_loop r tables clocks positives negatives actives h carries =
-          let k = stack_of r.course.depth tables clocks positives negatives actives in
-          record {
-            stack = k;
-            comes = subst (λ (v : Walk). Comes (book_in f) asked v (walk r.course (lent_with r.forest k))) from_root h;
-            carries = carries;
-          }
+      pub runs_loop : (d : Course) (g : Forest) (l : Stack) → Comes f.book asked (walking c f.stores k) (walk d (lent_with g l))
+          → Carries f d g → Runs f asked c (record { course = d; forest = g })
+      runs_loop d g l h carries = record {
+        stack = l;
+        comes = subst (λ (v : Walk). Comes f.book asked v (walk d (lent_with g l))) from_root h;
+        carries = carries;
+      }

@@ -10,11 +10,11 @@ use borrow.Author.Tests.{lt-ltb, ltb-true, leb-true}
 use Rattle.definitions.specs.{MAX}
 use Rattle.definitions.specs.Calls as said
 use Rattle.stores.specs.declared.stack.Stack.{Stack}
-use Rattle.stores.specs.Sound.{SoundStack}
+use Rattle.stores.specs.Stack.{blank_stack}
 use Rattle.stores.proofs.StackViews.{blank_stack_sound}
 use Rattle.control.specs.PerformDeed.{stack_of}
 use Rattle.search.specs.RootAnswer.{one_more_by, one_more}
-use Rattle.search.specs.Walk.{Walk, numbered, book_of, Comes}
+use Rattle.search.specs.Walk.{Walk, numbered, Comes}
 use Rattle.batch.specs.declared.calls.Serving.{Serving}
 use Rattle.batch.specs.Calls.{call_at, reply_put}
 use Rattle.batch.specs.Serve.{Stage, stage, told}
@@ -100,49 +100,20 @@ module _ (f : Forest) (calls : List ℕ) (fit : (i : ℕ) → get_or calls i 0 �
       and_then v u (began v) x (ltb-true v.serving.at n e) c
       (sitting rest refl refl (subst Sound (sym c.leaves) (left_sound (forest_at f v) c.tells o c.gives)) c.idle)
 
--- nothing is on the stack, and what its arrays hold nobody sees
-abbrev empty_stack : Stack
-empty_stack =
-    let zeros = replicate {A = ℕ} 64 0 in
-    stack_of 0 zeros zeros zeros zeros zeros
-
-empty_stack_sound : SoundStack empty_stack
-empty_stack_sound =
-    let o = blank_stack_sound in
-    record {
-      few = o.few;
-      long_table = o.long_table;
-      long_clock = o.long_clock;
-      long_positive = o.long_positive;
-      long_negative = o.long_negative;
-      long_active = length-replicate {A = ℕ} 64 0;
-      places = λ i h. absurd (omega arith);
-    }
-
 -- THE WAY OUT of `serve_calls`: from the forest's own stage on, with nothing on the stack, to the forest that carries the last course
 module _ (f : Forest) (count n : ℕ) (clamped : n ≡ min count 256) (calls before : List ℕ) (fit : (i : ℕ) → get_or calls i 0 ≤ MAX)
-    (from : Serving) (is : from ≡ first_serving f) (s : Serving) (r : Forest)
-    (after tables clocks positives negatives actives : List ℕ) where
-  abbrev serves : (clauses : ℕ) → Serving → Type 0
-  serves clauses z =
-      Serves (book_of f.goals clauses f.goal_flags f.goal_first f.goal_len f.clause_variant f.clause_flags
-      f.clause_len f.literal_kind f.literal_goal f.literal_want) f.clock_limit calls n
-      (stage z (lent_with f empty_stack) before)
-      (stage s (lent_with r (stack_of s.course.depth tables clocks positives negatives actives)) after)
+    (from : Serving) (is : from ≡ first_serving f) (b : Stack) (blank : b ≡ blank_stack) (s : Serving) (r : Forest)
+    (after : List ℕ) (k : Stack) where
+  abbrev serves : Serving → Stack → Type 0
+  serves z x = Serves f.book f.clock_limit calls n (stage z (lent_with f x) before) (stage s (lent_with r k) after)
 
-  pub calls_served : ((clauses : ℕ)
-      → Serves (book_of f.goals clauses f.goal_flags f.goal_first f.goal_len f.clause_variant f.clause_flags
-      f.clause_len f.literal_kind f.literal_goal f.literal_want) f.clock_limit calls n
-      (stage from (lent_with f empty_stack) before)
-      (stage s (lent_with r (stack_of s.course.depth tables clocks positives negatives actives)) after))
-      → r ≡ forest_of f s.course (lent_with r (stack_of s.course.depth tables clocks positives negatives actives))
-      → Sound f → ServeCallsSays f count calls before r after
+  pub calls_served : serves from b → r ≡ forest_of f s.course (lent_with r k) → Sound f → ServeCallsSays f count calls before r after
   calls_served h e o =
       let most : n ≤ 256 = omega arith in
       let all : n - 0 ≡ min count 256 = omega arith in
       let x = sitting f calls fit n most
-      (subst (serves f.clauses) is (h f.clauses)) refl refl o
-      (record { sound = empty_stack_sound; empty = refl }) in
+      (subst (λ (z : Serving). serves z blank_stack) is (subst (serves from) blank h)) refl refl o
+      (record { sound = blank_stack_sound; empty = refl }) in
       record {
         told = x.tells;
         sits = x.sits;

@@ -15,4 +15,4 @@ future_means (futures.Found any) = accepted any
 -- made is refused with 10.
 pub record FutureSays (f : Forest) (table index variant : ℕ) (r : Future) : Type 0 where
   pub says : Sound f → future_means r ≡ said.any_future_answer (view f) table index variant
-  pub unmade : f.count ≤ table → r ≡ futures.Refused 10
+  pub unmade : f.stores.tables.count ≤ table → r ≡ futures.Refused 10

@@ -1,5 +1,5 @@
 -- What making says.
-use Rattle.std.specs.Prelude.{ℕ, List, ◌≡◌}
+use Rattle.std.specs.Prelude.{ℕ, List, ◌≡◌, Result, IfOk}
 use Rattle.definitions.specs.Book as said_book
 use Rattle.definitions.specs.Desk.{make_at_desk}
 use Rattle.definitions.specs.Forest as said
@@ -7,7 +7,7 @@ use Rattle.definitions.specs.Refusal.{Refusable, refused, accepted}
 use Rattle.definitions.specs.Tables as tables
 use Rattle.book.specs.View as books
 use Rattle.book.specs.declared.Book.{Book}
-use Rattle.book.specs.declared.Reading.{Reading}
+use Rattle.book.specs.declared.refusal.Refusal.{Refusal}
 use Rattle.stores.specs.declared.queue.Strands.{Strands}
 use Rattle.stores.specs.declared.table.Answers.{Answers}
 use Rattle.stores.specs.declared.tables.Tables.{Tables}
@@ -56,13 +56,11 @@ MakeSays bytes limit r = MadeSays (said.make bytes limit) r
 abbrev pub MakeAtDeskSays : (bytes : List ℕ) → (limit : ℕ) → Made → Type 0
 MakeAtDeskSays bytes limit r = MadeSays (make_at_desk bytes limit) r
 
--- A reading that stems from bytes: a book that it holds is sound, and one that `read` gives; with a refusal it is blank. Both entries leave
--- such.
-pub record Stems (r : Reading) : Type 0 where
-  pub sound : r.number ≡ 0 → books.Sound r.book
-  pub from : r.number ≡ 0 → (bytes : List ℕ) × (said_book.read bytes ≡ accepted (books.view r.book))
-  pub bare : (r.number ≡ 0 → ⊥) → r.book ≡ books.blank
+-- A reading that stems from bytes: a book that it holds is sound, and one that `read` gives. Both entries leave such.
+pub record Stems (r : Result Book Refusal) : Type 0 where
+  pub sound : IfOk r books.Sound
+  pub from : IfOk r (λ b. (bytes : List ℕ) × (said_book.read bytes ≡ accepted (books.view b)))
 
 -- what is made of a reading: the two ways in differ in the reading alone
-abbrev pub MakeOfSays : Reading → (limit : ℕ) → Made → Type 0
+abbrev pub MakeOfSays : Result Book Refusal → (limit : ℕ) → Made → Type 0
 MakeOfSays r limit m = MadeSays (said.make_of (books.seen r) limit) m

@@ -70,7 +70,7 @@ pub record PeekSays (f : Forest) (table index rounds limit : ℕ) (r : Peeked) :
 
 -- WHAT IS TESTED FIRST: 20, 10 and 11, or 0 where none of them refuses
 abbrev pub refusal_of : Forest → (table index : ℕ) → ℕ
-refusal_of f table index = refusal_in f.mark f.count f.floundered f.answer_len table index
+refusal_of f table index = refusal_in f.mark f.stores.tables.count f.stores.tables.floundered f.stores.answers.places.len table index
 
 abbrev pub refused_peek : Forest → (index number : ℕ) → Peeked
 refused_peek f index number = record { outcome = outcomes.Refused number; index = index; turns = 0; exceeded = 0; forest = f }
@@ -88,11 +88,11 @@ course_in f index more = record {
   exceeded = 0;
   done = 0;
   mark = f.mark;
-  count = f.count;
+  count = f.stores.tables.count;
   depth = 0;
   clock = f.clock;
-  used = f.used;
-  answer_used = f.answer_used;
+  used = f.stores.strands.places.top;
+  answer_used = f.stores.answers.places.top;
 }
 
 -- a forest in which only the numbers that a course carries have changed
@@ -109,10 +109,10 @@ pub record Carries (f : Forest) (c : Course) (g : Forest) : Type 0 where
   pub book : book_in g ≡ book_in f
   pub limit : g.clock_limit ≡ f.clock_limit
   pub mark : g.mark ≡ c.mark
-  pub count : g.count ≡ c.count
+  pub count : g.stores.tables.count ≡ c.count
   pub clock : g.clock ≡ c.clock
-  pub used : g.used ≡ c.used
-  pub answer_used : g.answer_used ≡ c.answer_used
+  pub used : g.stores.strands.places.top ≡ c.used
+  pub answer_used : g.stores.answers.places.top ≡ c.answer_used
 
 -- what is run from a course on, with the entries of this stack, comes to this, with some stack left over
 pub record RunsWith (f : Forest) (k : Stack) (asked : Asked) (c : Course) (r : Ran) : Type 0 where

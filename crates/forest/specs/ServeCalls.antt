@@ -97,10 +97,10 @@ first_serving f = record {
     exceeded = 0;
     done = 0;
     mark = f.mark;
-    count = f.count;
+    count = f.stores.tables.count;
     depth = 0;
     clock = f.clock;
-    used = f.used;
-    answer_used = f.answer_used;
+    used = f.stores.strands.places.top;
+    answer_used = f.stores.answers.places.top;
   };
 }

@@ -28,79 +28,17 @@ fn opening_of(said: Said) -> Opening
         Said::Refused(n) => Opening::Refused(n),
         Said::Table(t) => Opening::Table(t),
         Said::Stopped(n) => Opening::Stopped(n),
-        Said::Future(any) => Opening::Refused(0),
-        Said::Searched => Opening::Refused(0),
-        Said::Peeked => Opening::Refused(0),
+        _ => Opening::Refused(0),
     }
 }
 
-// The table of a goal. Refused with 20 and 9 in this order. The numbers are copied, lent to the function that serves an open among other
-// calls, and put back: one way in and one way out, so that the compiler copies nothing else of the forest.
+// The table of a goal. Refused with 20 and 9 in this order.
 pub fn open(f: Forest, goal_asked: u64) -> Opened
     ensures { OpenSays f goal_asked result }
 {
-    let mut goal = f.goal;
-    let mut coinductive = f.coinductive;
-    let mut floundered = f.floundered;
-    let mut complete = f.complete;
-    let mut next = f.next;
-    let mut tail = f.tail;
-    let mut len = f.len;
-    let mut time = f.time;
-    let mut ambiguous = f.ambiguous;
-    let mut variant = f.variant;
-    let mut waits = f.waits;
-    let mut wants = f.wants;
-    let goal_flags = f.goal_flags;
-    let goal_first = f.goal_first;
-    let goal_len = f.goal_len;
-    let clause_variant = f.clause_variant;
-    let clause_flags = f.clause_flags;
-    let from = first_serving(f);
-    let s = serve_open(
-        from,
-        f.goals,
-        goal_asked,
-        &mut goal,
-        &mut coinductive,
-        &mut floundered,
-        &mut complete,
-        &mut next,
-        &mut tail,
-        &mut len,
-        &mut time,
-        &mut ambiguous,
-        &mut variant,
-        &mut waits,
-        &mut wants,
-        &goal_flags,
-        &goal_first,
-        &goal_len,
-        &clause_variant,
-        &clause_flags,
-    );
-    let said = s.said;
-    let course = s.course;
-    let opening = opening_of(said);
-    let forest = Forest {
-        count: course.count,
-        goal,
-        coinductive,
-        floundered,
-        complete,
-        next,
-        tail,
-        len,
-        time,
-        ambiguous,
-        variant,
-        waits,
-        wants,
-        used: course.used,
-        answer_used: course.answer_used,
-        mark: course.mark,
-        clock: course.clock,
-        ..f
-    };
+    let mut forest = f;
+    let s = serve_open(first_serving(&f), &f.book, &mut forest.stores, goal_asked);
+    let opening = opening_of(s.said);
+    forest.carry(s.course);
     Opened { opening, forest }
 }

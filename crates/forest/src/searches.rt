@@ -9,8 +9,7 @@ use control::performed::Flow;
 use search::course::{Asked, Course, Ending, Mode};
 use search::ensure_root_answer::ensure_root_answer;
 use search::root_answer::start;
-use sizes::MOST_ENTRIES;
-use stores::stack::push_entry;
+use stores::stack::{blank_stack, push_entry};
 use strands::times::TimeStamp;
 
 // The listed results of a search or a peek.
@@ -53,12 +52,11 @@ pub struct Ran {
 }
 
 // The number by which a search is refused before its limits are looked at: 20, 10, 11; or 0.
-fn refusal(f: Forest, table: u64, index: u64) -> u8
-    ensures { result ≡ refusal_of f table index }
+fn refusal(f: &Forest, table: u64, index: u64) -> u8
+    ensures { result ≡ refusal_of f.now table index }
 {
-    let floundered = f.floundered;
-    let answer_len = f.answer_len;
-    batch::refusal::refusal(f.mark, f.count, &floundered, &answer_len, table, index)
+    let c = first_course(f, index, 0);
+    batch::refusal::refusal(c, &f.stores, table, index)
 }
 
 fn outcome_of(ending: Ending) -> Outcome
@@ -77,8 +75,8 @@ fn outcome_of(ending: Ending) -> Outcome
 }
 
 // The course of searches before the first of them starts.
-fn first_course(f: Forest, index: u64, more: u64) -> Course
-    ensures { result ≡ course_in f index more }
+fn first_course(f: &Forest, index: u64, more: u64) -> Course
+    ensures { result ≡ course_in f.now index more }
 {
     Course {
         over: false,
@@ -89,179 +87,61 @@ fn first_course(f: Forest, index: u64, more: u64) -> Course
         exceeded: 0,
         done: 0,
         mark: f.mark,
-        count: f.count,
+        count: f.stores.tables.count,
         depth: 0,
         clock: f.clock,
-        used: f.used,
-        answer_used: f.answer_used,
+        used: f.stores.strands.places.top,
+        answer_used: f.stores.answers.places.top,
     }
 }
 
-// A forest in which only numbers have changed.
-fn renumbered(f: Forest, c: Course) -> Forest
-    ensures { result ≡ renumbered f c }
-{
-    Forest {
-        count: c.count,
-        used: c.used,
-        answer_used: c.answer_used,
-        mark: c.mark,
-        clock: c.clock,
-        ..f
+impl Forest {
+    // The numbers that a course carries are the forest's from now on.
+    pub(crate) fn carry(&mut self, c: Course)
+        ensures { self.new ≡ renumbered self.old c }
+    {
+        self.stores.tables.count = c.count;
+        self.stores.strands.places.top = c.used;
+        self.stores.answers.places.top = c.answer_used;
+        self.mark = c.mark;
+        self.clock = c.clock;
     }
 }
 
-// The first search is started, and where that ends it there is nothing to run. Numbers are copied before they are lent: where a forest's
-// own are lent, the compiler copies the whole forest.
+// The first search is started, and where that ends it there is nothing to run.
 fn run(f: Forest, asked: Asked, index: u64, more: u64) -> Ran
-    ensures { Runs f asked (start asked f.floundered f.answer_next f.answer_tail f.answer_len
-        f.answer_variant f.answer_key f.answer_ambiguous (course_in f index more)) result }
+    ensures { Runs f asked (start asked f.stores.tables.floundered f.stores.answers.places.next f.stores.answers.places.tail
+        f.stores.answers.places.len f.stores.answers.variant f.stores.answers.key f.stores.answers.ambiguous
+        (course_in f index more)) result }
 {
-    let floundered = f.floundered;
-    let answer_next = f.answer_next;
-    let answer_tail = f.answer_tail;
-    let answer_len = f.answer_len;
-    let answer_variant = f.answer_variant;
-    let answer_key = f.answer_key;
-    let answer_ambiguous = f.answer_ambiguous;
-    let c = start(
-        asked,
-        first_course(f, index, more),
-        &floundered,
-        &answer_next,
-        &answer_tail,
-        &answer_len,
-        &answer_variant,
-        &answer_key,
-        &answer_ambiguous,
-    );
+    let c = start(asked, first_course(&f, index, more), &f.stores);
     if c.over {
-        return Ran {
-            course: c,
-            forest: renumbered(f, c),
-        };
+        let mut forest = f;
+        forest.carry(c);
+        return Ran { course: c, forest };
     }
     run_loop(f, asked, c)
 }
 
-// The loop, with all the forest's numbers lent.
+// The loop, from the root's entry on.
 fn run_loop(f: Forest, asked: Asked, c: Course) -> Ran
     ensures { Runs f asked c result }
 {
-    let mut goal = f.goal;
-    let mut coinductive = f.coinductive;
-    let mut floundered = f.floundered;
-    let mut complete = f.complete;
-    let mut next = f.next;
-    let mut tail = f.tail;
-    let mut len = f.len;
-    let mut time = f.time;
-    let mut ambiguous = f.ambiguous;
-    let mut variant = f.variant;
-    let mut waits = f.waits;
-    let mut wants = f.wants;
-    let mut answer_next = f.answer_next;
-    let mut answer_tail = f.answer_tail;
-    let mut answer_len = f.answer_len;
-    let mut answer_variant = f.answer_variant;
-    let mut answer_key = f.answer_key;
-    let mut answer_ambiguous = f.answer_ambiguous;
-    let goal_flags = f.goal_flags;
-    let goal_first = f.goal_first;
-    let goal_len = f.goal_len;
-    let clause_variant = f.clause_variant;
-    let clause_flags = f.clause_flags;
-    let clause_len = f.clause_len;
-    let literal_kind = f.literal_kind;
-    let literal_goal = f.literal_goal;
-    let literal_want = f.literal_want;
-    let mut entry_table: [u8; MOST_ENTRIES] = [0; MOST_ENTRIES];
-    let mut entry_clock: [u64; MOST_ENTRIES] = [0; MOST_ENTRIES];
-    let mut positive: [u64; MOST_ENTRIES] = [0; MOST_ENTRIES];
-    let mut negative: [u64; MOST_ENTRIES] = [0; MOST_ENTRIES];
-    let mut active: [u16; MOST_ENTRIES] = [256; MOST_ENTRIES];
+    let mut stack = blank_stack();
     push_entry(
-        &mut entry_table,
-        &mut entry_clock,
-        &mut positive,
-        &mut negative,
-        &mut active,
+        &mut stack.table,
+        &mut stack.clock,
+        &mut stack.positive,
+        &mut stack.negative,
+        &mut stack.active,
         0,
         asked.table,
         c.clock,
         TimeStamp::MAX.clock,
     );
-    let first_strands = f.strands;
-    let first_answers = f.answers;
-    let r = ensure_root_answer(
-        asked,
-        c,
-        first_strands,
-        first_answers,
-        &mut goal,
-        &mut coinductive,
-        &mut floundered,
-        &mut complete,
-        &mut next,
-        &mut tail,
-        &mut len,
-        &mut time,
-        &mut ambiguous,
-        &mut variant,
-        &mut waits,
-        &mut wants,
-        &mut answer_next,
-        &mut answer_tail,
-        &mut answer_len,
-        &mut answer_variant,
-        &mut answer_key,
-        &mut answer_ambiguous,
-        &mut entry_table,
-        &mut entry_clock,
-        &mut positive,
-        &mut negative,
-        &mut active,
-        &goal_flags,
-        &goal_first,
-        &goal_len,
-        &clause_variant,
-        &clause_flags,
-        &clause_len,
-        &literal_kind,
-        &literal_goal,
-        &literal_want,
-    );
-    let course = r.course;
-    let strands = r.strands;
-    let answers = r.answers;
-    let forest = Forest {
-        count: course.count,
-        goal,
-        coinductive,
-        floundered,
-        complete,
-        strands,
-        next,
-        tail,
-        len,
-        time,
-        ambiguous,
-        variant,
-        waits,
-        wants,
-        used: course.used,
-        answers,
-        answer_next,
-        answer_tail,
-        answer_len,
-        answer_variant,
-        answer_key,
-        answer_ambiguous,
-        answer_used: course.answer_used,
-        mark: course.mark,
-        clock: course.clock,
-        ..f
-    };
+    let mut forest = f;
+    let course = ensure_root_answer(asked, c, &f.book, &mut forest.stores, &mut stack);
+    forest.carry(course);
     Ran { course, forest }
 }
 
@@ -269,7 +149,7 @@ fn run_loop(f: Forest, asked: Asked, c: Course) -> Ran
 pub fn search(f: Forest, table: u64, index: u64, limit: u64) -> Searched
     ensures { SearchSays f table index limit result }
 {
-    let n = refusal(f, table, index);
+    let n = refusal(&f, table, index);
     if n > 0 {
         return Searched {
             outcome: Outcome::Refused(n),
@@ -319,7 +199,7 @@ fn refused_peek(f: Forest, index: u64, number: u8) -> Peeked
 pub fn peek(f: Forest, table: u64, index: u64, rounds: u64, limit: u64) -> Peeked
     ensures { PeekSays f table index rounds limit result }
 {
-    let n = refusal(f, table, index);
+    let n = refusal(&f, table, index);
     if n > 0 {
         return refused_peek(f, index, n);
     }

@@ -40,49 +40,33 @@ pub struct Shown {
 pub fn show(f: Forest) -> Shown
     ensures { result ≡ shown f }
 {
-    let goal = f.goal;
-    let floundered = f.floundered;
-    let complete = f.complete;
-    let strands = f.strands;
-    let next = f.next;
-    let tail = f.tail;
-    let len = f.len;
-    let time = f.time;
-    let waits = f.waits;
-    let wants = f.wants;
-    let answers = f.answers;
-    let answer_next = f.answer_next;
-    let answer_tail = f.answer_tail;
-    let answer_len = f.answer_len;
-    let clause_variant = f.clause_variant;
-    let clause_flags = f.clause_flags;
-    let clause_len = f.clause_len;
-    let literal_kind = f.literal_kind;
-    let literal_goal = f.literal_goal;
-    let literal_want = f.literal_want;
+    let b = &f.book;
+    let tables = &f.stores.tables;
+    let strands = &f.stores.strands;
+    let answers = &f.stores.answers;
     Shown {
         clock: f.clock,
         mark: f.mark,
-        count: f.count,
-        goal,
-        floundered,
-        complete,
-        strands,
-        next,
-        tail,
-        len,
-        time,
-        waits,
-        wants,
-        answers,
-        answer_next,
-        answer_tail,
-        answer_len,
-        clause_variant,
-        clause_flags,
-        clause_len,
-        literal_kind,
-        literal_goal,
-        literal_want,
+        count: tables.count,
+        goal: tables.goal,
+        floundered: tables.floundered,
+        complete: tables.complete,
+        strands: strands.strands,
+        next: strands.places.next,
+        tail: strands.places.tail,
+        len: strands.places.len,
+        time: strands.time,
+        waits: strands.waits,
+        wants: strands.wants,
+        answers: answers.answers,
+        answer_next: answers.places.next,
+        answer_tail: answers.places.tail,
+        answer_len: answers.places.len,
+        clause_variant: b.clause_variant,
+        clause_flags: b.clause_flags,
+        clause_len: b.clause_len,
+        literal_kind: b.literal_kind,
+        literal_goal: b.literal_goal,
+        literal_want: b.literal_want,
     }
 }

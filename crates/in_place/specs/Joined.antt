@@ -1,4 +1,4 @@
--- What a call tells, put together with the search or the forest that it leaves; and what a search and a peek tell without it.
+-- What a call tells, put together with the search or the forest that it leaves.
 use Rattle.control.specs.declared.performed.Flow.{Flow}
 use Rattle.search.specs.declared.solve_state.Search.{Search}
 use Rattle.search.specs.declared.solve_state.Turned.{Turned}
@@ -21,10 +21,3 @@ searched z f = record { outcome = z.outcome; turns = z.turns; forest = f }
 
 abbrev pub peeked : PeekReply → Forest → Peeked
 peeked z f = record { outcome = z.outcome; index = z.index; turns = z.turns; exceeded = z.exceeded; forest = f }
-
--- without the forest
-abbrev pub search_reply : Searched → SearchReply
-search_reply r = record { outcome = r.outcome; turns = r.turns }
-
-abbrev pub peek_reply : Peeked → PeekReply
-peek_reply r = record { outcome = r.outcome; index = r.index; turns = r.turns; exceeded = r.exceeded }

@@ -6,49 +6,10 @@ ghost use Rattle.forest.specs.Open.{OpenSays};
 ghost use Rattle.forest.specs.Searches.{SearchSays, PeekSays};
 ghost use Rattle.in_place.specs.Joined.{turned, opened, searched, peeked};
 
-use crate::calls::{PeekReply, SearchReply};
-use control::performed::Flow;
 use forest::Forest;
-use forest::open::{Opened, Opening};
+use forest::open::Opened;
 use forest::searches::{Peeked, Searched};
 use search::solve_state::{Search, Turned};
-
-// What a call tells, put together with what it leaves.
-fn with_flow(flow: Flow, search: Search) -> Turned
-    ensures { result ≡ turned flow search }
-{
-    Turned { flow, search }
-}
-
-fn with_opening(opening: Opening, forest: Forest) -> Opened
-    ensures { result ≡ opened opening forest }
-{
-    Opened { opening, forest }
-}
-
-fn with_search_reply(s: SearchReply, forest: Forest) -> Searched
-    ensures { result ≡ searched s forest }
-{
-    let outcome = s.outcome;
-    Searched {
-        outcome,
-        turns: s.turns,
-        forest,
-    }
-}
-
-fn with_peek_reply(p: PeekReply, forest: Forest) -> Peeked
-    ensures { result ≡ peeked p forest }
-{
-    let outcome = p.outcome;
-    Peeked {
-        outcome,
-        index: p.index,
-        turns: p.turns,
-        exceeded: p.exceeded,
-        forest,
-    }
-}
 
 // One turn of a search.
 pub fn turn(s: Search) -> Turned
@@ -56,7 +17,7 @@ pub fn turn(s: Search) -> Turned
 {
     let mut g = s;
     let flow = crate::solve_state::turn(&mut g);
-    with_flow(flow, g)
+    Turned { flow, search: g }
 }
 
 // A search put back.
@@ -74,7 +35,7 @@ pub fn open(f: Forest, goal: u64) -> Opened
 {
     let mut g = f;
     let opening = crate::calls::open(&mut g, goal);
-    with_opening(opening, g)
+    Opened { opening, forest: g }
 }
 
 // A search for the answer at an index of a table, by at most so many turns.
@@ -82,8 +43,12 @@ pub fn search(f: Forest, table: u64, index: u64, limit: u64) -> Searched
     ensures { SearchSays f table index limit result }
 {
     let mut g = f;
-    let reply = crate::calls::search(&mut g, table, index, limit);
-    with_search_reply(reply, g)
+    let s = crate::calls::search(&mut g, table, index, limit);
+    Searched {
+        outcome: s.outcome,
+        turns: s.turns,
+        forest: g,
+    }
 }
 
 // A peek from an index of a table on, by at most so many rounds and so many turns for each search.
@@ -91,6 +56,12 @@ pub fn peek(f: Forest, table: u64, index: u64, rounds: u64, limit: u64) -> Peeke
     ensures { PeekSays f table index rounds limit result }
 {
     let mut g = f;
-    let reply = crate::calls::peek(&mut g, table, index, rounds, limit);
-    with_peek_reply(reply, g)
+    let p = crate::calls::peek(&mut g, table, index, rounds, limit);
+    Peeked {
+        outcome: p.outcome,
+        index: p.index,
+        turns: p.turns,
+        exceeded: p.exceeded,
+        forest: g,
+    }
 }

@@ -2,11 +2,11 @@
 ghost use Rattle.std.specs.Prelude.{◌≡◌};
 ghost use Rattle.forest.specs.Open.{OpenSays};
 ghost use Rattle.forest.specs.Searches.{SearchSays, PeekSays};
-ghost use Rattle.in_place.specs.Joined.{opened, searched, peeked, search_reply, peek_reply};
+ghost use Rattle.in_place.specs.Joined.{opened, searched, peeked};
 
 use forest::Forest;
-use forest::open::{Opened, Opening};
-use forest::searches::{Outcome, Peeked, Searched};
+use forest::open::Opening;
+use forest::searches::Outcome;
 
 // What a search tells beside the forest.
 #[derive(Clone, Copy)]
@@ -24,69 +24,25 @@ pub struct PeekReply {
     pub exceeded: u64,
 }
 
-// What a call by value gives, in parts.
-fn opening_of(r: Opened) -> Opening
-    ensures { result ≡ r.opening }
-{
-    r.opening
-}
-
-fn opened_forest(r: Opened) -> Forest
-    ensures { result ≡ r.forest }
-{
-    r.forest
-}
-
-fn search_reply(r: Searched) -> SearchReply
-    ensures { result ≡ search_reply r }
-{
-    let outcome = r.outcome;
-    SearchReply {
-        outcome,
-        turns: r.turns,
-    }
-}
-
-fn searched_forest(r: Searched) -> Forest
-    ensures { result ≡ r.forest }
-{
-    r.forest
-}
-
-fn peek_reply(p: Peeked) -> PeekReply
-    ensures { result ≡ peek_reply p }
-{
-    let outcome = p.outcome;
-    PeekReply {
-        outcome,
-        index: p.index,
-        turns: p.turns,
-        exceeded: p.exceeded,
-    }
-}
-
-fn peeked_forest(r: Peeked) -> Forest
-    ensures { result ≡ r.forest }
-{
-    r.forest
-}
-
 // The table of a goal. Refused with 20 and 9 in this order.
 pub fn open(f: &mut Forest, goal: u64) -> Opening
     ensures { OpenSays f.old goal (opened result f.new) }
 {
     let r = forest::open::open(*f, goal);
-    *f = opened_forest(r);
-    opening_of(r)
+    *f = r.forest;
+    r.opening
 }
 
 // A search for the answer at an index of a table, by at most so many turns. Refused with 20, 10, 11 and 12 in this order.
 pub fn search(f: &mut Forest, table: u64, index: u64, limit: u64) -> SearchReply
     ensures { SearchSays f.old table index limit (searched result f.new) }
 {
-    let r = forest::searches::search(*f, table, index, limit);
-    *f = searched_forest(r);
-    search_reply(r)
+    let s = forest::searches::search(*f, table, index, limit);
+    *f = s.forest;
+    SearchReply {
+        outcome: s.outcome,
+        turns: s.turns,
+    }
 }
 
 // A peek from an index of a table on, by at most so many rounds and so many turns for each search. Refused with 20, 10, 11 and 12 in this
@@ -94,7 +50,12 @@ pub fn search(f: &mut Forest, table: u64, index: u64, limit: u64) -> SearchReply
 pub fn peek(f: &mut Forest, table: u64, index: u64, rounds: u64, limit: u64) -> PeekReply
     ensures { PeekSays f.old table index rounds limit (peeked result f.new) }
 {
-    let r = forest::searches::peek(*f, table, index, rounds, limit);
-    *f = peeked_forest(r);
-    peek_reply(r)
+    let p = forest::searches::peek(*f, table, index, rounds, limit);
+    *f = p.forest;
+    PeekReply {
+        outcome: p.outcome,
+        index: p.index,
+        turns: p.turns,
+        exceeded: p.exceeded,
+    }
 }

@@ -3,28 +3,15 @@ ghost use Rattle.std.specs.Prelude.{◌≡◌};
 ghost use Rattle.search.specs.SolveState.{turn_of, cut_of};
 
 use control::performed::Flow;
-use search::solve_state::{Search, Turned};
-
-// What a turn by value gives, in parts.
-fn search_of(t: Turned) -> Search
-    ensures { result ≡ t.search }
-{
-    t.search
-}
-
-fn flow_of(t: Turned) -> Flow
-    ensures { result ≡ t.flow }
-{
-    t.flow
-}
+use search::solve_state::Search;
 
 // One turn: how it ended. Where it stops, the search is what it was.
 pub fn turn(s: &mut Search) -> Flow
     ensures { (result ≡ (turn_of s.old).flow) × (s.new ≡ (turn_of s.old).search) }
 {
     let t = search::solve_state::turn(*s);
-    *s = search_of(t);
-    flow_of(t)
+    *s = t.search;
+    t.flow
 }
 
 // The search is put back, and nothing is on the stack.

@@ -1,15 +1,13 @@
 -- What the proofs of the loops over literals, clauses and goals cite: what is left to say, put down from where the pen is, is the same at
 -- each turn. Assumes nothing.
+use Rattle.std.specs.Prelude.{Ok, Err}
 use Prim.Native.Nat.{ℕ, suc, ◌+◌, ◌-◌, ◌*◌, ◌<◌, ◌≤◌}
 use native.Mathlib.Omega.{arith}
-use mathlib.Core.Bool.{Bool, true, false, not}
 use mathlib.Core.Option.{Option}
-use mathlib.Core.Path.{◌≡◌, refl, sym, ap, ◌∙◌}
-use mathlib.Core.List.{List, [], ◌∷◌, ◌++◌}
+use mathlib.Core.Path.{◌≡◌, sym, ap, ◌∙◌}
+use mathlib.Core.List.{List, [], ◌∷◌, ◌++◌, append-nil}
 use lib.ListN.{get_or}
-use lib.Dec.{eqb}
-use borrow.Author.Tests.{eq-eqb, ne_eqb, eqb-true}
-use Rattle.definitions.specs.Text.{ascii, decimal}
+use Rattle.definitions.specs.Text.{ascii}
 use Rattle.definitions.specs.Desk as Desk
 use Rattle.definitions.specs.Desk.{repeat_of}
 use Rattle.definitions.specs.Refusal.{Refusable}
@@ -18,19 +16,18 @@ use Rattle.definitions.specs.Book as Said
 use Rattle.definitions.specs.Book.{Literal, Clause, Goal, bit0, bit1}
 use Rattle.pen.specs.Pen.{Pen, put, put_all}
 use Rattle.laws.specs.Spans.{span}
-use Rattle.laws.proofs.Bools.{was_true, was_false}
 use Rattle.laws.proofs.Spans.{span_left, span_done}
 use Rattle.pen.proofs.Putting.{put_two, put_one, put_nothing, put_all_append, put_left, put_ended}
 use Rattle.book.specs.declared.Book.{Book}
-use Rattle.book.specs.declared.Reading.{Reading}
-use Rattle.book.specs.declared.Repeat.{Repeat}
+use Rattle.book.specs.declared.refusal.Refusal.{Refusal}
+use Rattle.book.specs.Refusals.{number}
 use Rattle.book.specs.declared.Looked.{Looked}
 use Rattle.book.specs.Repeats.{repeat_seen, Looks}
-use Rattle.book.specs.View.{Formed, clause_made, view, seen, seen_by}
+use Rattle.book.specs.View.{Formed, clause_made, view}
 use Rattle.book.proofs.Held.{goal_within}
 use Rattle.inspect.specs.Words.{before, literal_words, body_words, head_words, clause_words, clauses_words, goal_line, goal_words}
 use Rattle.inspect.specs.Words.{goals_words, refusal_words, book_words, desk_words, reading_words}
-use Rattle.inspect.specs.Missing.{behind_6, behind_by, behind_words, paper_words}
+use Rattle.inspect.specs.Missing.{behind_by, behind_words, paper_words}
 
 module _ {A : Type 0} (f : ℕ → A) where
   -- f from a place on, k places in, of n
@@ -177,51 +174,20 @@ clauses_in b g s h = omega (arith, goal_within b b.goals g s.tiles h, s.few_clau
 
 -- What reading gave.
 
-pub accepted_said : (r : Reading) (p q : Pen) → r.number ≡ 0 → q ≡ put_all (goals_words 0 (view r.book)) p
-    → q ≡ put_all (book_words (seen r)) p
-accepted_said r p q e f = f ∙ ap (λ (b : Bool). put_all (book_words (seen_by b r)) p) (sym (eq-eqb r.number 0 e))
+pub book_said : (bytes : List ℕ) (l : Looked) (p q s : Pen) → Looks bytes (Ok l) → q ≡ put_all (goals_words 0 (view l.book)) p
+    → s ≡ put_all (desk_words (repeat_seen l.repeat)) q → s ≡ put_all (paper_words bytes) p
+book_said bytes l p q s x e f =
+    let means = x.reads.means in
+    put_two (goals_words 0 (view l.book)) (desk_words (repeat_of (Said.read bytes))) p q s e
+    (f ∙ ap (λ (o : Option Desk.Repeat). put_all (desk_words o) q) x.repeats)
+    ∙ ap (λ (w : List ℕ). put_all w p) (sym (append-nil (goals_words 0 (view l.book) ++ desk_words (repeat_of (Said.read bytes)))))
+    ∙ ap (λ (b : Refusable Said.Book). put_all ((book_words b ++ desk_words (repeat_of (Said.read bytes)))
+    ++ behind_words b (read_loosely bytes)) p) means
 
-pub refused_said : (r : Reading) (p q : Pen) → (r.number ≡ 0 → ⊥) → q ≡ put_all (refusal_words r.number) p
-    → q ≡ put_all (book_words (seen r)) p
-refused_said r p q e f = f ∙ ap (λ (b : Bool). put_all (book_words (seen_by b r)) p) (sym (ne_eqb r.number 0 e))
-
--- What the desk says to it.
-
-pub no_repeat_said : (r : Repeat) (p : Pen) → not r.found ≡ true → p ≡ put_all (desk_words (repeat_seen r)) p
+pub refused_said : (bytes : List ℕ) (e : Refusal) (p q s : Pen) → Looks bytes (Err e) → q ≡ put_all (refusal_words (number e)) p
+    → s ≡ put_all (behind_by (number e) (read_loosely bytes)) q → s ≡ put_all (paper_words bytes) p
 unfolding desk_words
-no_repeat_said r p e = rw (was_false r.found e) (sym (put_nothing p))
-
-pub repeat_said : (r : Repeat) (p q s t u : Pen) → not r.found ≡ false
-    → q ≡ put_all (ascii "desk refused 36\ngoal " ++ decimal r.goal) p → s ≡ put_all (ascii ", clause " ++ decimal r.clause) q
-    → t ≡ put_all (ascii ": the same as clause " ++ decimal r.earlier) s → u ≡ put_all (ascii "\n") t
-    → u ≡ put_all (desk_words (repeat_seen r)) p
-unfolding desk_words
-repeat_said r p q s t u e a b c d =
-    rw (was_true r.found e)
-    (put_two (ascii "desk refused 36\ngoal " ++ decimal r.goal) _ p q u a
-    (put_two (ascii ", clause " ++ decimal r.clause) _ q s u b
-    (put_two (ascii ": the same as clause " ++ decimal r.earlier) (ascii "\n") s t u c d)))
-
--- behind what was accepted nothing stands
-not_6 : (loose : Refusable Said.Book) (n : ℕ) → n ≡ 0 → behind_by n loose ≡ []
-unfolding behind_by
-not_6 loose n z = ap (λ (m : ℕ). behind_6 (eqb m 6) loose) z
-
-pub paper_said : (bytes : List ℕ) (l : Looked) (p q s u : Pen) → Looks bytes l → q ≡ put_all (book_words (seen l.reading)) p
-    → s ≡ put_all (desk_words (repeat_seen l.repeat)) q → u ≡ put_all (behind_by l.reading.number (read_loosely bytes)) s
-    → u ≡ put_all (paper_words bytes) p
-paper_said bytes l p q s u x e f g =
-    put_two (reading_words (Said.read bytes)) (behind_words (Said.read bytes) (read_loosely bytes)) p s u
-    (put_two (book_words (Said.read bytes)) (desk_words (repeat_of (Said.read bytes))) p q s
-    (e ∙ ap (λ (b : Refusable Said.Book). put_all (book_words b) p) x.reads.means)
-    (f ∙ ap (λ (o : Option Desk.Repeat). put_all (desk_words o) q) x.repeats))
-    (g ∙ ap (λ (w : List ℕ). put_all w s) (behind_read (eqb l.reading.number 0) refl x.reads.means))
-  where
-    behind_read : (t : Bool) → eqb l.reading.number 0 ≡ t → seen_by (eqb l.reading.number 0) l.reading ≡ Said.read bytes
-        → behind_by l.reading.number (read_loosely bytes) ≡ behind_words (Said.read bytes) (read_loosely bytes)
-    behind_read true z m =
-        not_6 (read_loosely bytes) l.reading.number (eqb-true l.reading.number 0 z)
-        ∙ ap (λ (b : Refusable Said.Book). behind_words b (read_loosely bytes))
-        (sym (ap (λ (t : Bool). seen_by t l.reading) z) ∙ m)
-    behind_read false z m =
-        ap (λ (b : Refusable Said.Book). behind_words b (read_loosely bytes)) (sym (ap (λ (t : Bool). seen_by t l.reading) z) ∙ m)
+refused_said bytes e p q s x f g =
+    put_two (refusal_words (number e)) (behind_by (number e) (read_loosely bytes)) p q s f g
+    ∙ ap (λ (w : List ℕ). put_all (w ++ behind_by (number e) (read_loosely bytes)) p) (sym (append-nil (refusal_words (number e))))
+    ∙ ap (λ (b : Refusable Said.Book). put_all (reading_words b ++ behind_words b (read_loosely bytes)) p) x.reads.means

@@ -1,13 +1,14 @@
 -- What the proofs of the lines on missing goals cite: what is left to say, put down from where the pen is, is the same at each turn.
 -- Assumes nothing.
+use Rattle.std.specs.Prelude.{Ok, Err}
 use Prim.Native.Nat.{ℕ, suc, ◌+◌, ◌*◌, ◌<◌, ◌≤◌}
 use native.Mathlib.Omega.{arith}
-use mathlib.Core.Bool.{Bool, true, false}
-use mathlib.Core.Path.{◌≡◌, sym, ap, ap₂, ◌∙◌}
+use mathlib.Core.Bool.{Bool}
+use mathlib.Core.Path.{◌≡◌, refl, sym, ap, ap₂, ◌∙◌}
 use mathlib.Core.List.{List, [], ◌++◌}
 use lib.ListN.{get_or}
 use lib.Dec.{eqb, ltb}
-use borrow.Author.Tests.{eq-eqb, ne_eqb, lt-ltb, le-ltb}
+use borrow.Author.Tests.{lt-ltb, le-ltb}
 use Rattle.laws.specs.Spans.{span}
 use Rattle.definitions.specs.Text.{ascii, decimal}
 use Rattle.definitions.specs.Refusal.{Refusable}
@@ -16,8 +17,10 @@ use Rattle.definitions.specs.Mend.{read_loosely}
 use Rattle.pen.specs.Pen.{Pen, put_all}
 use Rattle.pen.proofs.Putting.{put_two, put_nothing, put_left, put_ended}
 use Rattle.book.specs.declared.Book.{Book}
-use Rattle.book.specs.declared.Reading.{Reading}
-use Rattle.book.specs.View.{view, seen_by, literal_viewed, clause_viewed, goal_viewed, Formed, ReadLoosely}
+use Rattle.book.specs.declared.refusal.Refusal.{Refusal}
+use Rattle.book.specs.declared.refusal.Refusal.TheVariants as why
+use Rattle.book.specs.Refusals.{number}
+use Rattle.book.specs.View.{view, literal_viewed, clause_viewed, goal_viewed, Formed, ReadLoosely}
 use Rattle.book.proofs.Held.{goals_counted}
 use Rattle.book.proofs.MoreLiterals.{goal_of_kept}
 use Rattle.inspect.specs.Words.{goals_words}
@@ -139,33 +142,36 @@ module _ (b : Book) where
 
 -- What was read without the test for 6.
 
-module _ (bytes : List ℕ) (reading : Reading) (given : ReadLoosely bytes reading) where
-  by_number : (t : Bool) → eqb reading.number 0 ≡ t → read_loosely bytes ≡ seen_by t reading
-  by_number t e = sym given.means ∙ ap (λ (x : Bool). seen_by x reading) e
+pub unread_said : (bytes : List ℕ) (e : Refusal) (p : Pen) → ReadLoosely bytes (Err e) → p ≡ put_all (loose_words (read_loosely bytes)) p
+unread_said bytes e p given = sym (put_nothing p) ∙ ap (λ (x : Refusable Said.Book). put_all (loose_words x) p) given.means
 
-  pub book_formed : reading.number ≡ 0 → Formed reading.book
-  book_formed z = given.formed z
-
-  pub unread_said : (p : Pen) → (reading.number ≡ 0 → ⊥) → p ≡ put_all (loose_words (read_loosely bytes)) p
-  unread_said p n =
-      sym (put_nothing p)
-      ∙ ap (λ (x : Refusable Said.Book). put_all (loose_words x) p) (sym (by_number false (ne_eqb reading.number 0 n)))
-
-  pub read_said : (p q r : Pen) → reading.number ≡ 0 → q ≡ put_all (goals_words 0 (view reading.book)) p
-      → r ≡ put_all (missing_from reading.book.goals (view reading.book)) q → r ≡ put_all (loose_words (read_loosely bytes)) p
-  read_said p q r z e f =
-      let b = reading.book in
-      put_two (goals_words 0 (view b)) (missing_from b.goals (view b)) p q r e f
-      ∙ ap (λ (n : ℕ). put_all (goals_words 0 (view b) ++ missing_from n (view b)) p) (sym (goals_counted b))
-      ∙ ap (λ (x : Refusable Said.Book). put_all (loose_words x) p) (sym (by_number true (eq-eqb reading.number 0 z)))
+pub read_said : (bytes : List ℕ) (b : Book) (p q r : Pen) → ReadLoosely bytes (Ok b) → q ≡ put_all (goals_words 0 (view b)) p
+    → r ≡ put_all (missing_from b.goals (view b)) q → r ≡ put_all (loose_words (read_loosely bytes)) p
+read_said bytes b p q r given e f =
+    put_two (goals_words 0 (view b)) (missing_from b.goals (view b)) p q r e f
+    ∙ ap (λ (n : ℕ). put_all (goals_words 0 (view b) ++ missing_from n (view b)) p) (sym (goals_counted b))
+    ∙ ap (λ (x : Refusable Said.Book). put_all (loose_words x) p) given.means
 
 -- Behind a refusal.
 
-pub behind_said : (n : ℕ) (loose : Refusable Said.Book) (p q : Pen) → n ≡ 6 → q ≡ put_all (loose_words loose) p
-    → q ≡ put_all (behind_by n loose) p
+pub behind_said : (e : Refusal) (loose : Refusable Said.Book) (p q : Pen) → e ≡ why.NoSuchGoal → q ≡ put_all (loose_words loose) p
+    → q ≡ put_all (behind_by (number e) loose) p
 unfolding behind_by
-behind_said n loose p q e f = f ∙ ap (λ (t : Bool). put_all (behind_6 t loose) p) (sym (eq-eqb n 6 e))
+behind_said e loose p q is f = f ∙ ap (λ (x : Refusal). put_all (behind_6 (eqb (number x) 6) loose) p) (sym is)
 
-pub not_behind : (n : ℕ) (loose : Refusable Said.Book) (p : Pen) → (n ≡ 6 → ⊥) → p ≡ put_all (behind_by n loose) p
+pub not_behind : (e : Refusal) (loose : Refusable Said.Book) (p : Pen) → (e ≡ why.NoSuchGoal → ⊥)
+    → p ≡ put_all (behind_by (number e) loose) p
 unfolding behind_by
-not_behind n loose p e = sym (put_nothing p) ∙ ap (λ (t : Bool). put_all (behind_6 t loose) p) (sym (ne_eqb n 6 e))
+not_behind why.PartMissing loose p other = sym (put_nothing p)
+not_behind why.UnknownCommand loose p other = sym (put_nothing p)
+not_behind why.OutOfPlace loose p other = sym (put_nothing p)
+not_behind why.UnknownFlag loose p other = sym (put_nothing p)
+not_behind why.TooMany loose p other = sym (put_nothing p)
+not_behind why.NoSuchGoal loose p other = absurd (other refl)
+not_behind why.BehindEnd loose p other = sym (put_nothing p)
+not_behind why.NoGoal loose p other = sym (put_nothing p)
+not_behind why.CrossedRange loose p other = sym (put_nothing p)
+not_behind why.RepeatedClause loose p other = sym (put_nothing p)
+not_behind why.NotPlain loose p other = sym (put_nothing p)
+not_behind why.NotLevelled loose p other = sym (put_nothing p)
+not_behind why.NotText loose p other = sym (put_nothing p)

@@ -9,7 +9,7 @@ mod missing;
 mod words;
 
 use intake::input;
-use pen::Streams;
+use pen::{Pen, Streams};
 use sizes::READ_AHEAD;
 
 // How an input is read is settled by its first 20,480 bytes (`read_take`, in the proofs of `definitions`): at most 17,536 bytes of commands
@@ -19,8 +19,9 @@ use sizes::READ_AHEAD;
 // are written before: whether they could be written is known.
 fn answer(to: Streams, bytes: &[u8]) {
     let mut out = [0u8; 172032];
-    let used = words::say(to, &mut out, bytes);
-    if !pen::flush(to, &out, used) {
+    let mut pen = Pen::new(to, &mut out);
+    words::say(&mut pen, bytes);
+    if !pen.flush() {
         let _ = eprintln!(to.errors; "inspect: what the paper says can't be written");
     }
 }
@@ -31,12 +32,11 @@ fn main(rt: HostRuntime) {
         errors: rt.stderr(),
     };
     let mut bytes = [0u8; READ_AHEAD];
-    let got = input(&mut rt.stdin(), &mut bytes);
     // Where the input can't be read, that is said, and nothing is taken for a book.
-    if !got.whole {
-        let _ = eprintln!(to.errors; "inspect: the input can't be read");
-        return;
+    match input(&mut rt.stdin(), &mut bytes) {
+        Ok(count) => answer(to, &bytes[..count]),
+        Err(_) => {
+            let _ = eprintln!(to.errors; "inspect: the input can't be read");
+        }
     }
-    let n = got.count;
-    answer(to, &bytes[..n]);
 }

@@ -6,58 +6,52 @@
 //
 // Behind a refusal by 6 stand the book all the same and the literals that name no goal of it (missing.rt).
 ghost use Rattle.std.specs.Prelude.{◌≡◌};
-ghost use Rattle.pen.specs.Pen.{pen, put_all};
+ghost use Rattle.pen.specs.Pen.{put_all};
 ghost use Rattle.book.specs.Repeats.{repeat_seen};
-ghost use Rattle.book.specs.View.{Sound, seen};
-ghost use Rattle.inspect.specs.Words.{refusal_words, book_words, desk_words};
+ghost use Rattle.book.specs.Refusals.{number};
+ghost use Rattle.inspect.specs.Words.{refusal_words, desk_words};
 ghost use Rattle.inspect.specs.Missing.{paper_words};
 
 use crate::book_lines::goals;
 use crate::missing::behind;
-use book::{Reading, Repeat};
-use pen::{Streams, refusals};
+use book::desk::look;
+use book::{Refusal, Repeat};
+use pen::Pen;
 
-fn refusal(to: Streams, out: &mut [u8], at: usize, number: u8) -> usize
-    ensures { pen out.new result ≡ put_all (refusal_words number) (pen out.old at) }
+#[tactic(auto, using(pen::proofs::Putting::put_all_append), unfolding(crate::specs::Words::refusal_words))]
+fn refusal(pen: &mut Pen, e: Refusal)
+    ensures { pen.new ≡ put_all (refusal_words (number e)) pen.old }
 {
-    let said = refusals::refusal(to, out, at, number);
-    pen::text(to, out, said, b"neither entry takes it\n")
-}
-
-// What reading gave, in words, from the start of the buffer on.
-fn reading(to: Streams, out: &mut [u8], r: Reading) -> usize
-    requires { r.number ≡ 0 → Sound r.book }
-    ensures { pen out.new result ≡ put_all (book_words (seen r)) (pen out.old 0) }
-{
-    if r.number == 0 {
-        let book = r.book;
-        return goals(to, out, 0, book);
-    }
-    refusal(to, out, 0, r.number)
+    pen.refusal(u8::from(e));
+    pen.text(b"neither entry takes it\n");
 }
 
 // Where a clause stands for the second time, so that the desk turns the book down.
-fn at_desk(to: Streams, out: &mut [u8], at: usize, r: Repeat) -> usize
-    ensures { pen out.new result ≡ put_all (desk_words (repeat_seen r)) (pen out.old at) }
+#[tactic(auto, using(pen::proofs::Putting::put_all_append), unfolding(pen::specs::Pen::put_all, crate::specs::Words::desk_words))]
+fn at_desk(pen: &mut Pen, repeat: Option<Repeat>)
+    ensures { pen.new ≡ put_all (desk_words (repeat_seen repeat)) pen.old }
 {
-    if !r.found {
-        return at;
+    if let Some(r) = repeat {
+        pen.counted(b"desk refused 36\ngoal ", r.goal as u64);
+        pen.counted(b", clause ", r.clause as u64);
+        pen.counted(b": the same as clause ", r.earlier as u64);
+        pen.text(b"\n");
     }
-    let goal = pen::counted(to, out, at, b"desk refused 36\ngoal ", r.goal as u64);
-    let clause = pen::counted(to, out, goal, b", clause ", r.clause as u64);
-    let earlier = pen::counted(to, out, clause, b": the same as clause ", r.earlier as u64);
-    pen::text(to, out, earlier, b"\n")
 }
 
-// What a byte string says as a book, in words, and what the desk says to it, put down from the start of the buffer on. Of one that is
-// refused with 6 the book stands behind the refusal, as it is read without that test, and behind it the literals that name no goal.
-pub(crate) fn say(to: Streams, out: &mut [u8], bytes: &[u8]) -> usize
-    ensures { pen out.new result ≡ put_all (paper_words bytes.now) (pen out.old 0) }
+// What a byte string says as a book, in words, and what the desk says to it. Of one that is refused with 6 the book stands behind the
+// refusal, as it is read without that test, and behind it the literals that name no goal.
+pub(crate) fn say(pen: &mut Pen, bytes: &[u8])
+    ensures { pen.new ≡ put_all (paper_words bytes.now) pen.old }
 {
-    let l = book::desk::look(bytes);
-    let r = l.reading;
-    let repeat = l.repeat;
-    let read = reading(to, out, r);
-    let told = at_desk(to, out, read, repeat);
-    behind(to, out, told, r.number, bytes)
+    match look(bytes) {
+        Ok(looked) => {
+            goals(pen, &looked.book);
+            at_desk(pen, looked.repeat);
+        }
+        Err(e) => {
+            refusal(pen, e);
+            behind(pen, e, bytes);
+        }
+    }
 }

@@ -2,42 +2,29 @@
 // No contract can speak of what is read: the programs' runs on their files `stdin`, held to their files `stdout`, guard that.
 #![tactic(auto)]
 
+ghost use Rattle.std.specs.Prelude.{MatchResult};
 ghost use Rattle.std.specs.Counts.{IsPrefixLen};
 
 use std::io::Read;
 
-// What was read: whether the input came to its end, or to the buffer's, without an error, and how many bytes there are.
+// The input could not be read to its end: so many bytes came before.
 #[derive(Clone, Copy)]
-pub struct Got {
-    pub whole: bool,
+pub struct BrokenOff {
     pub count: usize,
 }
 
-// Reads until the input ends or the buffer is full. The end is asked for once, so that at a terminal one end-of-input is enough.
-pub fn input<R: Read>(from: &mut R, bytes: &mut [u8]) -> Got
-    ensures { IsPrefixLen result.count bytes.new }
+// Reads until the input ends or the buffer is full, and answers how many bytes there are. The end is asked for once, so that at a terminal
+// one end-of-input is enough.
+pub fn input<R: Read>(from: &mut R, bytes: &mut [u8]) -> Result<usize, BrokenOff>
+    ensures { MatchResult result (λ n. IsPrefixLen n bytes.new) (λ e. IsPrefixLen e.count bytes.new) }
 {
-    let mut n: usize = 0;
-    while n < bytes.len() {
-        let read = from.read(&mut bytes[n..]);
-        match read {
-            Ok(0) => {
-                return Got {
-                    whole: true,
-                    count: n,
-                };
-            }
-            Ok(k) => n += k,
-            Err(_) => {
-                return Got {
-                    whole: false,
-                    count: n,
-                };
-            }
+    let mut count: usize = 0;
+    while count < bytes.len() {
+        match from.read(&mut bytes[count..]) {
+            Ok(0) => break,
+            Ok(n) => count += n,
+            Err(_) => return Err(BrokenOff { count }),
         }
     }
-    Got {
-        whole: true,
-        count: n,
-    }
+    Ok(count)
 }

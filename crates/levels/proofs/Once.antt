@@ -22,12 +22,13 @@ use Rattle.paper_checks.proofs.Once.{marks_once}
 use Rattle.levels.specs.Words.{reason_words, refused_words, outside_words, level_words, Tells}
 
 -- the marks are in the words of 38 alone
-words_once : (c : Refusable (List ℕ)) (o : Option Place) (a b : List ℕ) → (c ≡ refused 38 → a ≡ b) → level_words c o a ≡ level_words c o b
+words_once : (c : Refusable (List ℕ)) (o : Option Place) (a b : List Bool) → (c ≡ refused 38 → a ≡ b)
+    → level_words c o a ≡ level_words c o b
 unfolding refused_words
 words_once (accepted levels) o a b e = refl
 words_once (refused n) o a b e = ap (λ (w : List ℕ). outside_words n ++ w) (on (ℕ_discrete n 38))
   where
-    plain : (marks : List ℕ) → (n ≡ 38 → ⊥) → refused_words n o marks ≡ refusal_lines n ++ (place_line o ++ [])
+    plain : (marks : List Bool) → (n ≡ 38 → ⊥) → refused_words n o marks ≡ refusal_lines n ++ (place_line o ++ [])
     plain marks k = ap (λ (t : Bool). refusal_lines n ++ (place_line o ++ reason_words t marks)) (ne_eqb n 38 k)
 
     on : Dec (n ≡ 38) → refused_words n o a ≡ refused_words n o b

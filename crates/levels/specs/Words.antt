@@ -21,23 +21,20 @@ abbrev pub level_lines : ℕ → List ℕ → List ℕ
 level_lines g levels = words_from level_line g levels
 
 -- a goal that is marked, with a space before it
-abbrev pub marked_by : Bool → (goal : ℕ) → List ℕ
-marked_by true goal = ascii " " ++ decimal goal
-marked_by false goal = []
+unfoldable pub marked_words : (goal : ℕ) → (mark : Bool) → List ℕ
+marked_words goal true = ascii " " ++ decimal goal
+marked_words goal false = []
 
-unfoldable pub marked_words : (goal mark : ℕ) → List ℕ
-marked_words goal mark = marked_by (eqb mark 1) goal
-
-unfoldable pub cycle_words : (marks : List ℕ) → List ℕ
+unfoldable pub cycle_words : (marks : List Bool) → List ℕ
 cycle_words marks = ascii "goals on a cycle through \"not\":" ++ (words_from marked_words 0 marks ++ ascii "\n")
 
 -- behind the refusal's lines; the goals on a cycle are why a paper is refused with 38, and with no other number. Nor is there a place that
 -- is not plain with any other number than 37 (papers NotPlain: `place_of_37`, `no_place_but_37`).
-abbrev pub reason_words : (of_38 : Bool) → (marks : List ℕ) → List ℕ
+abbrev pub reason_words : (of_38 : Bool) → (marks : List Bool) → List ℕ
 reason_words true marks = cycle_words marks
 reason_words false marks = []
 
-unfoldable pub refused_words : ℕ → Option Place → (marks : List ℕ) → List ℕ
+unfoldable pub refused_words : ℕ → Option Place → (marks : List Bool) → List ℕ
 refused_words n place marks = refusal_lines n ++ (place_line place ++ reason_words (eqb n 38) marks)
 
 -- A paper that the check accepts is within demand 3 (promises Profile: `accepted_as_promised`). One that is not plain, or not levelled, is
@@ -51,13 +48,13 @@ unfoldable pub outside_words : ℕ → List ℕ
 outside_words n = outside_by (eqb n 37) (eqb n 38)
 
 -- THE WORDS of a paper's check, by the place that is not plain first and the marks of the goals on a cycle
-abbrev pub level_words : Refusable (List ℕ) → Option Place → (marks : List ℕ) → List ℕ
+abbrev pub level_words : Refusable (List ℕ) → Option Place → (marks : List Bool) → List ℕ
 level_words (accepted levels) place marks = ascii "within demand 3\n" ++ level_lines 0 levels
 level_words (refused n) place marks = outside_words n ++ refused_words n place marks
 
 -- the words of a byte string's check are put down. The marks are those of its goals wherever they are told; so from a buffer and a byte
 -- string there is one outcome (proofs/Once: `told_once`).
 pub record Tells (bytes : List ℕ) (before after : Pen) : Type 0 where
-  pub marks : List ℕ
+  pub marks : List Bool
   pub marked : (book : Book) → desk bytes ≡ accepted book → check_levels bytes ≡ refused 38 → Marks book marks
   pub told : after ≡ put_all (level_words (check_levels bytes) (not_plain_place bytes) marks) before

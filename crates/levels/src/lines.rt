@@ -18,115 +18,108 @@
 //     goals on a cycle through "not": 0 1 5
 ghost use Rattle.std.specs.Prelude.{◌≡◌};
 ghost use Rattle.papers.specs.NotPlain.{not_plain_place};
-ghost use Rattle.pen.specs.Pen.{pen, put_all};
+ghost use Rattle.pen.specs.Pen.{put_all};
 ghost use Rattle.pen.specs.Goals.{words_from};
+ghost use Rattle.pen.specs.Refusals.{refusal_lines};
+ghost use Rattle.book.specs.Refusals.{number};
+ghost use Rattle.places.specs.Words.{place_line};
 ghost use Rattle.levels.specs.Words.{level_line as levelLine, level_lines as levelLines, marked_words};
-ghost use Rattle.levels.specs.Words.{cycle_words, refused_words, outside_words, Tells};
+ghost use Rattle.levels.specs.Words.{cycle_words, outside_words, Tells};
 
-use paper_checks::levels;
+use book::Refusal;
 use paper_checks::place::not_plain;
-use pen::{Streams, refusals};
+use paper_checks::{Unlevelled, levels};
+use pen::Pen;
 use places::place;
 
-fn level_line(to: Streams, out: &mut [u8], at: usize, goal: usize, level: u8) -> usize
-    ensures { pen out.new result ≡ put_all (levelLine goal level) (pen out.old at) }
+#[tactic(auto, using(pen::proofs::Putting::put_all_append), unfolding(pen::specs::Pen::put_all, crate::specs::Words::level_line))]
+fn level_line(pen: &mut Pen, goal: usize, level: u8)
+    ensures { pen.new ≡ put_all (levelLine goal level) pen.old }
 {
-    let named = pen::number(to, out, at, goal as u64);
-    let levelled = pen::counted(to, out, named, b" ", level as u64);
-    pen::text(to, out, levelled, b"\n")
+    pen.number(goal as u64);
+    pen.counted(b" ", level as u64);
+    pen.text(b"\n");
 }
 
-fn level_lines(to: Streams, out: &mut [u8], at: usize, levels: &[u8]) -> usize
-    ensures { pen out.new result ≡ put_all (levelLines 0 levels.now) (pen out.old at) }
+#[tactic(auto, using(pen::proofs::Goals::words_start, pen::proofs::Goals::words_next))]
+fn level_lines(pen: &mut Pen, levels: &[u8])
+    ensures { pen.new ≡ put_all (levelLines 0 levels.now) pen.old }
 {
-    let mut used = at;
-    let mut g: usize = 0;
-    while g < levels.len() {
-        used = level_line(to, out, used, g, levels[g]);
-        g += 1;
+    for (goal, level) in levels.iter().enumerate() {
+        level_line(pen, goal, *level);
     }
-    used
 }
 
 // The goal with a space before it, if it is marked.
-fn marked(to: Streams, out: &mut [u8], at: usize, goal: usize, mark: u8) -> usize
-    ensures { pen out.new result ≡ put_all (marked_words goal mark) (pen out.old at) }
+#[tactic(auto, unfolding(pen::specs::Pen::put_all, crate::specs::Words::marked_words))]
+fn marked(pen: &mut Pen, goal: usize, mark: bool)
+    ensures { pen.new ≡ put_all (marked_words goal mark) pen.old }
 {
-    if mark == 1 {
-        return pen::counted(to, out, at, b" ", goal as u64);
+    if mark {
+        pen.counted(b" ", goal as u64);
     }
-    at
 }
 
-fn marked_goals(to: Streams, out: &mut [u8], at: usize, marks: &[u8]) -> usize
-    ensures { pen out.new result ≡ put_all (words_from marked_words 0 marks.now) (pen out.old at) }
+#[tactic(auto, using(pen::proofs::Goals::words_start, pen::proofs::Goals::words_next))]
+fn marked_goals(pen: &mut Pen, marks: &[bool])
+    ensures { pen.new ≡ put_all (words_from marked_words 0 marks.now) pen.old }
 {
-    let mut used = at;
-    let mut g: usize = 0;
-    while g < marks.len() {
-        used = marked(to, out, used, g, marks[g]);
-        g += 1;
+    for (goal, mark) in marks.iter().enumerate() {
+        marked(pen, goal, *mark);
     }
-    used
 }
 
-fn cycle_line(to: Streams, out: &mut [u8], at: usize, marks: &[u8]) -> usize
-    ensures { pen out.new result ≡ put_all (cycle_words marks.now) (pen out.old at) }
+#[tactic(auto, using(pen::proofs::Putting::put_all_append), unfolding(pen::specs::Pen::put_all, crate::specs::Words::cycle_words))]
+fn cycle_line(pen: &mut Pen, marks: &[bool])
+    ensures { pen.new ≡ put_all (cycle_words marks.now) pen.old }
 {
-    let worded = pen::text(to, out, at, b"goals on a cycle through \"not\":");
-    let told = marked_goals(to, out, worded, marks);
-    pen::text(to, out, told, b"\n")
+    pen.text(b"goals on a cycle through \"not\":");
+    marked_goals(pen, marks);
+    pen.text(b"\n");
 }
 
-// A refusal of a paper; with 37 the place that is not plain first, with 38 the goals that are marked.
-fn refused(to: Streams, out: &mut [u8], at: usize, number: u8, bytes: &[u8], marks: &[u8]) -> usize
-    ensures { pen out.new result
-        ≡ put_all (refused_words number (not_plain_place bytes.now) marks.now) (pen out.old at) }
+// The first place that is not plain; nothing where there is none.
+fn first_place(pen: &mut Pen, bytes: &[u8])
+    ensures { pen.new ≡ put_all (place_line (not_plain_place bytes.now)) pen.old }
 {
-    let said = refusals::refusal(to, out, at, number);
-    let p = not_plain(bytes);
-    let placed = place(
-        to,
-        out,
-        said,
-        p.what,
-        p.in_clause,
-        p.in_literal,
-        p.goal,
-        p.clause,
-        p.literal,
-    );
-    if number == 38 {
-        return cycle_line(to, out, placed, marks);
-    }
-    placed
+    place(pen, not_plain(bytes));
 }
 
-// The first line of a refusal by 37 or 38, from the start of the buffer on.
-fn outside(to: Streams, out: &mut [u8], n: u8) -> usize
-    ensures { pen out.new result ≡ put_all (outside_words n) (pen out.old 0) }
+// The first line of a refusal by 37 or 38.
+#[tactic(auto, using(pen::proofs::Putting::put_nothing), unfolding(crate::specs::Words::outside_words))]
+fn outside(pen: &mut Pen, refusal: Refusal)
+    ensures { pen.new ≡ put_all (outside_words (number refusal)) pen.old }
 {
-    if n == 37 {
-        return pen::text(to, out, 0, b"outside demand 3\n");
+    match refusal {
+        Refusal::NotPlain => pen.text(b"outside demand 3\n"),
+        Refusal::NotLevelled => pen.text(b"outside demand 3\n"),
+        _ => {}
     }
-    if n == 38 {
-        return pen::text(to, out, 0, b"outside demand 3\n");
-    }
-    0
 }
 
-// What the check of a byte string says, put down from the start of the buffer on.
-pub(crate) fn say(to: Streams, out: &mut [u8], bytes: &[u8]) -> usize
-    ensures { Tells bytes.now (pen out.old 0) (pen out.new result) }
+// A refusal of a paper, and where it is not plain first.
+fn refused(pen: &mut Pen, refusal: Refusal, bytes: &[u8])
+    ensures { pen.new ≡ put_all (place_line (not_plain_place bytes.now))
+        (put_all (refusal_lines (number refusal)) (put_all (outside_words (number refusal)) pen.old)) }
 {
-    let p = levels::levels(bytes);
-    if p.number == 0 {
-        let levels = p.levels;
-        let goals = p.goals;
-        let within = pen::text(to, out, 0, b"within demand 3\n");
-        return level_lines(to, out, within, &levels[..goals]);
+    outside(pen, refusal);
+    pen.refusal(u8::from(refusal));
+    first_place(pen, bytes);
+}
+
+// What the check of a byte string says.
+pub(crate) fn say(pen: &mut Pen, bytes: &[u8])
+    ensures { Tells bytes.now pen.old pen.new }
+{
+    match levels::levels(bytes) {
+        Ok(l) => {
+            pen.text(b"within demand 3\n");
+            level_lines(pen, &l.levels[..l.goals]);
+        }
+        Err(Unlevelled::Refused(refusal)) => refused(pen, refusal, bytes),
+        Err(Unlevelled::OnCycles(marks)) => {
+            refused(pen, Refusal::NotLevelled, bytes);
+            cycle_line(pen, &marks);
+        }
     }
-    let marks = p.on_cycle;
-    let began = outside(to, out, p.number);
-    refused(to, out, began, p.number, bytes, &marks)
 }

@@ -9,7 +9,7 @@
 mod lines;
 
 use intake::input;
-use pen::Streams;
+use pen::{Pen, Streams};
 use sizes::READ_AHEAD;
 
 // How an input is checked is settled by its first 20,480 bytes (`levels_take`, in the proofs of `definitions`): what follows is not read.
@@ -17,8 +17,9 @@ use sizes::READ_AHEAD;
 // refusal with 64 goals on a cycle has 352. So they are all in the buffer when it is written, and whether they could be written is known.
 fn answer(to: Streams, bytes: &[u8]) {
     let mut out = [0u8; 512];
-    let used = lines::say(to, &mut out, bytes);
-    if !pen::flush(to, &out, used) {
+    let mut pen = Pen::new(to, &mut out);
+    lines::say(&mut pen, bytes);
+    if !pen.flush() {
         let _ = eprintln!(to.errors; "levels: the lines can't be written");
     }
 }
@@ -29,12 +30,11 @@ fn main(rt: HostRuntime) {
         errors: rt.stderr(),
     };
     let mut bytes = [0u8; READ_AHEAD];
-    let got = input(&mut rt.stdin(), &mut bytes);
     // Where the input can't be read, that is said, and nothing is taken for a book.
-    if !got.whole {
-        let _ = eprintln!(to.errors; "levels: the input can't be read");
-        return;
+    match input(&mut rt.stdin(), &mut bytes) {
+        Ok(count) => answer(to, &bytes[..count]),
+        Err(_) => {
+            let _ = eprintln!(to.errors; "levels: the input can't be read");
+        }
     }
-    let n = got.count;
-    answer(to, &bytes[..n]);
 }

@@ -16,7 +16,7 @@ use Rattle.definitions.specs.Refusal.{Refusable, refused, accepted, ◌refuses�
 use Rattle.definitions.specs.Tables as tables
 use Rattle.definitions.specs.Turn.{stopped}
 use Rattle.definitions.proofs.Refusal.{same_accepted, not_accepted}
-use Rattle.pen.specs.Pen.{Pen, pen, put_all}
+use Rattle.pen.specs.Pen.{Pen, put_all}
 use Rattle.pen.specs.Refusals.{refusal_line}
 use Rattle.pen.proofs.Putting.{put_nothing, put_all_append}
 use Rattle.search.specs.RootAnswer.{one_more_by, one_more}
@@ -73,14 +73,14 @@ pub record Along (f : Forest) (s : Pen) (g : Forest) (p : Place) (q : Pen) : Typ
   pub opens : p.over ≡ false → p.opens ≡ true → Amid f s g p.goal p.lines q
   pub peeks : p.over ≡ false → p.opens ≡ false → Midway f s g p.goal p.table p.index p.skipped p.lines q
 
-pub along_start : (f : Forest) (out : List ℕ) (p : Place) → Ready f → p ≡ first_place → Along f (pen out 0) f p (pen out p.used)
-along_start f out p x e = rw e (record {
+pub along_start : (f : Forest) (s : Pen) (p : Place) → Ready f → p ≡ first_place → Along f s f p s
+along_start f s p x e = rw e (record {
   few = omega arith;
   over = λ z. absurd (false≢true z);
   opens = λ y z. record {
     ready = x;
     same_goals = refl;
-    same_bytes = ap (λ (w : List ℕ). put_all w (pen out 0)) (behind_none (rest_lines 0 f));
+    same_bytes = ap (λ (w : List ℕ). put_all w s) (behind_none (rest_lines 0 f));
   };
   peeks = λ y z. absurd (true≢false z);
 })
@@ -111,9 +111,9 @@ pub record Moved (f : Forest) (s : Pen) (p : Place) (h : Forest) (r : Place) (q 
   pub along : Along f s h r q
   pub less : left_at f r < left_at f p
 
-moved_end : (f : Forest) (s : Pen) (p : Place) (h : Forest) (used lines : ℕ) (q : Pen) → 0 < left_at f p → lines < 60
-    → Left f s lines [] q → Moved f s p h (ended_place used lines p) q
-moved_end f s p h used lines q o few e = record {
+moved_end : (f : Forest) (s : Pen) (p : Place) (h : Forest) (lines : ℕ) (q : Pen) → 0 < left_at f p → lines < 60
+    → Left f s lines [] q → Moved f s p h (ended_place lines p) q
+moved_end f s p h lines q o few e = record {
   along = record { few = few; over = λ z. e; opens = λ y z. absurd (true≢false y); peeks = λ y z. absurd (true≢false y) };
   less = o;
 }
@@ -152,18 +152,18 @@ module _ (f : Forest) (s : Pen) (g : Forest) (p : Place) (q : Pen) (a : Along f 
     left_as : (ls : List Line) → rest_lines goal g ≡ ls → Left f s p.lines ls q
     left_as ls e = subst (λ (z : List Line). Left f s p.lines z q) e amid.same_bytes
 
-    opened_by_case : (z : Opening) (used : ℕ) (after : Pen) → o.opening ≡ z → after ≡ put_all (opened_bytes z goal) q
-        → Moved f s p o.forest (opened_place z used p) after
-    opened_by_case (openings.Refused n) used after e put =
+    opened_by_case : (z : Opening) (after : Pen) → o.opening ≡ z → after ≡ put_all (opened_bytes z goal) q
+        → Moved f s p o.forest (opened_place z p) after
+    opened_by_case (openings.Refused n) after e put =
         let now = left_now in
-        moved_end f s p o.forest used p.lines after (omega arith) a.few
+        moved_end f s p o.forest p.lines after (omega arith) a.few
         (ap (put_all _) (put ∙ put_nothing q) ∙ left_as [] (goal_past g amid.ready goal o says n e))
-    opened_by_case (openings.Stopped n) used after e put =
+    opened_by_case (openings.Stopped n) after e put =
         let now = left_now in
-        moved_end f s p o.forest used (next_line p.lines) after (omega arith) (few_lines p.lines)
+        moved_end f s p o.forest (next_line p.lines) after (omega arith) (few_lines p.lines)
         (line_put f s p.lines (line goal 0 (stopped n) false) [] _ q after a.few (stop_line goal n) put
         (left_as (line goal 0 (stopped n) false ∷ []) (goal_stops g amid.ready goal o says n e)))
-    opened_by_case (openings.Table t) used after e put =
+    opened_by_case (openings.Table t) after e put =
         let x = amid.ready in
         let lists = goal_lists g x goal o says t e in
         let is-named = goal_named g x goal o says t e in
@@ -194,7 +194,7 @@ module _ (f : Forest) (s : Pen) (g : Forest) (p : Place) (q : Pen) (a : Along f 
     opened_moves : (r : Place) (after : Pen) → OpenedTo o.opening p q r after → Moved f s p o.forest r after
     opened_moves r after to =
         subst (λ (z : Place). Moved f s p o.forest z after) (sym to.place)
-        (opened_by_case o.opening r.used after refl to.bytes)
+        (opened_by_case o.opening after refl to.bytes)
 
     pub along_opened : (r : Place) (after : Pen) → OpenedTo o.opening p q r after → Along f s o.forest r after
     along_opened r after to = (opened_moves r after to).along
@@ -253,13 +253,13 @@ module _ (f : Forest) (s : Pen) (g : Forest) (p : Place) (q : Pen) (a : Along f 
       abbrev behind : Next → List Line
       behind n = lines_behind others fewer goal p.table p.index p.skipped x.made n
 
-      peeked_by_case : (n : Next) (used index : ℕ) (after : Pen) → next x.made.ending ≡ n → index ≡ x.made.index
-          → Left f s (next_line p.lines) (behind n) after → Moved f s p h (next_place n used index p) after
-      peeked_by_case the_end used index after e i left =
+      peeked_by_case : (n : Next) (index : ℕ) (after : Pen) → next x.made.ending ≡ n → index ≡ x.made.index
+          → Left f s (next_line p.lines) (behind n) after → Moved f s p h (next_place n index p) after
+      peeked_by_case the_end index after e i left =
           let now = left_then in
           let few = midway.stands.few in
-          moved_end f s p h used (next_line p.lines) after (omega arith) (few_lines p.lines) left
-      peeked_by_case next_goal used index after e i left =
+          moved_end f s p h (next_line p.lines) after (omega arith) (few_lines p.lines) left
+      peeked_by_case next_goal index after e i left =
           let now = left_then in
           let few = midway.stands.few in
           let is-named = midway.named in
@@ -285,7 +285,7 @@ module _ (f : Forest) (s : Pen) (g : Forest) (p : Place) (q : Pen) (a : Along f 
             };
             less = omega arith;
           }
-      peeked_by_case next_index used index after e i left =
+      peeked_by_case next_index index after e i left =
           let now = left_then in
           let few = midway.stands.few in
           let stands_next = x.stands e in
@@ -324,8 +324,8 @@ module _ (f : Forest) (s : Pen) (g : Forest) (p : Place) (q : Pen) (a : Along f 
       peeked_moves : (r : Place) (after : Pen) → ToldTo replies p q r after → Moved f s p h r after
       peeked_moves r after to =
           subst (λ (z : Place). Moved f s p h z after)
-          (sym (to.place ∙ ap (λ (n : Next). next_place n r.used (get_or replies 2 0) p) x.follows))
-          (peeked_by_case (next x.made.ending) r.used (get_or replies 2 0) after refl x.ended_at
+          (sym (to.place ∙ ap (λ (n : Next). next_place n (get_or replies 2 0) p) x.follows))
+          (peeked_by_case (next x.made.ending) (get_or replies 2 0) after refl x.ended_at
           (behind_put (behind (next x.made.ending)) after to.bytes
           (peeked_lines others fewer goal p.table p.index p.skipped x.made (view g) x.is_made)))
 

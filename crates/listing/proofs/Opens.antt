@@ -69,12 +69,12 @@ module _ (f : Forest) (x : Ready f) (goal : ℕ) (o : Opened) (says : OpenSays f
     m : opened_means o ≡ accepted (record { table = go t; forest = G })
     m = ap (λ (z : Opening). opened_by z G) e
 
-    is_table : OpensTable f.goals 0 t G
+    is_table : OpensTable f.book.goals 0 t G
     is_table =
-        let y = opens_table f.goals F x.sound.forest goal (subst (λ (n : ℕ). goal < n) x.sound.forest.goals (named (go t) m)) in
-        let z = subst (λ (r : said.Opened). (u : ℕ) → r.table ≡ go u → OpensTable f.goals f.mark u r.forest)
+        let y = opens_table f.book.goals F x.sound.forest goal (subst (λ (n : ℕ). goal < n) x.sound.forest.goals (named (go t) m)) in
+        let z = subst (λ (r : said.Opened). (u : ℕ) → r.table ≡ go u → OpensTable f.book.goals f.mark u r.forest)
         (is_opened (go t) m) y t refl in
-        subst (λ (k : ℕ). OpensTable f.goals k t G) x.unmarked z
+        subst (λ (k : ℕ). OpensTable f.book.goals k t G) x.unmarked z
 
     pub goal_stands : Stands o.forest t 0
     goal_stands = record {

@@ -4,7 +4,7 @@ use mathlib.Core.Bool.{Bool, true}
 use mathlib.Core.List.{List}
 use mathlib.Core.Path.{◌≡◌, refl, sym, ap, subst, ◌∙◌}
 use Rattle.papers.specs.Listing.{Next, next_index, next_goal, the_end}
-use Rattle.pen.specs.Pen.{Pen, pen, put_all}
+use Rattle.pen.specs.Pen.{Pen, put_all}
 use Rattle.pen.proofs.Putting.{put_nothing}
 use Rattle.search.specs.RootAnswer.{one_more}
 use Rattle.forest.specs.declared.open.Opening.{Opening}
@@ -14,48 +14,42 @@ use Rattle.listing.specs.Lines.{reply_line, settled_word, next_line}
 use Rattle.listing.specs.Goals.{ended_place, opened_place, opened_bytes, OpenedTo, next_of, skips, next_place, PeekedTo}
 
 module _ (opening : Opening) (p : Place) (q : Pen) where
-  opened_by : (z : Opening) (used : ℕ) (after : Pen) → opening ≡ z → after ≡ put_all (opened_bytes z p.goal) q
-      → OpenedTo opening p q (opened_place z used p) after
-  opened_by z used after e put = record {
-    place = same_used z used ∙ ap (λ (y : Opening). opened_place y (opened_place z used p).used p) (sym e);
+  opened_by : (z : Opening) (after : Pen) → opening ≡ z → after ≡ put_all (opened_bytes z p.goal) q
+      → OpenedTo opening p q (opened_place z p) after
+  opened_by z after e put = record {
+    place = ap (λ (y : Opening). opened_place y p) (sym e);
     bytes = put ∙ ap (λ (y : Opening). put_all (opened_bytes y p.goal) q) (sym e);
   }
-    where
-      same_used : (z : Opening) (used : ℕ) → opened_place z used p ≡ opened_place z (opened_place z used p).used p
-      same_used (openings.Refused n) used = refl
-      same_used (openings.Table t) used = refl
-      same_used (openings.Stopped n) used = refl
 
-  pub opened_past : (n : ℕ) → opening ≡ openings.Refused n → OpenedTo opening p q (ended_place p.used p.lines p) q
-  opened_past n e = opened_by (openings.Refused n) p.used q e (sym (put_nothing q))
+  pub opened_past : (n : ℕ) → opening ≡ openings.Refused n → OpenedTo opening p q (ended_place p.lines p) q
+  opened_past n e = opened_by (openings.Refused n) q e (sym (put_nothing q))
 
-  pub opened_table : (t : ℕ) → opening ≡ openings.Table t → OpenedTo opening p q (opened_place (openings.Table t) p.used p) q
-  opened_table t e = opened_by (openings.Table t) p.used q e (sym (put_nothing q))
+  pub opened_table : (t : ℕ) → opening ≡ openings.Table t → OpenedTo opening p q (opened_place (openings.Table t) p) q
+  opened_table t e = opened_by (openings.Table t) q e (sym (put_nothing q))
 
-  pub opened_stops : (n used lines : ℕ) (after : Pen) → opening ≡ openings.Stopped n → lines ≡ next_line p.lines
-      → after ≡ put_all (reply_line p.goal 0 2 n) q → OpenedTo opening p q (ended_place used lines p) after
-  opened_stops n used lines after e l put = rw l (opened_by (openings.Stopped n) used after e put)
+  pub opened_stops : (n lines : ℕ) (after : Pen) → opening ≡ openings.Stopped n → lines ≡ next_line p.lines
+      → after ≡ put_all (reply_line p.goal 0 2 n) q → OpenedTo opening p q (ended_place lines p) after
+  opened_stops n lines after e l put = rw l (opened_by (openings.Stopped n) after e put)
 
 -- `skipped` is what `skips` gave, and `said` the number of the word that is written
 module _ (word value index : ℕ) (p : Place) (q : Pen) (skipped : Bool) (flag : skipped ≡ skips p index) (said : ℕ)
-    (settles : said ≡ settled_word word skipped) (used : ℕ) (after : Pen)
+    (settles : said ≡ settled_word word skipped) (after : Pen)
     (put : after ≡ put_all (reply_line p.goal index said value) q) where
   written : after ≡ put_all (reply_line p.goal index (settled_word word (skips p index)) value) q
   written = put ∙ ap (λ (w : ℕ). put_all (reply_line p.goal index w value) q) (settles ∙ ap (settled_word word) flag)
 
-  told_by : (n : Next) → next_of word ≡ n → PeekedTo word value index p q (next_place n used index p) after
-  told_by next_index e = record { place = ap (λ (y : Next). next_place y used index p) (sym e); bytes = written }
-  told_by next_goal e = record { place = ap (λ (y : Next). next_place y used index p) (sym e); bytes = written }
-  told_by the_end e = record { place = ap (λ (y : Next). next_place y used index p) (sym e); bytes = written }
+  told_by : (n : Next) → next_of word ≡ n → PeekedTo word value index p q (next_place n index p) after
+  told_by next_index e = record { place = ap (λ (y : Next). next_place y index p) (sym e); bytes = written }
+  told_by next_goal e = record { place = ap (λ (y : Next). next_place y index p) (sym e); bytes = written }
+  told_by the_end e = record { place = ap (λ (y : Next). next_place y index p) (sym e); bytes = written }
 
   module _ (lines : ℕ) (one_on : lines ≡ next_line p.lines) where
-    pub told_stop : word ≡ 2 → PeekedTo word value index p q (ended_place used lines p) after
+    pub told_stop : word ≡ 2 → PeekedTo word value index p q (ended_place lines p) after
     told_stop e = rw one_on (told_by the_end (ap next_of e))
 
     pub told_none : (more : ℕ) → (word ≡ 2 → ⊥) → (word ≡ 3 → ⊥) → (word ≡ 4 → ⊥) → more ≡ one_more p.goal
         → PeekedTo word value index p q
         (record {
-          used = used;
           lines = lines;
           skipped = p.skipped;
           over = p.over;
@@ -74,9 +68,8 @@ module _ (word value index : ℕ) (p : Place) (q : Pen) (skipped : Bool) (flag :
         by (suc (suc (suc (suc zero)))) a b d = absurd (d refl)
         by (suc (suc (suc (suc (suc w))))) a b d = refl
 
-pub next_index_is : (used lines index more : ℕ) (skipped : Bool) (p : Place) → lines ≡ next_line p.lines → skipped ≡ skips p index
+pub next_index_is : (lines index more : ℕ) (skipped : Bool) (p : Place) → lines ≡ next_line p.lines → skipped ≡ skips p index
     → more ≡ one_more index → record {
-      used = used;
       lines = lines;
       skipped = skipped;
       over = p.over;
@@ -84,19 +77,19 @@ pub next_index_is : (used lines index more : ℕ) (skipped : Bool) (p : Place) �
       goal = p.goal;
       table = p.table;
       index = more;
-    } ≡ next_place next_index used index p
-next_index_is used lines index more skipped p l s e = rw (l, s, e)
+    } ≡ next_place next_index index p
+next_index_is lines index more skipped p l s e = rw (l, s, e)
 
 module _ (word value index : ℕ) (p : Place) (q : Pen) (skipped : Bool) (flag : skipped ≡ skips p index) (said : ℕ)
-    (settles : said ≡ settled_word word skipped) (used : ℕ) (out : List ℕ)
-    (put : pen out used ≡ put_all (reply_line p.goal index said value) q) (r : Place) (on : r ≡ next_place next_index used index p) where
-  told_on : next_of word ≡ next_index → PeekedTo word value index p q r (pen out r.used)
+    (settles : said ≡ settled_word word skipped) (after : Pen)
+    (put : after ≡ put_all (reply_line p.goal index said value) q) (r : Place) (on : r ≡ next_place next_index index p) where
+  told_on : next_of word ≡ next_index → PeekedTo word value index p q r after
   told_on e =
-      subst (λ (z : Place). PeekedTo word value index p q z (pen out z.used)) (sym on)
-      (told_by word value index p q skipped flag said settles used (pen out used) put next_index e)
+      subst (λ (z : Place). PeekedTo word value index p q z after) (sym on)
+      (told_by word value index p q skipped flag said settles after put next_index e)
 
-  pub told_yes : word ≡ 3 → PeekedTo word value index p q r (pen out r.used)
+  pub told_yes : word ≡ 3 → PeekedTo word value index p q r after
   told_yes e = told_on (ap next_of e)
 
-  pub told_maybe : word ≡ 4 → PeekedTo word value index p q r (pen out r.used)
+  pub told_maybe : word ≡ 4 → PeekedTo word value index p q r after
   told_maybe e = told_on (ap next_of e)

@@ -173,19 +173,19 @@ module _ (f : Forest) (t i : ℕ) (x : Stands f t i) (r : Peeked) (says : PeekSa
   abbrev made : said.Peeked
   made = said.peek_rounds (listing_rounds - 1) listing_turns 0 t i (view f)
 
-  stands_ended : Ended f.goals t i (view f)
+  stands_ended : Ended f.book.goals t i (view f)
   stands_ended = record { sound = x.ready.sound.forest; own = x.own; is_made = x.is_made; reached = x.reached }
 
   is_told : (e : Ending) × (ending_of r.outcome ≡ accepted e) × (made ≡ told e)
   is_told = told_by r.outcome told made
       (says.says x.ready.sound
-      ∙ peek_asked f.goals t i (view f) stands_ended x.ready.unmarked listing_rounds listing_turns refl)
+      ∙ peek_asked f.book.goals t i (view f) stands_ended x.ready.unmarked listing_rounds listing_turns refl)
 
   abbrev ending : Ending
   ending = is_told.0
 
-  well : PeekWell f.goals t (told ending)
-  well = subst (PeekWell f.goals t) is_told.2 (peeks_well f.goals t listing_turns (listing_rounds - 1) 0 i (view f) stands_ended)
+  well : PeekWell f.book.goals t (told ending)
+  well = subst (PeekWell f.book.goals t) is_told.2 (peeks_well f.book.goals t listing_turns (listing_rounds - 1) 0 i (view f) stands_ended)
 
   is_stored : PeekStored t i (told ending)
   is_stored = subst (PeekStored t i) is_told.2 (peek_stored t listing_turns (listing_rounds - 1) 0 i (view f))

@@ -9,7 +9,7 @@ use borrow.Author.Tests.{lt-ltb, le-ltb, ne_eqb}
 use Rattle.definitions.specs.Text.{ascii, decimal, blanks, in_column, at_left, at_right}
 use Rattle.papers.specs.Listing.{blank_line, blank_lines, lines_left}
 use Rattle.pen.specs.Pen.{Pen, put_all}
-use Rattle.pen.proofs.Putting.{put_two, put_left, put_ended}
+use Rattle.pen.proofs.Putting.{put_two, put_left, put_nothing}
 use Rattle.listing.specs.Lines.{word_of, settled_word, number_of, word_column, number_column, number_spaced, reply_line, next_line}
 
 -- THE WORD
@@ -105,14 +105,16 @@ pub blank_said : (p q r : Pen) → q ≡ put_all (blanks 26) p → r ≡ put_all
 blank_said p q r e f = put_two (blanks 26) (ascii "\n") p q r e f
 
 -- those that are left put down from where the pen is come to the same at each turn
-pub fill_step : (left : ℕ) (p q whole : Pen) → 0 < left → put_all (blank_lines left) p ≡ whole → q ≡ put_all blank_line p
-    → put_all (blank_lines (left - 1)) q ≡ whole
-fill_step left p q whole h e f =
-    let z : left ≡ suc (left - 1) = omega arith in
-    put_left blank_line (blank_lines (left - 1)) p q f ∙ sym (ap (λ (n : ℕ). put_all (blank_lines n) p) z) ∙ e
+pub fill_start : (missing : ℕ) (p : Pen) → put_all (blank_lines (missing - 0)) p ≡ put_all (blank_lines missing) p
+fill_start missing p = let z : missing - 0 ≡ missing = omega arith in ap (λ (n : ℕ). put_all (blank_lines n) p) z
 
-pub fill_done : (left lines : ℕ) (p q : Pen) → left ≤ 0 → put_all (blank_lines left) q ≡ put_all (blank_lines (lines_left lines)) p
-    → q ≡ put_all (blank_lines (lines_left lines)) p
-fill_done left lines p q h e =
-    let z : left ≡ 0 = omega arith in
-    put_ended (blank_lines left) (blank_lines (lines_left lines)) p q (ap blank_lines z) e
+pub fill_step : (missing line : ℕ) (p q whole : Pen) → line < missing → put_all (blank_lines (missing - line)) p ≡ whole
+    → q ≡ put_all blank_line p → put_all (blank_lines (missing - (line + 1))) q ≡ whole
+fill_step missing line p q whole h e f =
+    let z : missing - line ≡ suc (missing - (line + 1)) = omega arith in
+    put_left blank_line (blank_lines (missing - (line + 1))) p q f ∙ sym (ap (λ (n : ℕ). put_all (blank_lines n) p) z) ∙ e
+
+pub fill_done : (missing line : ℕ) (q whole : Pen) → missing ≤ line → put_all (blank_lines (missing - line)) q ≡ whole → q ≡ whole
+fill_done missing line q whole h e =
+    let z : missing - line ≡ 0 = omega arith in
+    sym (ap (λ (n : ℕ). put_all (blank_lines n) q) z ∙ put_nothing q) ∙ e

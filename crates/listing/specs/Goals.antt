@@ -36,12 +36,11 @@ rest_lines goal f = list_goals (goal_count f - goal) goal (view f)
 
 -- at first goal 0 is to be opened
 abbrev pub first_place : Place
-first_place = record { used = 0; lines = 0; skipped = false; over = false; opens = true; goal = 0; table = 0; index = 0 }
+first_place = record { lines = 0; skipped = false; over = false; opens = true; goal = 0; table = 0; index = 0 }
 
 -- nothing is listed any more
-abbrev pub ended_place : (used lines : ℕ) → Place → Place
-ended_place used lines p = record {
-  used = used;
+abbrev pub ended_place : (lines : ℕ) → Place → Place
+ended_place lines p = record {
   lines = lines;
   skipped = p.skipped;
   over = true;
@@ -52,10 +51,9 @@ ended_place used lines p = record {
 }
 
 -- AN OPEN: where it leads, and the bytes of its line
-abbrev pub opened_place : Opening → (used : ℕ) → Place → Place
-opened_place (openings.Refused n) used p = ended_place used p.lines p
-opened_place (openings.Table t) used p = record {
-  used = used;
+abbrev pub opened_place : Opening → Place → Place
+opened_place (openings.Refused n) p = ended_place p.lines p
+opened_place (openings.Table t) p = record {
   lines = p.lines;
   skipped = false;
   over = p.over;
@@ -64,7 +62,7 @@ opened_place (openings.Table t) used p = record {
   table = t;
   index = 0;
 }
-opened_place (openings.Stopped n) used p = ended_place used (next_line p.lines) p
+opened_place (openings.Stopped n) p = ended_place (next_line p.lines) p
 
 abbrev pub opened_bytes : Opening → (goal : ℕ) → List ℕ
 opened_bytes (openings.Refused n) goal = []
@@ -73,7 +71,7 @@ opened_bytes (openings.Stopped n) goal = reply_line goal 0 2 n
 
 -- from the place p and its pen to the place r and its pen
 pub record OpenedTo (opening : Opening) (p : Place) (before : Pen) (r : Place) (after : Pen) : Type 0 where
-  pub place : r ≡ opened_place opening r.used p
+  pub place : r ≡ opened_place opening p
   pub bytes : after ≡ put_all (opened_bytes opening p.goal) before
 
 -- A PEEK, as the first call of a batch
@@ -88,9 +86,8 @@ next_of word = get_or (next_goal ∷ next_goal ∷ the_end ∷ next_index ∷ ne
 abbrev pub skips : Place → (index : ℕ) → Bool
 skips p index = p.skipped || ltb p.index index
 
-abbrev pub next_place : Next → (used index : ℕ) → Place → Place
-next_place next_index used index p = record {
-  used = used;
+abbrev pub next_place : Next → (index : ℕ) → Place → Place
+next_place next_index index p = record {
   lines = next_line p.lines;
   skipped = skips p index;
   over = p.over;
@@ -99,8 +96,7 @@ next_place next_index used index p = record {
   table = p.table;
   index = one_more index;
 }
-next_place next_goal used index p = record {
-  used = used;
+next_place next_goal index p = record {
   lines = next_line p.lines;
   skipped = p.skipped;
   over = p.over;
@@ -109,11 +105,11 @@ next_place next_goal used index p = record {
   table = p.table;
   index = p.index;
 }
-next_place the_end used index p = ended_place used (next_line p.lines) p
+next_place the_end index p = ended_place (next_line p.lines) p
 
 -- by a reply's word, its value and the index at which the peek ended
 pub record PeekedTo (word value index : ℕ) (p : Place) (before : Pen) (r : Place) (after : Pen) : Type 0 where
-  pub place : r ≡ next_place (next_of word) r.used index p
+  pub place : r ≡ next_place (next_of word) index p
   pub bytes : after ≡ put_all (reply_line p.goal index (settled_word word (skips p index)) value) before
 
 -- by the numbers of all replies, of which the first is this one

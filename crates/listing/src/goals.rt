@@ -1,7 +1,7 @@
 // From a book's bytes to the lines: one forest, each goal opened and peeked at from index 0 on (document 01, "The listing program").
 ghost use Rattle.std.specs.Prelude.{◌||◌, ◌≡◌, ltb};
 ghost use Rattle.papers.specs.Listing.{next_index, pages, listing};
-ghost use Rattle.pen.specs.Pen.{pen, put_all};
+ghost use Rattle.pen.specs.Pen.{put_all};
 ghost use Rattle.listing.specs.Goals.{Ready, rest_lines, first_place, OpenedTo, peek_put, next_place, ToldTo};
 
 use crate::lines::{fill, line, one_line_more, settled};
@@ -10,8 +10,7 @@ use forest::Forest;
 use forest::make::{Making, make_at_desk};
 use forest::open::{Opening, open};
 use forest::serve_calls::serve_calls;
-use pen::Streams;
-use pen::refusals::refusal_line;
+use pen::{Pen, Streams};
 use search::root_answer::one_more;
 
 const CLOCK: u64 = 1000000;
@@ -20,11 +19,10 @@ const ROUNDS: u64 = 1000;
 
 const TURNS: u64 = 10000;
 
-// Where the listing is: how much of the buffer is in use and how many lines are on the page, whether an answer of the goal was skipped,
-// whether the last line is written, whether the goal is to be opened, and if not, which table is to be peeked at and from which index on.
+// Where the listing is: how many lines are on the page, whether an answer of the goal was skipped, whether the last line is written,
+// whether the goal is to be opened, and if not, which table is to be peeked at and from which index on.
 #[derive(Clone, Copy)]
 struct Place {
-    used: usize,
     lines: usize,
     skipped: bool,
     over: bool,
@@ -38,7 +36,6 @@ fn first_place() -> Place
     ensures { result ≡ first_place }
 {
     Place {
-        used: 0,
         lines: 0,
         skipped: false,
         over: false,
@@ -51,8 +48,8 @@ fn first_place() -> Place
 
 // Where an open leads: a goal that is not in the book ends the listing, and so does a stop, which is written as that of a peek is: 2 is its
 // word.
-fn opened(to: Streams, out: &mut [u8], opening: Opening, p: Place) -> Place
-    ensures { OpenedTo opening p (pen out.old p.used) result (pen out.new result.used) }
+fn opened(pen: &mut Pen, opening: Opening, p: Place) -> Place
+    ensures { OpenedTo opening p pen.old result pen.new }
 {
     match opening {
         Opening::Refused(n) => Place { over: true, ..p },
@@ -64,9 +61,8 @@ fn opened(to: Streams, out: &mut [u8], opening: Opening, p: Place) -> Place
             ..p
         },
         Opening::Stopped(n) => {
-            let used = line(to, out, p.used, p.goal, 0, 2, n as u64);
+            line(pen, p.goal, 0, 2, n as u64);
             Place {
-                used,
                 lines: one_line_more(p.lines),
                 over: true,
                 ..p
@@ -94,11 +90,10 @@ fn skips(skipped: bool, asked: u64, index: u64) -> bool
 }
 
 // Behind an answer the goal's next one is looked for.
-fn next_index(used: usize, index: u64, p: Place) -> Place
-    ensures { result ≡ next_place next_index used index p }
+fn next_index(index: u64, p: Place) -> Place
+    ensures { result ≡ next_place next_index index p }
 {
     Place {
-        used,
         lines: one_line_more(p.lines),
         skipped: skips(p.skipped, p.index, index),
         index: one_more(index),
@@ -107,25 +102,23 @@ fn next_index(used: usize, index: u64, p: Place) -> Place
 }
 
 // Where a peek leads, by the numbers of its reply: behind a stop nothing is listed, and behind what is no answer the next goal.
-fn told(to: Streams, out: &mut [u8], replies: &[u64; NUMBERS], p: Place) -> Place
-    ensures { ToldTo replies.now p (pen out.old p.used) result (pen out.new result.used) }
+fn told(pen: &mut Pen, replies: &[u64; NUMBERS], p: Place) -> Place
+    ensures { ToldTo replies.now p pen.old result pen.new }
 {
     let word = replies[0];
     let value = replies[1];
     let index = replies[2];
     let said = settled(word, skips(p.skipped, p.index, index));
-    let used = line(to, out, p.used, p.goal, index, said, value);
+    line(pen, p.goal, index, said, value);
     match word {
         2 => Place {
-            used,
             lines: one_line_more(p.lines),
             over: true,
             ..p
         },
-        3 => next_index(used, index, p),
-        4 => next_index(used, index, p),
+        3 => next_index(index, p),
+        4 => next_index(index, p),
         _ => Place {
-            used,
             lines: one_line_more(p.lines),
             opens: true,
             goal: one_more(p.goal),
@@ -143,9 +136,9 @@ fn tell(to: Streams, shown: bool, goal: u64) {
 
 // The forest stays in this function, since handing one on by value copies it whole: what the other functions need of it is told by an
 // opening and by the numbers of a reply. So a peek is a batch of one call.
-fn list_goals(to: Streams, out: &mut [u8], f: Forest, shown: bool) -> usize
+fn list_goals(pen: &mut Pen, f: Forest, shown: bool)
     requires { Ready f }
-    ensures { pen out.new result ≡ put_all (pages (rest_lines 0 f)) (pen out.old 0) }
+    ensures { pen.new ≡ put_all (pages (rest_lines 0 f)) pen.old }
 {
     let mut calls = [0u64; NUMBERS];
     let mut replies = [0u64; NUMBERS];
@@ -153,31 +146,32 @@ fn list_goals(to: Streams, out: &mut [u8], f: Forest, shown: bool) -> usize
     let mut p = first_place();
     loop {
         if p.over {
-            return fill(to, out, p.used, p.lines);
+            fill(pen, p.lines);
+            return;
         }
         if p.opens {
-            tell(to, shown, p.goal);
+            tell(pen.to, shown, p.goal);
             let o = open(forest, p.goal);
             let opening = o.opening;
             forest = o.forest;
-            p = opened(to, out, opening, p);
+            p = opened(pen, opening, p);
             continue;
         }
         ask(&mut calls, p.table, p.index);
         forest = serve_calls(forest, 1, &calls, &mut replies);
-        p = told(to, out, &replies, p);
+        p = told(pen, &replies, p);
     }
 }
 
-// The listing of a byte string, whose book is taken as the desk takes it, put down from the start of the buffer on.
-pub(crate) fn list(to: Streams, out: &mut [u8], bytes: &[u8], shown: bool) -> usize
-    ensures { pen out.new result ≡ put_all (listing bytes.now) (pen out.old 0) }
+// The listing of a byte string, whose book is taken as the desk takes it.
+pub(crate) fn list(pen: &mut Pen, bytes: &[u8], shown: bool)
+    ensures { pen.new ≡ put_all (listing bytes.now) pen.old }
 {
     let m = make_at_desk(bytes, CLOCK);
     let making = m.making;
     let forest = m.forest;
     match making {
-        Making::Refused(n) => refusal_line(to, out, 0, n),
-        Making::Made => list_goals(to, out, forest, shown),
+        Making::Refused(n) => pen.refusal_line(n),
+        Making::Made => list_goals(pen, forest, shown),
     }
 }

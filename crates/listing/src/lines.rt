@@ -2,11 +2,10 @@
 // variant, behind stop the number, each in its column. It is written from the numbers of a reply (crate `batch`, calls.rt).
 ghost use Rattle.std.specs.Prelude.{◌≡◌};
 ghost use Rattle.papers.specs.Listing.{blank_line, blank_lines, lines_left};
-ghost use Rattle.pen.specs.Pen.{pen, put_all};
+ghost use Rattle.pen.specs.Pen.{put_all};
 ghost use Rattle.listing.specs.Lines.{word_column, number_column, number_spaced, reply_line, settled_word, next_line};
 
-use pen::Streams;
-use pen::columns::{blanks, left, right_number};
+use pen::Pen;
 
 // The columns' widths (`columns`).
 const GOAL: usize = 3;
@@ -21,42 +20,42 @@ const NUMBER: usize = 5;
 const PAGE: usize = 60;
 
 // What is no word of a peek is not said: a call that is refused has none, and none of those that are listed is.
-fn word(to: Streams, out: &mut [u8], at: usize, said: u64) -> usize
-    ensures { pen out.new result ≡ put_all (word_column said) (pen out.old at) }
+fn word(pen: &mut Pen, said: u64)
+    ensures { pen.new ≡ put_all (word_column said) pen.old }
 {
     match said {
-        2 => left(to, out, at, WORD, b"stop"),
-        3 => left(to, out, at, WORD, b"yes"),
-        4 => left(to, out, at, WORD, b"maybe"),
-        5 => left(to, out, at, WORD, b"none"),
-        6 => left(to, out, at, WORD, b"floundered"),
-        7 => left(to, out, at, WORD, b"again"),
-        8 => left(to, out, at, WORD, b"negcycle"),
-        9 => left(to, out, at, WORD, b"invalid"),
-        10 => left(to, out, at, WORD, b"cut"),
-        11 => left(to, out, at, WORD, b"unsettled"),
-        _ => blanks(to, out, at, WORD),
+        2 => pen.left(WORD, b"stop"),
+        3 => pen.left(WORD, b"yes"),
+        4 => pen.left(WORD, b"maybe"),
+        5 => pen.left(WORD, b"none"),
+        6 => pen.left(WORD, b"floundered"),
+        7 => pen.left(WORD, b"again"),
+        8 => pen.left(WORD, b"negcycle"),
+        9 => pen.left(WORD, b"invalid"),
+        10 => pen.left(WORD, b"cut"),
+        11 => pen.left(WORD, b"unsettled"),
+        _ => pen.blanks(WORD),
     }
 }
 
 // Behind a stop, a yes and a maybe there is a number.
-fn number(to: Streams, out: &mut [u8], at: usize, said: u64, value: u64) -> usize
-    ensures { pen out.new result ≡ put_all (number_column said value) (pen out.old at) }
+fn number(pen: &mut Pen, said: u64, value: u64)
+    ensures { pen.new ≡ put_all (number_column said value) pen.old }
 {
     match said {
-        2 => right_number(to, out, at, NUMBER, value),
-        3 => right_number(to, out, at, NUMBER, value),
-        4 => right_number(to, out, at, NUMBER, value),
-        _ => blanks(to, out, at, NUMBER),
+        2 => pen.right_number(NUMBER, value),
+        3 => pen.right_number(NUMBER, value),
+        4 => pen.right_number(NUMBER, value),
+        _ => pen.blanks(NUMBER),
     }
 }
 
 // A number in its column, and the space behind it.
-fn field(to: Streams, out: &mut [u8], at: usize, width: usize, n: u64) -> usize
-    ensures { pen out.new result ≡ put_all (number_spaced width n) (pen out.old at) }
+fn field(pen: &mut Pen, width: usize, n: u64)
+    ensures { pen.new ≡ put_all (number_spaced width n) pen.old }
 {
-    let named = right_number(to, out, at, width, n);
-    pen::text(to, out, named, b" ")
+    pen.right_number(width, n);
+    pen.text(b" ");
 }
 
 // The number of the word, where the goal's answers were skipped or not: 5 is none, and 11 says that it is unsettled.
@@ -66,23 +65,15 @@ pub(crate) fn settled(said: u64, skipped: bool) -> u64
     if said == 5 && skipped { 11 } else { said }
 }
 
-pub(crate) fn line(
-    to: Streams,
-    out: &mut [u8],
-    at: usize,
-    goal: u64,
-    index: u64,
-    said: u64,
-    value: u64,
-) -> usize
-    ensures { pen out.new result ≡ put_all (reply_line goal index said value) (pen out.old at) }
+pub(crate) fn line(pen: &mut Pen, goal: u64, index: u64, said: u64, value: u64)
+    ensures { pen.new ≡ put_all (reply_line goal index said value) pen.old }
 {
-    let named = field(to, out, at, GOAL, goal);
-    let indexed = field(to, out, named, INDEX, index);
-    let worded = word(to, out, indexed, said);
-    let spaced = pen::text(to, out, worded, b" ");
-    let numbered = number(to, out, spaced, said, value);
-    pen::text(to, out, numbered, b"\n")
+    field(pen, GOAL, goal);
+    field(pen, INDEX, index);
+    word(pen, said);
+    pen.text(b" ");
+    number(pen, said, value);
+    pen.text(b"\n");
 }
 
 // How many lines are on the page behind one more: none where it is full.
@@ -92,22 +83,19 @@ pub(crate) fn one_line_more(lines: usize) -> usize
     if lines < PAGE - 1 { lines + 1 } else { 0 }
 }
 
-fn blank(to: Streams, out: &mut [u8], at: usize) -> usize
-    ensures { pen out.new result ≡ put_all blank_line (pen out.old at) }
+fn blank(pen: &mut Pen)
+    ensures { pen.new ≡ put_all blank_line pen.old }
 {
-    let filled = blanks(to, out, at, GOAL + 1 + INDEX + 1 + WORD + 1 + NUMBER);
-    pen::text(to, out, filled, b"\n")
+    pen.blanks(GOAL + 1 + INDEX + 1 + WORD + 1 + NUMBER);
+    pen.text(b"\n");
 }
 
 // The page that so many lines are on is filled up.
-pub(crate) fn fill(to: Streams, out: &mut [u8], at: usize, lines: usize) -> usize
-    ensures { pen out.new result ≡ put_all (blank_lines (lines_left lines)) (pen out.old at) }
+pub(crate) fn fill(pen: &mut Pen, lines: usize)
+    ensures { pen.new ≡ put_all (blank_lines (lines_left lines)) pen.old }
 {
-    let mut used = at;
-    let mut missing = (PAGE - lines % PAGE) % PAGE;
-    while 0 < missing {
-        used = blank(to, out, used);
-        missing -= 1;
+    let missing = (PAGE - lines % PAGE) % PAGE;
+    for _line in 0..missing {
+        blank(pen);
     }
-    used
 }

@@ -6,7 +6,7 @@ mod goals;
 mod lines;
 
 use intake::input;
-use pen::Streams;
+use pen::{Pen, Streams};
 use sizes::READ_AHEAD;
 use std::io::IsTerminal;
 
@@ -16,12 +16,13 @@ use std::io::IsTerminal;
 // At a terminal standard error tells which goal is at hand, until a page is written over it.
 fn answer(to: Streams, bytes: &[u8]) {
     let mut out = [0u8; 1620];
+    let mut pen = Pen::new(to, &mut out);
     let shown = to.errors.is_terminal();
-    let used = goals::list(to, &mut out, bytes, shown);
+    goals::list(&mut pen, bytes, shown);
     if shown {
         let _ = eprint!(to.errors; "       \r");
     }
-    if !pen::flush(to, &out, used) {
+    if !pen.flush() {
         let _ = eprintln!(to.errors; "listing: the lines can't be written");
     }
 }
@@ -32,12 +33,11 @@ fn main(rt: HostRuntime) {
         errors: rt.stderr(),
     };
     let mut bytes = [0u8; READ_AHEAD];
-    let got = input(&mut rt.stdin(), &mut bytes);
     // Where the input can't be read, that is said, and nothing is taken for a book.
-    if !got.whole {
-        let _ = eprintln!(to.errors; "listing: the input can't be read");
-        return;
+    match input(&mut rt.stdin(), &mut bytes) {
+        Ok(count) => answer(to, &bytes[..count]),
+        Err(_) => {
+            let _ = eprintln!(to.errors; "listing: the input can't be read");
+        }
     }
-    let n = got.count;
-    answer(to, &bytes[..n]);
 }

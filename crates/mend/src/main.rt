@@ -7,7 +7,7 @@
 
 use intake::input;
 use mending::mend::mend;
-use pen::Streams;
+use pen::{Pen, Streams};
 use sizes::READ_AHEAD;
 
 // What an input comes to is settled by its first 20,480 bytes (`mend_take`, in the proofs of `definitions`): what follows is not read. A
@@ -16,9 +16,11 @@ use sizes::READ_AHEAD;
 fn answer(to: Streams, bytes: &[u8]) {
     let mut out = [0u8; READ_AHEAD];
     let mut lines = [0u8; 4096];
-    let mended = mend(to, &mut out, &mut lines, bytes);
-    pen::tell(to, &lines, mended.told);
-    if !pen::flush(to, &out, mended.used) {
+    let mut book = Pen::new(to, &mut out);
+    let mut told = Pen::new(to, &mut lines);
+    let _ = mend(&mut book, &mut told, bytes);
+    told.tell();
+    if !book.flush() {
         let _ = eprintln!(to.errors; "mend: the book can't be written");
     }
 }
@@ -29,12 +31,11 @@ fn main(rt: HostRuntime) {
         errors: rt.stderr(),
     };
     let mut bytes = [0u8; READ_AHEAD];
-    let got = input(&mut rt.stdin(), &mut bytes);
     // Where the input can't be read, that is said, and nothing is taken for a book.
-    if !got.whole {
-        let _ = eprintln!(to.errors; "mend: the input can't be read");
-        return;
+    match input(&mut rt.stdin(), &mut bytes) {
+        Ok(count) => answer(to, &bytes[..count]),
+        Err(_) => {
+            let _ = eprintln!(to.errors; "mend: the input can't be read");
+        }
     }
-    let n = got.count;
-    answer(to, &bytes[..n]);
 }

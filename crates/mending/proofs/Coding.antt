@@ -6,14 +6,15 @@ use mathlib.Core.Bool.{Bool, true, false}
 use mathlib.Core.List.{List}
 use lib.ListN.{get_or, set}
 use lib.Dec.{ltb}
-use borrow.Author.Tests.{lt-ltb, le-ltb, eq-eqb, ne_eqb}
+use borrow.Author.Tests.{lt-ltb, le-ltb}
 use Rattle.laws.specs.Spans.{span}
 use Rattle.laws.proofs.Spans.{span_left, span_done}
-use Rattle.definitions.specs.Desk.{same_clause}
 use Rattle.book.specs.Access.{entry}
-use Rattle.book.specs.Repeats.{Lent, clause_read}
+use Rattle.book.specs.Repeats.{Lent}
 use Rattle.book.proofs.Looks.{entry_in}
-use Rattle.mending.specs.Reasons.{all_below, goals_named, one_passes, repeats_at, repeats, code_by, code_at, codes_from}
+use Rattle.std.specs.declared.option.Option as found
+use Rattle.mending.specs.declared.reasons.Reason.{Reason}
+use Rattle.mending.specs.Reasons.{all_below, goals_named, one_passes, repeats_at, repeats, reason_by, reasons_from}
 
 -- The goals of a clause.
 
@@ -59,87 +60,60 @@ module _ (lens goals : List ℕ) (n c : ℕ) where
 
 -- An earlier clause.
 
-module _ (a : Lent) (codes : List ℕ) (c d : ℕ) where
-  pub passed_over : get_or codes d 0 ≡ 6 → false ≡ repeats_at a codes c d
-  passed_over e =
-      sym (ap (λ (t : Bool). elim t [ true ↦ false | false ↦ same_clause (clause_read a c) (clause_read a d) ])
-      (eq-eqb (get_or codes d 0) 6 e))
-
-  pub compared : (r : Bool) → (get_or codes d 0 ≡ 6 → ⊥) → r ≡ same_clause (clause_read a c) (clause_read a d) → r ≡ repeats_at a codes c d
-  compared r n e =
-      e ∙ sym (ap (λ (t : Bool). elim t [ true ↦ false | false ↦ same_clause (clause_read a c) (clause_read a d) ])
-      (ne_eqb (get_or codes d 0) 6 n))
-
-module _ (a : Lent) (codes : List ℕ) (first c : ℕ) where
+module _ (a : Lent) (reasons : List (found.Option Reason)) (first c : ℕ) where
   -- those from d on decide, as long as none before it is the same
   abbrev pub repeats_left : ℕ → Bool
-  repeats_left d = one_passes (repeats_at a codes c) d (c - d)
+  repeats_left d = one_passes (repeats_at a reasons c) d (c - d)
 
-  module _ (d : ℕ) (left : repeats_left d ≡ repeats a codes first c) where
-    repeats_next : d < c → repeats_left d ≡ elim (repeats_at a codes c d) [ true ↦ true | false ↦ repeats_left (d + 1) ]
+  module _ (d : ℕ) (left : repeats_left d ≡ repeats a reasons first c) where
+    repeats_next : d < c → repeats_left d ≡ elim (repeats_at a reasons c d) [ true ↦ true | false ↦ repeats_left (d + 1) ]
     repeats_next h =
         let more : c - d ≡ suc (c - (d + 1)) = omega arith in
         let next : suc d ≡ d + 1 = omega arith in
-        ap (one_passes (repeats_at a codes c) d) more
-        ∙ ap (λ (e : ℕ). elim (repeats_at a codes c d) [
+        ap (one_passes (repeats_at a reasons c) d) more
+        ∙ ap (λ (e : ℕ). elim (repeats_at a reasons c d) [
           | true ↦ true
-          | false ↦ one_passes (repeats_at a codes c) e (c - (d + 1))
+          | false ↦ one_passes (repeats_at a reasons c) e (c - (d + 1))
         ]) next
 
-    pub repeats_here : (r : Bool) → d < c → r ≡ repeats_at a codes c d → r ≡ true → true ≡ repeats a codes first c
+    pub repeats_here : (r : Bool) → d < c → r ≡ repeats_at a reasons c d → r ≡ true → true ≡ repeats a reasons first c
     repeats_here r h e t =
         sym (ap (λ (x : Bool). elim x [ true ↦ true | false ↦ repeats_left (d + 1) ]) (sym e ∙ t)) ∙ sym (repeats_next h) ∙ left
 
-    pub repeats_again : (r : Bool) → d < c → r ≡ repeats_at a codes c d → r ≡ false → repeats_left (d + 1) ≡ repeats a codes first c
+    pub repeats_again : (r : Bool) → d < c → r ≡ repeats_at a reasons c d → r ≡ false → repeats_left (d + 1) ≡ repeats a reasons first c
     repeats_again r h e t =
         sym (ap (λ (x : Bool). elim x [ true ↦ true | false ↦ repeats_left (d + 1) ]) (sym e ∙ t)) ∙ sym (repeats_next h) ∙ left
 
-    pub repeats_none : c ≤ d → false ≡ repeats a codes first c
+    pub repeats_none : c ≤ d → false ≡ repeats a reasons first c
     repeats_none h =
         let done : c - d ≡ 0 = omega arith in
-        sym (ap (one_passes (repeats_at a codes c) d) done) ∙ left
-
--- The reason.
-
-module _ (a : Lent) (codes : List ℕ) (n first c : ℕ) (names : Bool) (named : names ≡ all_below n (goals_named a.lens a.goals c)) where
-  pub reason_missing : names ≡ false → 6 ≡ code_at a codes n first c
-  reason_missing e = ap (λ (t : Bool). code_by t (repeats a codes first c)) (sym e ∙ named)
-
-  module _ (r : Bool) (again : r ≡ repeats a codes first c) (all : names ≡ true) where
-    reason_by : code_by true r ≡ code_at a codes n first c
-    reason_by = ap₂ code_by (sym all ∙ named) again
-
-    pub reason_again : r ≡ true → 36 ≡ code_at a codes n first c
-    reason_again e = ap (code_by true) (sym e) ∙ reason_by
-
-    pub reason_none : r ≡ false → 0 ≡ code_at a codes n first c
-    reason_none e = ap (code_by true) (sym e) ∙ reason_by
+        sym (ap (one_passes (repeats_at a reasons c) d) done) ∙ left
 
 -- The reasons of a goal's clauses.
 
 module _ (a : Lent) (n first count : ℕ) where
   -- those from place k on are to be found yet
-  abbrev pub codes_left : (k : ℕ) → (codes : List ℕ) → List ℕ
-  codes_left k codes = codes_from a n first (first + k) (count - k) codes
+  abbrev pub reasons_left : (k : ℕ) → (reasons : List (found.Option Reason)) → List (found.Option Reason)
+  reasons_left k reasons = reasons_from a n first (first + k) (count - k) reasons
 
-  pub codes_begin : (codes : List ℕ) → codes_left 0 codes ≡ codes_from a n first first count codes
-  codes_begin codes =
+  pub reasons_begin : (reasons : List (found.Option Reason)) → reasons_left 0 reasons ≡ reasons_from a n first first count reasons
+  reasons_begin reasons =
       let start : first + 0 ≡ first = omega arith in
       let whole : count - 0 ≡ count = omega arith in
-      ap₂ (λ (s m : ℕ). codes_from a n first s m codes) start whole
+      ap₂ (λ (s m : ℕ). reasons_from a n first s m reasons) start whole
 
-  module _ (k : ℕ) (codes whole : List ℕ) (left : codes_left k codes ≡ whole) where
-    pub codes_again : (c code : ℕ) → k < count → c ≡ first + k → code ≡ code_at a codes n first c
-        → codes_left (k + 1) (set codes c code) ≡ whole
-    codes_again c code h e f =
+  module _ (k : ℕ) (reasons whole : List (found.Option Reason)) (left : reasons_left k reasons ≡ whole) where
+    pub reasons_again : (c : ℕ) (r : found.Option Reason) → k < count → c ≡ first + k → r ≡ reason_by a reasons n first c
+        → reasons_left (k + 1) (set reasons c r) ≡ whole
+    reasons_again c r h e f =
         let more : count - k ≡ suc (count - (k + 1)) = omega arith in
         let next : first + (k + 1) ≡ suc (first + k) = omega arith in
         let rest = count - (k + 1) in
-        ap₂ (λ (s : ℕ) (l : List ℕ). codes_from a n first s rest l) next
-        (ap (set codes c) f ∙ ap (λ (d : ℕ). set codes d (code_at a codes n first d)) e)
-        ∙ sym (ap (λ (m : ℕ). codes_from a n first (first + k) m codes) more) ∙ left
+        ap₂ (λ (s : ℕ) (l : List (found.Option Reason)). reasons_from a n first s rest l) next
+        (ap (set reasons c) f ∙ ap (λ (d : ℕ). set reasons d (reason_by a reasons n first d)) e)
+        ∙ sym (ap (λ (m : ℕ). reasons_from a n first (first + k) m reasons) more) ∙ left
 
-    pub codes_done : count ≤ k → codes ≡ whole
-    codes_done h =
+    pub reasons_done : count ≤ k → reasons ≡ whole
+    reasons_done h =
         let done : count - k ≡ 0 = omega arith in
-        sym (ap (λ (m : ℕ). codes_from a n first (first + k) m codes) done) ∙ left
+        sym (ap (λ (m : ℕ). reasons_from a n first (first + k) m reasons) done) ∙ left

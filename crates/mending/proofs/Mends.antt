@@ -1,28 +1,31 @@
 -- What the proof of `mend` cites: the copy by the reasons that were found is the definitions' copy, and each way out of it. Assumes
 -- nothing.
 use Prim.Native.Nat.{ℕ, zero, suc, ◌+◌, ◌-◌, ◌≤◌}
+use Rattle.std.specs.Prelude.{Ok, Err}
+use Rattle.std.specs.declared.option.Option as found
 use native.Mathlib.Omega.{arith}
 use mathlib.Core.Path.{◌≡◌, refl, sym, ap, ap₂, ◌∙◌}
-use mathlib.Core.Bool.{Bool, true, false}
+use mathlib.Core.Bool.{Bool, true}
 use mathlib.Core.Option.{Option, none}
 use mathlib.Core.List.{List, [], ◌∷◌, ◌++◌}
-use lib.Dec.{eqb}
-use borrow.Author.Tests.{eq-eqb, ne_eqb}
 use Rattle.laws.specs.Spans.{span}
 use Rattle.laws.proofs.Spans.{span_append}
 use Rattle.laws.specs.All.{All, end, more}
-use Rattle.definitions.specs.Refusal.{Refusable, refused}
+use Rattle.definitions.specs.Refusal.{Refusable}
 use Rattle.definitions.specs.Book.{Command, goal, clause, positive, ranged, negative, unknown, command, width}
 use Rattle.definitions.specs.Book as said
-use Rattle.papers.specs.Mend.{Copying, has_none, at_clause, at_command, if_stays, copy, copied, reasons, goal_lines, Mended}
+use Rattle.papers.specs.Mend.{Copying, has_none, at_clause, at_command, if_stays, copy, copied, goal_lines}
+use Rattle.papers.specs.Mend.{reasons as reasonsOf}
 use Rattle.papers.specs.Mend.{mended_from, mend}
 use Rattle.book.specs.declared.Book.{Book}
-use Rattle.book.specs.declared.Reading.{Reading}
-use Rattle.book.specs.View.{view, seen_by, Formed, ReadLoosely}
+use Rattle.book.specs.declared.refusal.Refusal.{Refusal}
+use Rattle.book.specs.Refusals.{number}
+use Rattle.book.specs.View.{view, Formed, ReadLoosely}
 use Rattle.book.proofs.Held.{goals_counted}
 use Rattle.pen.specs.Pen.{Pen, put_all}
 use Rattle.pen.specs.Refusals.{refusal_line}
-use Rattle.mending.specs.Reasons.{reason_in, reason_at, Coded}
+use Rattle.mending.specs.declared.reasons.Reason.{Reason}
+use Rattle.mending.specs.Reasons.{reason_seen, reason_at, Reasoned}
 use Rattle.mending.specs.Mending.{mends}
 use Rattle.mending.proofs.AllReasons.{flat}
 
@@ -66,47 +69,38 @@ copy_more (b ∷ bs) zero rs xs s l z = on (command b) (copy_more bs)
     on said.end ih = ap (if_stays true b) (ih 0 rs xs true l z)
     on unknown ih = ap (if_stays true b) (ih 0 rs xs true l z)
 
-none_from : (codes : List ℕ) (s n : ℕ) → ((c : ℕ) → s ≤ c → reason_at codes c ≡ none) → NoReason (span (reason_at codes) s n)
-none_from codes s zero z = end
-none_from codes s (suc n) z = more (z s (omega arith)) (none_from codes (suc s) n (λ c h. z c (omega arith)))
+none_from : (reasons : List (found.Option Reason)) (s n : ℕ) → ((c : ℕ) → s ≤ c → reason_at reasons c ≡ none)
+    → NoReason (span (reason_at reasons) s n)
+none_from reasons s zero z = end
+none_from reasons s (suc n) z = more (z s (omega arith)) (none_from reasons (suc s) n (λ c h. z c (omega arith)))
 
 -- The copy.
 
-module _ (b : Book) (formed : Formed b) (codes : List ℕ) (coded : Coded b codes) where
-  copied_so : (bytes : List ℕ) → copied bytes (span (reason_at codes) 0 256) ≡ copied bytes (reasons (view b))
+module _ (b : Book) (formed : Formed b) (reasons : List (found.Option Reason)) (reasoned : Reasoned b reasons) where
+  copied_so : (bytes : List ℕ) → copied bytes (span (reason_at reasons) 0 256) ≡ copied bytes (reasonsOf (view b))
   copied_so bytes =
       let z : 256 ≡ b.clauses + (256 - b.clauses) = omega (arith, formed.few_clauses) in
-      let rest = span (reason_at codes) (0 + b.clauses) (256 - b.clauses) in
+      let rest = span (reason_at reasons) (0 + b.clauses) (256 - b.clauses) in
       ap (λ (rs : List (Option ℕ)). copied bytes rs)
-      (ap (span (reason_at codes) 0) z ∙ span_append (reason_at codes) 0 b.clauses (256 - b.clauses))
-      ∙ copy_more bytes 0 (span (reason_at codes) 0 b.clauses) rest true true
-      (none_from codes (0 + b.clauses) (256 - b.clauses) (λ c h. ap reason_in (coded.others c (omega arith))))
-      ∙ ap (copied bytes) (sym (flat b formed codes coded))
+      (ap (span (reason_at reasons) 0) z ∙ span_append (reason_at reasons) 0 b.clauses (256 - b.clauses))
+      ∙ copy_more bytes 0 (span (reason_at reasons) 0 b.clauses) rest true true
+      (none_from reasons (0 + b.clauses) (256 - b.clauses) (λ c h. ap reason_seen (reasoned.others c (omega arith))))
+      ∙ ap (copied bytes) (sym (flat b formed reasons reasoned))
 
 -- Each way out.
 
-module _ (bytes : List ℕ) (reading : Reading) (given : ReadLoosely bytes reading) where
-  by_number : (t : Bool) → eqb reading.number 0 ≡ t → mend bytes ≡ mended_from bytes (seen_by t reading)
-  by_number t e =
-      ap (mended_from bytes) (sym given.means) ∙ ap (λ (x : Bool). mended_from bytes (seen_by x reading)) e
+module _ (bytes : List ℕ) (out p q : Pen) where
+  pub refused_mended : (e : Refusal) (n : ℕ) → ReadLoosely bytes (Err e) → n ≡ number e → q ≡ put_all (refusal_line n) p
+      → ◌≡◌ {A = ℕ × Pen × Pen} (number e, out, q) (mends (mend bytes) out p)
+  refused_mended e n given is f =
+      ap (λ (x : Pen). (number e, out, x)) (f ∙ ap (λ (m : ℕ). put_all (refusal_line m) p) is)
+      ∙ ap (λ (x : Refusable said.Book). mends (mended_from bytes x) out p) given.means
 
-  pub book_formed : reading.number ≡ 0 → Formed reading.book
-  book_formed z = given.formed z
-
-  pub refused_mended : (n : ℕ) (out p q : Pen) → n ≡ reading.number → (reading.number ≡ 0 → ⊥) → q ≡ put_all (refusal_line n) p
-      → ◌≡◌ {A = ℕ × Pen × Pen} (n, out, q) (mends (mend bytes) out p)
-  refused_mended n out p q e some f =
-      ap (λ (x : Pen). (n, out, x)) f
-      ∙ ap (λ (m : ℕ). mends (refused m) out p) e
-      ∙ ap (λ (x : Refusable Mended). mends x out p) (sym (by_number false (ne_eqb reading.number 0 some)))
-
-  pub book_mended : (codes : List ℕ) (out p q r : Pen) → reading.number ≡ 0 → Coded reading.book codes
-      → r ≡ put_all (copied bytes (span (reason_at codes) 0 256)) out
-      → q ≡ put_all (goal_lines reading.book.goals 0 (view reading.book)) p
-      → ◌≡◌ {A = ℕ × Pen × Pen} (0, r, q) (mends (mend bytes) out p)
-  book_mended codes out p q r z coded e f =
-      let b = reading.book in
+  pub book_mended : (b : Book) (reasons : List (found.Option Reason)) (r : Pen) → ReadLoosely bytes (Ok b) → Reasoned b reasons
+      → r ≡ put_all (copied bytes (span (reason_at reasons) 0 256)) out
+      → q ≡ put_all (goal_lines b.goals 0 (view b)) p → ◌≡◌ {A = ℕ × Pen × Pen} (0, r, q) (mends (mend bytes) out p)
+  book_mended b reasons r given reasoned e f =
       ap₂ (λ (x y : Pen). (0, x, y))
-      (e ∙ ap (λ (l : List ℕ). put_all l out) (copied_so b (given.formed z) codes coded bytes))
+      (e ∙ ap (λ (l : List ℕ). put_all l out) (copied_so b given.formed reasons reasoned bytes))
       (f ∙ ap (λ (n : ℕ). put_all (goal_lines n 0 (view b)) p) (sym (goals_counted b)))
-      ∙ ap (λ (x : Refusable Mended). mends x out p) (sym (by_number true (eq-eqb reading.number 0 z)))
+      ∙ ap (λ (x : Refusable said.Book). mends (mended_from bytes x) out p) given.means

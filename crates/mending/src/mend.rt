@@ -1,47 +1,30 @@
-// Mending a paper: its bytes without the clauses that go, and a line for each of these; or a refusal, by any number but 6 or 36.
+// Mending a paper: its bytes without the clauses that go, and a line for each of these; or a refusal, any but 6 and 36.
 ghost use Rattle.std.specs.Prelude.{◌≡◌};
+ghost use Rattle.book.specs.Refusals.{fault_number};
 ghost use Rattle.papers.specs.Mend.{mend as mendOf};
-ghost use Rattle.pen.specs.Pen.{pen};
 ghost use Rattle.mending.specs.Mending.{mends};
 
 use crate::copy::copy;
 use crate::lines::lines;
 use crate::reasons::reasons_of;
-use book::reader::read_loosely;
-use pen::Streams;
-use pen::refusals::refusal_line;
+use book::{Refusal, read_loosely};
+use pen::Pen;
 
-// What mending comes to: number 0, and how much is in use of the buffer for the book, and of that for the lines; or the number of a
-// refusal, and its line.
-#[derive(Clone, Copy)]
-pub struct Mended {
-    pub number: u8,
-    pub used: usize,
-    pub told: usize,
-}
-
-// Both are put down from the start of their buffers on: `out` is for standard output, `told` for standard error. Where the paper is
-// refused, there is no book.
-pub fn mend(to: Streams, out: &mut [u8], told: &mut [u8], bytes: &[u8]) -> Mended
-    ensures { (result.number, pen out.new result.used, pen told.new result.told)
-        ≡ mends (mendOf bytes.now) (pen out.old 0) (pen told.old 0) }
+// The book is put down by `out`, which is for standard output, and the lines by `told`, which is for standard error; of a paper that is
+// refused no book, and the refusal's line in `told`.
+pub fn mend(out: &mut Pen, told: &mut Pen, bytes: &[u8]) -> Result<(), Refusal>
+    ensures { (fault_number result, out.new, told.new) ≡ mends (mendOf bytes.now) out.old told.old }
 {
-    let reading = read_loosely(bytes);
-    if reading.number != 0 {
-        let line = refusal_line(to, told, 0, reading.number);
-        return Mended {
-            number: reading.number,
-            used: 0,
-            told: line,
-        };
-    }
-    let b = reading.book;
-    let codes = reasons_of(b);
-    let used = copy(to, out, &codes, bytes);
-    let line = lines(to, told, &codes, b);
-    Mended {
-        number: 0,
-        used,
-        told: line,
+    match read_loosely(bytes) {
+        Ok(b) => {
+            let reasons = reasons_of(&b);
+            copy(out, &reasons, bytes);
+            lines(told, &reasons, &b);
+            Ok(())
+        }
+        Err(e) => {
+            told.refusal_line(u8::from(e));
+            Err(e)
+        }
     }
 }

@@ -5,25 +5,27 @@ use mathlib.Core.Path.{◌≡◌, refl, sym, ap, subst, ◌∙◌}
 use mathlib.Core.Bool.{Bool, true, false}
 use mathlib.Core.List.{List}
 use lib.ListN.{get_or}
-use borrow.Author.Tests.{lt-ltb, le-ltb}
+use Rattle.std.specs.Prelude.{max}
 use Rattle.laws.specs.Spans.{span}
-use Rattle.laws.proofs.Lists.{get_d_past}
 use Rattle.laws.proofs.Spans.{span_left, span_done}
 use Rattle.definitions.specs.Book as said
 use Rattle.definitions.specs.Book.{bit1}
 use Rattle.papers.specs.Levels.{larger, literal_asks, literals_ask, clauses_ask}
 use Rattle.papers.proofs.Passes.{larger_left, larger_right, larger_most}
+use Rattle.book.specs.declared.Book.{Book}
 use Rattle.book.specs.declared.Literal.{Literal}
 use Rattle.book.specs.View.{meant, signed, wanted, bit2}
 use Rattle.book.specs.Access.{entry, literal_read}
-use Rattle.book.specs.Repeats.{literals_read}
-use Rattle.paper_checks.specs.Asks.{Low, most}
+use Rattle.book.specs.Repeats.{lent_by, clause_read}
+use Rattle.paper_checks.specs.Asks.{Low, most, asked_from}
 
-pub larger_second : (a b : ℕ) → a < b → b ≡ larger a b
-larger_second a b h = sym (ap (λ (t : Bool). elim t [ true ↦ b | false ↦ a ]) (lt-ltb a b h))
-
-pub larger_first : (a b : ℕ) → b ≤ a → a ≡ larger a b
-larger_first a b h = sym (ap (λ (t : Bool). elim t [ true ↦ b | false ↦ a ]) (le-ltb a b h))
+-- the library's, too
+max_larger : (a b : ℕ) → max a b ≡ larger a b
+max_larger a b =
+    let x = larger_left a b in
+    let y = larger_right a b in
+    let z = larger_most a b (max a b) (omega arith) (omega arith) in
+    omega arith
 
 larger_zero : (n : ℕ) → larger 0 n ≡ n
 larger_zero n =
@@ -52,10 +54,6 @@ larger_assoc a b c =
     let z = larger_most (larger a b) c (larger a (larger b c)) (omega arith) (omega arith) in
     let w = larger_most a (larger b c) (larger (larger a b) c) (omega arith) (omega arith) in
     omega arith
-
--- A goal's level, past the levels.
-pub level_past : (l : List ℕ) (g : ℕ) → Low l → 64 ≤ g → 0 ≡ get_or l g 0
-level_past l g low h = sym (get_d_past l g (omega (arith, low.whole)))
 
 -- A literal.
 
@@ -110,50 +108,55 @@ clauses_most levels f s zero = refl
 clauses_most levels f s (suc n) = ap (larger (literals_ask levels (f s).literals)) (clauses_most levels f (suc s) n)
 
 -- The literals of clause c, of which `count` are there.
-module _ (levels len kind goal want : List ℕ) (c : ℕ) where
-  abbrev read_at : ℕ → ℕ
-  read_at j = literal_asks levels (meant (literal_read kind goal want c j))
+module _ (levels : List ℕ) (b : Book) (c : ℕ) where
+  abbrev read_at : ℕ → said.Literal
+  read_at j = meant (literal_read b.literal_kind b.literal_goal b.literal_want c j)
+
+  abbrev asks_at : ℕ → ℕ
+  asks_at j = literal_asks levels (read_at j)
+
+  abbrev all_ask : ℕ
+  all_ask = literals_ask levels (clause_read (lent_by b) c).literals
 
   abbrev pub LiteralsLeft : (count j m : ℕ) → Type 0
-  LiteralsLeft count j m = MostLeft read_at j count j m (literals_ask levels (literals_read len kind goal want c))
+  LiteralsLeft count j m = MostLeft asks_at j count j m all_ask
 
-  pub literals_begin : (count : ℕ) → count ≡ entry 256 len c → LiteralsLeft count 0 0
+  pub literals_begin : (count : ℕ) → count ≡ entry 256 b.clause_len c → LiteralsLeft count 0 0
   literals_begin count e =
-      most_begins read_at 0 count
-      ∙ literals_most levels (λ j. meant (literal_read kind goal want c j)) 0 count
-      ∙ ap (λ (n : ℕ). literals_ask levels (span (λ j. meant (literal_read kind goal want c j)) 0 n)) e
+      most_begins asks_at 0 count ∙ literals_most levels read_at 0 count ∙ ap (λ (n : ℕ). literals_ask levels (span read_at 0 n)) e
 
   module _ (count j m : ℕ) (left : LiteralsLeft count j m) where
-    pub literals_again : (l : Literal) (n next : ℕ) → j < count → l ≡ literal_read kind goal want c j → n ≡ literal_asks levels (meant l)
-        → next ≡ larger m n → LiteralsLeft count (j + 1) next
+    pub literals_again : (l : Literal) (n next : ℕ) → j < count
+        → l ≡ literal_read b.literal_kind b.literal_goal b.literal_want c j → n ≡ literal_asks levels (meant l)
+        → next ≡ max m n → LiteralsLeft count (j + 1) next
     literals_again l n next h e q r =
-        most_again read_at j count j m (literals_ask levels (literals_read len kind goal want c)) next left h
-        (r ∙ ap (larger m) (q ∙ ap (λ (x : Literal). literal_asks levels (meant x)) e))
+        most_again asks_at j count j m all_ask next left h
+        (r ∙ max_larger m n ∙ ap (larger m) (q ∙ ap (λ (x : Literal). literal_asks levels (meant x)) e))
 
-    pub literals_over : count ≤ j → m ≡ literals_ask levels (literals_read len kind goal want c)
-    literals_over h = most_over read_at j count j m (literals_ask levels (literals_read len kind goal want c)) left h
+    pub literals_over : count ≤ j → m ≡ all_ask
+    literals_over h = most_over asks_at j count j m all_ask left h
 
 -- The clauses from `first` on.
-module _ (levels len kind goal want : List ℕ) (first count : ℕ) where
+module _ (levels : List ℕ) (b : Book) (first count : ℕ) where
   abbrev clause_at : ℕ → ℕ
-  clause_at c = literals_ask levels (literals_read len kind goal want c)
+  clause_at c = literals_ask levels (clause_read (lent_by b) c).literals
 
   abbrev pub ClausesLeft : (k m : ℕ) → Type 0
-  ClausesLeft k m = MostLeft clause_at (first + k) count k m (most (span clause_at first count))
+  ClausesLeft k m = MostLeft clause_at (first + k) count k m (asked_from levels b first count)
 
   pub clauses_begin : ClausesLeft 0 0
   clauses_begin =
       let z : first + 0 ≡ first = omega arith in
-      subst (λ (i : ℕ). MostLeft clause_at i count 0 0 (most (span clause_at first count))) (sym z) (most_begins clause_at first count)
+      subst (λ (i : ℕ). MostLeft clause_at i count 0 0 (asked_from levels b first count)) (sym z) (most_begins clause_at first count)
 
   module _ (k m : ℕ) (left : ClausesLeft k m) where
-    pub clauses_again : (c n next : ℕ) → k < count → c ≡ first + k → n ≡ literals_ask levels (literals_read len kind goal want c)
-        → next ≡ larger m n → ClausesLeft (k + 1) next
+    pub clauses_again : (c n next : ℕ) → k < count → c ≡ first + k → n ≡ literals_ask levels (clause_read (lent_by b) c).literals
+        → next ≡ max m n → ClausesLeft (k + 1) next
     clauses_again c n next h e q r =
         let z : first + k + 1 ≡ first + (k + 1) = omega arith in
-        subst (λ (i : ℕ). MostLeft clause_at i count (k + 1) next (most (span clause_at first count))) z
-        (most_again clause_at (first + k) count k m (most (span clause_at first count)) next left h
-        (r ∙ ap (larger m) (q ∙ ap clause_at e)))
+        subst (λ (i : ℕ). MostLeft clause_at i count (k + 1) next (asked_from levels b first count)) z
+        (most_again clause_at (first + k) count k m (asked_from levels b first count) next left h
+        (r ∙ max_larger m n ∙ ap (larger m) (q ∙ ap clause_at e)))
 
-    pub clauses_over : count ≤ k → m ≡ most (span clause_at first count)
-    clauses_over h = most_over clause_at (first + k) count k m (most (span clause_at first count)) left h
+    pub clauses_over : count ≤ k → m ≡ asked_from levels b first count
+    clauses_over h = most_over clause_at (first + k) count k m (asked_from levels b first count) left h

@@ -4,8 +4,14 @@ use Prim.Native.Nat.{ℕ, zero, suc, ◌+◌, ◌-◌, ◌≤◌, ◌<◌}
 use native.Mathlib.Omega.{arith}
 use native.Mathlib.Decide.{dec_lt}
 use mathlib.Core.Path.{◌≡◌, refl, sym, ap, ap₂, subst, ◌∙◌}
-use mathlib.Core.Bool.{Bool, true, false}
+use mathlib.Core.Bool.{Bool, true, false, true≢false}
+use lib.Dec.{eqb}
+use lib.Pointwise.{pointwise}
+use Rattle.std.specs.Bool.{Decides}
+use Rattle.std.specs.Cmp.{unsigned_Decides}
+use Rattle.std.proofs.lemmas.Slice.Eq.{slice_eq-Decides}
 use mathlib.Core.Option.{Option, none, some}
+use Rattle.std.proofs.Common.{Some, None}
 use mathlib.Core.List.{List, [], ◌∷◌}
 use lib.ListN.{length, get_or, take, replicate, length-replicate, length-take}
 use lib.Seq.{ext_get_or, get_or-take}
@@ -20,10 +26,9 @@ use Rattle.papers.proofs.Levels.{levels_of_unchanged, same_are}
 use Rattle.book.specs.declared.Book.{Book}
 use Rattle.book.specs.View.{goal_viewed, view, Sound}
 use Rattle.book.specs.Access.{entry}
-use Rattle.book.specs.Repeats.{clause_read}
-use Rattle.book.proofs.Shown.{lent_by}
-use Rattle.book.proofs.TwiceInBook.{goal_few, goal_shown}
-use Rattle.paper_checks.specs.Asks.{Low, PassGives, ClausesInside, SameLevels, Settles}
+use Rattle.book.specs.Repeats.{lent_by, clause_read}
+use Rattle.book.proofs.TwiceInBook.{goal_shown}
+use Rattle.paper_checks.specs.Asks.{Low, PassGives, Settles}
 use Rattle.paper_checks.proofs.Asking.{clauses_most}
 use Rattle.paper_checks.proofs.Members.{clauses_in, clauses_past}
 
@@ -78,20 +83,17 @@ pub record Stands (b : Book) (k : ℕ) (levels : List ℕ) : Type 0 where
   pub are : (g : ℕ) → get_or levels g 0 ≡ level_in (passes k (view b)) g
   pub over : k ≡ b.goals + 1 → levelsOf (view b) ≡ none
 
-pub stands_start : (b : Book) (levels : List ℕ) → levels ≡ replicate 64 0 → Stands b 0 levels
-stands_start b levels e = record {
-  whole = ap length e ∙ length-replicate {A = ℕ} 64 0;
+pub stands_start : (b : Book) → Stands b 0 (replicate 64 0)
+stands_start b = record {
+  whole = length-replicate {A = ℕ} 64 0;
   within = omega arith;
-  are = λ g. ap (λ (l : List ℕ). get_or l g 0) e ∙ get_or_zeros 64 g ∙ sym (start_at (view b) g);
+  are = λ g. get_or_zeros 64 g ∙ sym (start_at (view b) g);
   over = λ z. absurd (omega arith);
 }
 
 module _ (b : Book) (s : Sound b) where
   many : length (view b) ≡ b.goals
   many = length_span (goal_viewed b) 0 b.goals
-
-  pub inside : ClausesInside b.goal_first b.goal_len b.goals
-  inside g h = goal_few b s g (entry 64 b.goal_first g) (entry 64 b.goal_len g) h refl refl
 
   module _ (k : ℕ) (levels : List ℕ) (so : Stands b k levels) where
     pub stands_low : Low levels
@@ -105,8 +107,7 @@ module _ (b : Book) (s : Sound b) where
           omega arith;
     }
 
-    module _ (next : List ℕ) (gives : PassGives levels b.goal_first b.goal_len b.clause_len b.literal_kind
-        b.literal_goal b.literal_want b.goals next) where
+    module _ (next : List ℕ) (gives : PassGives levels b next) where
       asked_there : (g : ℕ) → g < b.goals → get_or next g 0 ≡ clauses_ask levels (clauses_of (view b) g)
       asked_there g h =
           let z : 0 + g ≡ g = omega arith in
@@ -136,50 +137,50 @@ module _ (b : Book) (s : Sound b) where
           (length_passes (suc k) (view b) ∙ sym (length_passes k (view b)))
           (λ g h. sym (next_are g) ∙ e g ∙ so.are g)
 
-      module _ (r : Bool) (told : SameLevels next levels r) where
-        pub settled_now : r ≡ true → k ≤ b.goals → Settles (levelsOf (view b)) b.goals (record { settled = true; levels = levels })
-        settled_now t h = record {
-          whole = so.whole;
-          means = ap some as_list ∙ sym (stays_levels (view b) k (lists_same everywhere) (omega (arith, many)));
-          past = λ g x. so.are g ∙ ends g x;
-        }
-          where
-            everywhere : (g : ℕ) → get_or next g 0 ≡ get_or levels g 0
-            everywhere g = on (dec_lt g 64)
-              where
-                on : Dec (g < 64) → get_or next g 0 ≡ get_or levels g 0
-                on (yes l) = told.everywhere t g l
-                on (no o) =
-                    get_d_past next g (omega (arith, gives.whole)) ∙ sym (get_d_past levels g (omega (arith, so.whole)))
+      -- the code compares them
+      module _ (r : Bool) (e : r ≡ pointwise eqb next levels) where
+        told : Decides r (next ≡ levels)
+        told = slice_eq-Decides unsigned_Decides next levels r e
 
-            long : length (passes k (view b)) ≡ b.goals
-            long = length_passes k (view b) ∙ many
+        pub same_told : r ≡ true → next ≡ levels
+        same_told t = told.0 t
 
-            ends : (g : ℕ) → b.goals ≤ g → level_in (passes k (view b)) g ≡ 0
-            ends g x = get_d_past (passes k (view b)) g (omega (arith, long))
+        pub other_told : r ≡ false → next ≡ levels → ⊥
+        other_told f z = true≢false (sym (told.1 z) ∙ f)
 
-            taken : length (take b.goals levels) ≡ b.goals
-            taken = let x = length-take b.goals levels in omega (arith, so.whole, s.few_goals)
+      pub settled_now : next ≡ levels → k ≤ b.goals → Settles (levelsOf (view b)) b.goals (Some levels)
+      settled_now same h = record {
+        means =
+            ap some as_list
+            ∙ sym (stays_levels (view b) k (lists_same (λ g. ap (λ (l : List ℕ). get_or l g 0) same)) (omega (arith, many)));
+        filled = record { whole = so.whole; past = λ g x. so.are g ∙ ends g x };
+      }
+        where
+          long : length (passes k (view b)) ≡ b.goals
+          long = length_passes k (view b) ∙ many
 
-            as_list : take b.goals levels ≡ passes k (view b)
-            as_list =
-                ext_get_or 0 (take b.goals levels) (passes k (view b)) (taken ∙ sym long)
-                (λ g x. get_or-take b.goals levels g 0 (omega (arith, taken)) ∙ so.are g)
+          ends : (g : ℕ) → b.goals ≤ g → level_in (passes k (view b)) g ≡ 0
+          ends g x = get_d_past (passes k (view b)) g (omega (arith, long))
 
-        pub stands_next : r ≡ false → k ≤ b.goals → Stands b (k + 1) next
-        stands_next f h = record {
-          whole = gives.whole;
-          within = omega arith;
-          are = λ g. next_are g ∙ ap (λ (n : ℕ). level_in (passes n (view b)) g) (let z : suc k ≡ k + 1 = omega arith in z);
-          over = λ z.
-              let e : k ≡ length (view b) = omega (arith, many) in
-              moves_none (view b) (subst (λ (n : ℕ). pass (view b) (passes n (view b)) ≡ passes n (view b) → ⊥) e (λ q.
-              told.not_everywhere f (λ g. next_are g ∙ ap (λ (l : List ℕ). level_in l g) q ∙ sym (so.are g))));
-        }
+          taken : length (take b.goals levels) ≡ b.goals
+          taken = let x = length-take b.goals levels in omega (arith, so.whole, s.few_goals)
 
-    pub never_settled : b.goals < k → Settles (levelsOf (view b)) b.goals (record { settled = false; levels = replicate 64 0 })
-    never_settled h = record {
-      whole = length-replicate {A = ℕ} 64 0;
-      means = sym (so.over (omega (arith, so.within)));
-      past = λ g x. get_or_zeros 64 g;
-    }
+          as_list : take b.goals levels ≡ passes k (view b)
+          as_list =
+              ext_get_or 0 (take b.goals levels) (passes k (view b)) (taken ∙ sym long)
+              (λ g x. get_or-take b.goals levels g 0 (omega (arith, taken)) ∙ so.are g)
+
+      pub stands_next : (next ≡ levels → ⊥) → k ≤ b.goals → Stands b (k + 1) next
+      stands_next moved h = record {
+        whole = gives.whole;
+        within = omega arith;
+        are = λ g. next_are g ∙ ap (λ (n : ℕ). level_in (passes n (view b)) g) (let z : suc k ≡ k + 1 = omega arith in z);
+        over = λ z.
+            let e : k ≡ length (view b) = omega (arith, many) in
+            moves_none (view b) (subst (λ (n : ℕ). pass (view b) (passes n (view b)) ≡ passes n (view b) → ⊥) e (λ q.
+            moved (ext_get_or 0 next levels (gives.whole ∙ sym so.whole)
+            (λ g x. next_are g ∙ ap (λ (l : List ℕ). level_in l g) q ∙ sym (so.are g)))));
+      }
+
+    pub never_settled : b.goals < k → Settles (levelsOf (view b)) b.goals None
+    never_settled h = record { means = sym (so.over (omega (arith, so.within))); filled = tt }

@@ -18,8 +18,7 @@ use Rattle.book.specs.declared.Book.{Book}
 use Rattle.book.specs.declared.Literal.{Literal}
 use Rattle.book.specs.Access.{entry, literal_read}
 use Rattle.book.specs.View.{meant, goal_viewed, view, Sound}
-use Rattle.book.specs.Repeats.{clause_read}
-use Rattle.book.proofs.Shown.{lent_by}
+use Rattle.book.specs.Repeats.{lent_by, clause_read}
 use Rattle.paper_checks.specs.Reach.{cell, Raised, Here, Names, said_literal, NamesFew, ClauseLeads, GoalLeads, Leads, NotStep, Edges}
 use Rattle.paper_checks.proofs.Raising.{Steps, raised_as, raised_more, raised_then}
 use Rattle.paper_checks.proofs.Members.{goal_of_meant, has_clause, clause_placed, placed_clause, literal_placed, placed_literal}
@@ -38,16 +37,16 @@ module _ (l : Literal) (p : Bool) (lp : p ≡ bit1 l.kind) where
 
 -- A clause.
 
-module _ (len kind goal want : List ℕ) (g c : ℕ) where
+module _ (b : Book) (g c : ℕ) where
   abbrev pub LiteralLeads : (k v i j : ℕ) → Type 0
-  LiteralLeads k v i j = (i ≡ g) × Names (said_literal kind goal want c k) v j
+  LiteralLeads k v i j = (i ≡ g) × Names (said_literal b c k) v j
 
-  pub literal_few : (k count : ℕ) (l : Literal) → NamesFew len kind goal want c → count ≡ entry 256 len c → k < count
-      → l ≡ literal_read kind goal want c k → l.goal < 64
+  pub literal_few : (k count : ℕ) (l : Literal) → NamesFew b c → count ≡ entry 256 b.clause_len c → k < count
+      → l ≡ literal_read b.literal_kind b.literal_goal b.literal_want c k → l.goal < 64
   literal_few k count l few e lt own = subst (λ (x : Literal). x.goal < 64) (sym own) (few k (omega arith))
 
   pub literals_more : (old mid new : List ℕ) (k w : ℕ) (l : Literal) → Raised (Steps LiteralLeads k) old mid
-      → l ≡ literal_read kind goal want c k → w ≡ suc (is_not (meant l)) → Raised (Here g l.goal w) mid new
+      → l ≡ literal_read b.literal_kind b.literal_goal b.literal_want c k → w ≡ suc (is_not (meant l)) → Raised (Here g l.goal w) mid new
       → Raised (Steps LiteralLeads (k + 1)) old new
   literals_more old mid new k w l so_far own e r =
       raised_more LiteralLeads k so_far
@@ -55,20 +54,20 @@ module _ (len kind goal want : List ℕ) (g c : ℕ) where
       (raised_as r (λ v i j z a. (a.0, (goal_of_meant l ∙ sym a.1, omega (arith, a.2))))
       (λ v i j a. (a.0, sym a.1.0 ∙ goal_of_meant l, omega (arith, a.1.1)))))
 
-  pub literals_all : (old new : List ℕ) (n count : ℕ) → count ≡ entry 256 len c → n ≤ count → count ≤ n
-      → Raised (Steps LiteralLeads n) old new → Raised (λ v i j. (i ≡ g) × ClauseLeads len kind goal want c v j) old new
+  pub literals_all : (old new : List ℕ) (n count : ℕ) → count ≡ entry 256 b.clause_len c → n ≤ count → count ≤ n
+      → Raised (Steps LiteralLeads n) old new → Raised (λ v i j. (i ≡ g) × ClauseLeads b c v j) old new
   literals_all old new n count e few past r =
       raised_as r (λ v i j z a. let h = a.1 in (a.2.0, (a.0, omega arith, a.2.1)))
       (λ v i j a. let h = a.1.1 in (a.1.0, omega arith, (a.0, a.1.2)))
 
 -- A goal.
 
-module _ (len kind goal want : List ℕ) (g first : ℕ) where
+module _ (b : Book) (g first : ℕ) where
   abbrev pub ClauseStep : (d v i j : ℕ) → Type 0
-  ClauseStep d v i j = (i ≡ g) × ClauseLeads len kind goal want (first + d) v j
+  ClauseStep d v i j = (i ≡ g) × ClauseLeads b (first + d) v j
 
   pub clauses_all : (old new : List ℕ) (n count : ℕ) → n ≤ count → count ≤ n
-      → Raised (Steps ClauseStep n) old new → Raised (λ v i j. (i ≡ g) × GoalLeads len kind goal want first count v j) old new
+      → Raised (Steps ClauseStep n) old new → Raised (λ v i j. (i ≡ g) × GoalLeads b first count v j) old new
   clauses_all old new n count few past r =
       raised_as r (λ v i j z a. let h = a.1 in (a.2.0, (a.0, omega arith, a.2.1)))
       (λ v i j a. let h = a.1.1 in (a.1.0, omega arith, (a.0, a.1.2)))
@@ -78,7 +77,7 @@ module _ (len kind goal want : List ℕ) (g first : ℕ) where
 -- goal g by its clauses, so many from `first` on
 abbrev pub LeadsBy : Book → (g first count : ℕ) → (v i j : ℕ) → Type 0
 LeadsBy b g first count v i j =
-    (i ≡ g) × GoalLeads b.clause_len b.literal_kind b.literal_goal b.literal_want first count v j
+    (i ≡ g) × GoalLeads b first count v j
 
 module _ (b : Book) where
   -- goal g leads to itself, and by its clauses
@@ -124,7 +123,7 @@ module _ (b : Book) where
           let k = d.2 in
           let c = entry 64 b.goal_first g + d.0 in (
             clause_read (lent_by b) c,
-            said_literal b.literal_kind b.literal_goal b.literal_want c k.0,
+            said_literal b c k.0,
             subst (λ (x : ℕ). Memᴰ (clause_read (lent_by b) c) (clauses_of (view b) x)) (sym a.0)
                 (placed_clause b s g h d.0 d.1),
             placed_literal b c k.0 k.1,

@@ -14,9 +14,8 @@ use Rattle.book.specs.declared.Book.{Book}
 use Rattle.book.specs.declared.Literal as kept
 use Rattle.book.specs.Access.{entry, literal_read}
 use Rattle.book.specs.View.{signed, meant, goal_viewed, view, Sound}
-use Rattle.book.specs.Repeats.{clause_read}
+use Rattle.book.specs.Repeats.{lent_by, clause_read}
 use Rattle.book.proofs.Looks.{entry_in, literal_names}
-use Rattle.book.proofs.Shown.{lent_by}
 use Rattle.book.proofs.TwiceInBook.{goal_inside, goal_shown}
 use Rattle.papers.proofs.Passes.{clause_inside}
 use Rattle.paper_checks.specs.Reach.{said_literal, NamesFew}
@@ -94,12 +93,12 @@ module _ (b : Book) where
         let e = entry_in 256 b.clause_len (first + d) (omega (arith, s.few_clauses)) in
         literal_names b s (first + d) c k (omega arith)
 
-    pub names_few : NamesFew b.clause_len b.literal_kind b.literal_goal b.literal_want (first + d)
+    pub names_few : NamesFew b (first + d)
     names_few k lt = omega (arith, names_goal k lt, s.few_goals)
 
   module _ (c : ℕ) where
     abbrev literal : ℕ → Literal
-    literal = said_literal b.literal_kind b.literal_goal b.literal_want c
+    literal = said_literal b c
 
     pub literal_placed : (l : Literal) → Memᴰ l (clause_read (lent_by b) c).literals
         → (k : ℕ) × (k < entry 256 b.clause_len c) × (l ≡ literal k)

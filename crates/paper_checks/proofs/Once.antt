@@ -1,90 +1,138 @@
 -- The contract of `levels` leaves nothing open: for a byte string there is one profile. For the marks are those of the goals on a cycle,
 -- and a goal is on one or is not.
-use Prim.Native.Nat.{ℕ, ◌≤◌, ◌<◌}
+use Prim.Native.Nat.{ℕ, ◌<◌}
 use native.Mathlib.Omega.{arith}
-use native.Mathlib.Decide.{ℕ_discrete, dec_lt}
-use mathlib.Core.Path.{◌≡◌, refl, sym, ap, ◌∙◌}
+use native.Mathlib.Decide.{dec_lt}
+use mathlib.Core.Path.{◌≡◌, refl, sym, ap, ap₂, ◌∙◌}
 use mathlib.Core.Bool.{Bool, true, false}
 use mathlib.Core.List.{List}
+use lib.Dec.{eqb}
 use lib.ListN.{length, get_or, take, length-take}
 use lib.Seq.{ext_get_or, get_or-take}
-use lib.Dec.{eqb}
-use borrow.Author.Tests.{eqb-true, eqb-false}
-use Rattle.definitions.specs.Refusal.{refused}
+use Rattle.std.proofs.Common.{Result, Ok, Err}
 use Rattle.definitions.specs.Book.{Book}
-use Rattle.papers.specs.Levels.{check_levels}
 use Rattle.definitions.proofs.Refusal.{same_accepted, same_refused, not_accepted}
 use Rattle.papers.proofs.Levels.{check_38}
-use Rattle.paper_checks.specs.declared.Profile.{Profile}
-use Rattle.paper_checks.specs.Profile.{profile_by, Marks, Profiles}
+use Rattle.book.specs.declared.refusal.Refusal.{Refusal}
+use Rattle.book.specs.declared.refusal.Refusal.TheVariants as why
+use Rattle.book.specs.Refusals.{number}
+use Rattle.paper_checks.specs.declared.LeastLevels.{LeastLevels}
+use Rattle.paper_checks.specs.declared.Unlevelled.{Unlevelled}
+use Rattle.paper_checks.specs.declared.Unlevelled.TheVariants.{Refused, OnCycles}
+use Rattle.paper_checks.specs.Profile.{Marks, Whole, Profiles}
 
-pub marks_once : (book : Book) (a b : List ℕ) → Marks book a → Marks book b → a ≡ b
-marks_once book a b x y =
-    ext_get_or 0 a b (x.whole ∙ sym y.whole) (λ g h. on g (ℕ_discrete (get_or a g 0) 0) (ℕ_discrete (get_or b g 0) 0))
+pub marks_once : (book : Book) (a b : List Bool) → Marks book a → Marks book b → a ≡ b
+marks_once book a b x y = ext_get_or false a b (x.whole ∙ sym y.whole) (λ g h. on g (get_or a g false) (get_or b g false) refl refl)
   where
-    one : (n : ℕ) → n ≤ 1 → (n ≡ 0 → ⊥) → n ≡ 1
-    one n h o = omega arith
+    on : (g : ℕ) (s t : Bool) → get_or a g false ≡ s → get_or b g false ≡ t → get_or a g false ≡ get_or b g false
+    on g true true d e = d ∙ sym e
+    on g false false d e = d ∙ sym e
+    on g true false d e = absurd (y.off_cycle g e (x.on_cycle g d))
+    on g false true d e = absurd (x.off_cycle g d (y.on_cycle g e))
 
-    on : (g : ℕ) → Dec (get_or a g 0 ≡ 0) → Dec (get_or b g 0 ≡ 0) → get_or a g 0 ≡ get_or b g 0
-    on g (yes d) (yes e) = d ∙ sym e
-    on g (yes d) (no o) = absurd (x.off_cycle g d (y.on_cycle g (one (get_or b g 0) (y.bits g) o)))
-    on g (no o) (yes e) = absurd (y.off_cycle g e (x.on_cycle g (one (get_or a g 0) (x.bits g) o)))
-    on g (no o) (no u) = one (get_or a g 0) (x.bits g) o ∙ sym (one (get_or b g 0) (y.bits g) u)
+-- the number settles a refusal
+of_number : ℕ → Refusal
+of_number n =
+    elim (eqb n 1) [
+      | true ↦ why.PartMissing
+      | false ↦
+          elim (eqb n 2) [
+            | true ↦ why.UnknownCommand
+            | false ↦
+                elim (eqb n 3) [
+                  | true ↦ why.OutOfPlace
+                  | false ↦
+                      elim (eqb n 4) [
+                        | true ↦ why.UnknownFlag
+                        | false ↦
+                            elim (eqb n 5) [
+                              | true ↦ why.TooMany
+                              | false ↦
+                                  elim (eqb n 6) [
+                                    | true ↦ why.NoSuchGoal
+                                    | false ↦
+                                        elim (eqb n 7) [
+                                          | true ↦ why.BehindEnd
+                                          | false ↦
+                                              elim (eqb n 8) [
+                                                | true ↦ why.NoGoal
+                                                | false ↦
+                                                    elim (eqb n 32) [
+                                                      | true ↦ why.CrossedRange
+                                                      | false ↦
+                                                          elim (eqb n 36) [
+                                                            | true ↦ why.RepeatedClause
+                                                            | false ↦
+                                                                elim (eqb n 37) [
+                                                                  | true ↦ why.NotPlain
+                                                                  | false ↦
+                                                                      elim (eqb n 38) [
+                                                                        | true ↦ why.NotLevelled
+                                                                        | false ↦
+                                                                            why.NotText
+                                                                      ]
+                                                                ]
+                                                          ]
+                                                    ]
+                                              ]
+                                        ]
+                                  ]
+                            ]
+                      ]
+                ]
+          ]
+    ]
 
-module _ (bytes : List ℕ) (p r : Profile) (x : Profiles bytes p) (y : Profiles bytes r) where
-  by_number : (s t : Bool) → eqb p.number 0 ≡ s → eqb r.number 0 ≡ t → profile_by s p ≡ profile_by t r
-  by_number s t d e =
-      ap (λ (b : Bool). profile_by b p) (sym d) ∙ x.means ∙ sym y.means ∙ ap (λ (b : Bool). profile_by b r) e
+of_its_number : (e : Refusal) → of_number (number e) ≡ e
+unfolding of_number
+of_its_number why.PartMissing = refl
+of_its_number why.UnknownCommand = refl
+of_its_number why.OutOfPlace = refl
+of_its_number why.UnknownFlag = refl
+of_its_number why.TooMany = refl
+of_its_number why.NoSuchGoal = refl
+of_its_number why.BehindEnd = refl
+of_its_number why.NoGoal = refl
+of_its_number why.CrossedRange = refl
+of_its_number why.RepeatedClause = refl
+of_its_number why.NotPlain = refl
+of_its_number why.NotLevelled = refl
+of_its_number why.NotText = refl
 
-  -- accepted: as many levels, and the same
-  same_count : take p.goals p.levels ≡ take r.goals r.levels → p.goals ≡ r.goals
-  same_count e =
+-- accepted: as many levels, and the same
+module _ (p r : LeastLevels) (x : Whole p) (y : Whole r) (e : take p.goals p.levels ≡ take r.goals r.levels) where
+  same_count : p.goals ≡ r.goals
+  same_count =
       let a = length-take p.goals p.levels in
       let b = length-take r.goals r.levels in
       let c = ap length e in
-      omega (arith, x.few, x.whole, y.few, y.whole)
+      omega (arith, x.few, x.filled.whole, y.few, y.filled.whole)
 
-  same_levels : take p.goals p.levels ≡ take r.goals r.levels → p.levels ≡ r.levels
-  same_levels e = ext_get_or 0 p.levels r.levels (x.whole ∙ sym y.whole) (λ g h. at g (dec_lt g p.goals))
+  same_levels : p.levels ≡ r.levels
+  same_levels = ext_get_or 0 p.levels r.levels (x.filled.whole ∙ sym y.filled.whole) (λ g h. at g (dec_lt g p.goals))
     where
-      n : p.goals ≡ r.goals
-      n = same_count e
-
       at : (g : ℕ) → Dec (g < p.goals) → get_or p.levels g 0 ≡ get_or r.levels g 0
       at g (yes h) =
           sym (get_or-take p.goals p.levels g 0 h) ∙ ap (λ (l : List ℕ). get_or l g 0) e
-          ∙ get_or-take r.goals r.levels g 0 (omega (arith, n))
-      at g (no o) = x.past g (omega arith) ∙ sym (y.past g (omega (arith, n)))
+          ∙ get_or-take r.goals r.levels g 0 (omega (arith, same_count))
+      at g (no o) = x.filled.past g (omega arith) ∙ sym (y.filled.past g (omega (arith, same_count)))
 
-  -- refused: the marks of 38, and no others
-  same_marks : (n : ℕ) → p.number ≡ n → r.number ≡ n → profile_by (eqb p.number 0) p ≡ refused n → p.on_cycle ≡ r.on_cycle
-  same_marks n d e s = on (ℕ_discrete n 38)
+  same_whole : p ≡ r
+  same_whole = ap₂ (λ (n : ℕ) (l : List ℕ). made n l) same_count same_levels
     where
-      on : Dec (n ≡ 38) → p.on_cycle ≡ r.on_cycle
-      on (yes k) =
-          let says : check_levels bytes ≡ refused 38 = sym x.means ∙ s ∙ ap refused k in
-          let b = check_38 bytes says in
-          marks_once b.0 p.on_cycle r.on_cycle (x.cycles b.0 b.1 (d ∙ k)) (y.cycles b.0 b.1 (e ∙ k))
-      on (no o) = x.no_cycles (λ z. o (sym d ∙ z)) ∙ sym (y.no_cycles (λ z. o (sym e ∙ z)))
+      made : ℕ → List ℕ → LeastLevels
+      made n l = record { goals = n; levels = l }
 
-  alike : p.number ≡ r.number → p.goals ≡ r.goals → p.levels ≡ r.levels → p.on_cycle ≡ r.on_cycle → p ≡ r
-  alike a b c d = λ i. record { number = a i; goals = b i; levels = c i; on_cycle = d i }
-
-  pub profiled_once : p ≡ r
-  profiled_once = on (eqb p.number 0) (eqb r.number 0) refl refl
-    where
-      on : (s t : Bool) → eqb p.number 0 ≡ s → eqb r.number 0 ≡ t → p ≡ r
-      on true true d e =
-          let l = same_accepted (by_number true true d e) in
-          let a = eqb-true p.number 0 d in
-          let b = eqb-true r.number 0 e in
-          alike (a ∙ sym b) (same_count l) (same_levels l)
-          (x.no_cycles (λ z. omega (arith, a)) ∙ sym (y.no_cycles (λ z. omega (arith, b))))
-      on true false d e = absurd (not_accepted (sym (by_number true false d e)))
-      on false true d e = absurd (not_accepted (by_number false true d e))
-      on false false d e =
-          let n = same_refused (by_number false false d e) in
-          let a = x.bare (eqb-false p.number 0 d) in
-          let b = y.bare (eqb-false r.number 0 e) in
-          alike n (a.0 ∙ sym b.0) (a.1 ∙ sym b.1)
-          (same_marks r.number n refl (ap (λ (t : Bool). profile_by t p) d ∙ ap refused n))
+pub profiled_once : (bytes : List ℕ) (p r : Result LeastLevels Unlevelled) → Profiles bytes p → Profiles bytes r → p ≡ r
+profiled_once bytes (Ok p) (Ok r) x y =
+    ap (λ (l : LeastLevels). Ok l) (same_whole p r x.levels y.levels (same_accepted (x.means ∙ sym y.means)))
+profiled_once bytes (Ok p) (Err e) x y = absurd (not_accepted (sym (x.means ∙ sym y.means)))
+profiled_once bytes (Err e) (Ok r) x y = absurd (not_accepted (x.means ∙ sym y.means))
+profiled_once bytes (Err (Refused e)) (Err (Refused f)) x y =
+    ap (λ (z : Refusal). Err (Refused z))
+    (sym (of_its_number e) ∙ ap of_number (same_refused (x.means ∙ sym y.means)) ∙ of_its_number f)
+profiled_once bytes (Err (Refused e)) (Err (OnCycles marks)) x y = absurd (x.reason (same_refused (x.means ∙ sym y.means)))
+profiled_once bytes (Err (OnCycles marks)) (Err (Refused f)) x y = absurd (y.reason (same_refused (y.means ∙ sym x.means)))
+profiled_once bytes (Err (OnCycles a)) (Err (OnCycles b)) x y =
+    let at = check_38 bytes (sym x.means) in
+    ap (λ (l : List Bool). Err (OnCycles l)) (marks_once at.0 a b (x.reason at.0 at.1) (y.reason at.0 at.1))

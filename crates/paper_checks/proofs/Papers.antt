@@ -1,11 +1,9 @@
 -- A plain paper, by its parts: what the desk gave, and whether the book is plain. What rests on plain books alone is told from it.
 use Prim.Native.Nat.{ℕ}
-use native.Mathlib.Omega.{arith}
 use mathlib.Core.Path.{◌≡◌, refl, sym, ap, ◌∙◌}
 use mathlib.Core.Bool.{Bool, true, false, not}
 use mathlib.Core.List.{List}
-use lib.Dec.{eqb}
-use borrow.Author.Tests.{eq-eqb, ne_eqb}
+use Rattle.std.proofs.Common.{Ok, Err}
 use Rattle.laws.proofs.Bools.{was_true, was_false}
 use Rattle.definitions.specs.Refusal.{Refusable, refused, accepted}
 use Rattle.definitions.specs.Book as said
@@ -13,8 +11,10 @@ use Rattle.definitions.specs.Desk.{desk}
 use Rattle.papers.specs.Levels.{is_plain, levels, levels_or_38, levels_at_desk, check_levels}
 use Rattle.papers.specs.Xsb.{export, export_at_desk, check_export}
 use Rattle.definitions.proofs.Refusal.{same_refused, not_accepted}
-use Rattle.book.specs.declared.Reading.{Reading}
-use Rattle.book.specs.View.{view, seen_by, blank, Sound, Gives, Taken}
+use Rattle.book.specs.declared.Book.{Book}
+use Rattle.book.specs.declared.refusal.Refusal.{Refusal}
+use Rattle.book.specs.declared.refusal.Refusal.TheVariants.{NotPlain}
+use Rattle.book.specs.View.{view, Gives, Taken}
 use Rattle.paper_checks.specs.Paper.{plain_at_desk, plain_paper}
 
 -- What rests on it: a paper that is refused is refused by its number, and another has what its book has.
@@ -68,44 +68,18 @@ refused_taken bytes n book e took = on (is_plain book) (sym (ap plain_at_desk to
     on true x = absurd (not_accepted (sym x))
     on false x = sym (same_refused x)
 
--- What an entry gave, by its number; and its book is sound.
-module _ (what : Refusable said.Book) (reading : Reading) (read : Gives what reading) where
-  pub gave : (t : Bool) → eqb reading.number 0 ≡ t → what ≡ seen_by t reading
-  gave t e = sym read.means ∙ ap (λ (b : Bool). seen_by b reading) e
-
-  pub book_sound : reading.number ≡ 0 → Sound reading.book
-  book_sound z = read.sound z
-
-  -- what it refuses, as the desk does
-  pub unread_gives : (bytes : List ℕ) → ((n : ℕ) → what ≡ refused n → desk bytes ≡ refused n) → (reading.number ≡ 0 → ⊥)
-      → Gives (plain_paper bytes) reading
-  unread_gives bytes as-desk n =
-      let no = ne_eqb reading.number 0 n in record {
-        means = ap (λ (b : Bool). seen_by b reading) no ∙ sym (ap plain_at_desk (as-desk reading.number (gave false no)));
-        sound = read.sound;
-        bare = read.bare;
-      }
-
 -- From what the desk gave.
-module _ (bytes : List ℕ) (reading : Reading) (read : Taken bytes reading) where
-  module _ (z : reading.number ≡ 0) (plain : Bool) (told : plain ≡ is_plain (view reading.book)) where
-    by_plain : (t : Bool) → plain ≡ t → plain_paper bytes ≡ elim t [ false ↦ refused 37 | true ↦ accepted (view reading.book) ]
-    by_plain t e =
-        ap plain_at_desk (gave (desk bytes) reading read true (eq-eqb reading.number 0 z))
-        ∙ ap (λ (b : Bool). elim b [ false ↦ refused 37 | true ↦ accepted (view reading.book) ]) (sym told ∙ e)
 
-    pub unplain_gives : (r : Reading) → not plain ≡ true → r.number ≡ 37 → r.book ≡ blank → Gives (plain_paper bytes) r
-    unplain_gives r n e f = record {
-      means =
-          ap (λ (b : Bool). seen_by b r) (ne_eqb r.number 0 (λ x. omega arith)) ∙ ap refused e
-          ∙ sym (by_plain false (was_false plain n));
-      sound = λ x. absurd (omega arith);
-      bare = λ x. f;
-    }
+pub refused_gives : (bytes : List ℕ) (e : Refusal) → Taken bytes (Err e) → Gives (plain_paper bytes) (Err e)
+refused_gives bytes e read = record { means = ap plain_at_desk read.means; sound = tt }
 
-    pub plain_gives : not plain ≡ false → Gives (plain_paper bytes) reading
-    plain_gives s = record {
-      means = ap (λ (b : Bool). seen_by b reading) (eq-eqb reading.number 0 z) ∙ sym (by_plain true (was_true plain s));
-      sound = read.sound;
-      bare = read.bare;
-    }
+module _ (bytes : List ℕ) (book : Book) (read : Taken bytes (Ok book)) (plain : Bool) (told : plain ≡ is_plain (view book)) where
+  by_plain : (t : Bool) → plain ≡ t → elim t [ false ↦ refused 37 | true ↦ accepted (view book) ] ≡ plain_paper bytes
+  by_plain t e =
+      ap (λ (b : Bool). elim b [ false ↦ refused 37 | true ↦ accepted (view book) ]) (sym e ∙ told) ∙ ap plain_at_desk read.means
+
+  pub unplain_gives : not plain ≡ true → Gives (plain_paper bytes) (Err NotPlain)
+  unplain_gives n = record { means = by_plain false (was_false plain n); sound = tt }
+
+  pub plain_gives : not plain ≡ false → Gives (plain_paper bytes) (Ok book)
+  plain_gives n = record { means = by_plain true (was_true plain n); sound = read.sound }

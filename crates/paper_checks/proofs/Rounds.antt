@@ -2,7 +2,7 @@
 use Prim.Native.Nat.{ℕ, ◌+◌, ◌*◌, ◌/◌, ◌%◌, ◌≤◌, ◌<◌}
 use native.Mathlib.Omega.{arith}
 use mathlib.Core.Path.{◌≡◌, refl, sym, ap, subst, ◌∙◌}
-use mathlib.Core.Bool.{Bool, true, false}
+use mathlib.Core.Bool.{Bool, true, false, true≢false}
 use mathlib.Core.List.{List}
 use lib.ListN.{length, get_or, set, replicate, length-set, length-replicate, get_or-eq_default}
 use lib.Seq.{get_or-set_same, get_or-set_other}
@@ -23,18 +23,13 @@ use Rattle.paper_checks.proofs.Members.{has_clause, names_inside}
 place_of : (m : List ℕ) (p : ℕ) → cell m (p / 64) (p % 64) ≡ get_or m p 0
 place_of m p = let e : 64 * (p / 64) + p % 64 ≡ p = omega arith in ap (λ (i : ℕ). get_or m i 0) e
 
-tells_no : {P : Type 0} → (P → ⊥) → Tells P 0
-tells_no n = record { bit = omega arith; yes = λ q. absurd (omega arith); no = λ q. n }
-
-tells_yes : {P : Type 0} → P → Tells P 1
-tells_yes p = record { bit = omega arith; yes = λ q. p; no = λ q. absurd (omega arith) }
-
 module _ (m : List ℕ) (t p : ℕ) where
-  pub no_not : get_or m p 0 < 2 → Tells (Round m t (p / 64) (p % 64)) 0
-  no_not l = tells_no (λ x. let h = x.0 in omega (arith, place_of m p))
-
-  pub is_round : 2 ≤ get_or m p 0 → (cell m t (p / 64) ≡ 0 → ⊥) → (cell m (p % 64) t ≡ 0 → ⊥) → Tells (Round m t (p / 64) (p % 64)) 1
-  is_round a b c = tells_yes (omega (arith, place_of m p), omega arith, omega arith)
+  pub round_tells : (r : Bool) → (r ≡ true → (2 ≤ get_or m p 0) × (0 < cell m t (p / 64)) × (0 < cell m (p % 64) t))
+      → (r ≡ false → 2 ≤ get_or m p 0 → 0 < cell m t (p / 64) → 0 < cell m (p % 64) t → ⊥) → Tells (Round m t (p / 64) (p % 64)) r
+  round_tells r some none = record {
+    yes = λ e. let x = some e in let h = x.0 in (omega (arith, place_of m p), x.1, x.2);
+    no = λ e x. let h = x.0 in none e (omega (arith, place_of m p)) x.1 x.2;
+  }
 
 -- One goal, place after place.
 
@@ -42,53 +37,56 @@ module _ (m : List ℕ) (n t : ℕ) where
   pub none_found : SomeRound m 0 t → ⊥
   none_found x = let h = x.2 in omega arith
 
-  module _ (p r : ℕ) (told : Tells (Round m t (p / 64) (p % 64)) r) where
-    pub found : p < n → r ≡ 1 → Tells (SomeRound m n t) 1
-    found lt e = tells_yes (p / 64, p % 64, omega arith, omega arith, told.yes e)
+  module _ (p : ℕ) (r : Bool) (told : Tells (Round m t (p / 64) (p % 64)) r) where
+    pub found : p < n → r ≡ true → Tells (SomeRound m n t) true
+    found lt e = record { yes = λ q. (p / 64, p % 64, omega arith, omega arith, told.yes e); no = λ q. absurd (true≢false q) }
 
-    pub none_more : (r ≡ 1 → ⊥) → (SomeRound m p t → ⊥) → SomeRound m (p + 1) t → ⊥
-    none_more other before x = at (eqb (64 * x.0 + x.1) p) refl
+    pub none_more : r ≡ false → (SomeRound m p t → ⊥) → SomeRound m (p + 1) t → ⊥
+    none_more e before x = at (eqb (64 * x.0 + x.1) p) refl
       where
         at : (b : Bool) → eqb (64 * x.0 + x.1) p ≡ b → ⊥
         at true q =
-            let e = eqb-true (64 * x.0 + x.1) p q in
+            let e2 = eqb-true (64 * x.0 + x.1) p q in
             let h = x.3 in
             let a : x.0 ≡ p / 64 = omega arith in
             let c : x.1 ≡ p % 64 = omega arith in
-            told.no (omega (arith, told.bit)) (subst (λ (i : ℕ). Round m t i (p % 64)) a (subst (λ (i : ℕ). Round m t x.0 i) c x.4))
+            told.no e (subst (λ (i : ℕ). Round m t i (p % 64)) a (subst (λ (i : ℕ). Round m t x.0 i) c x.4))
         at false q =
             let d = eqb-false (64 * x.0 + x.1) p q in
             let h = x.2 in
             before (x.0, x.1, omega arith, x.3, x.4)
 
-  pub none_at_all : (p : ℕ) → n ≤ p → (SomeRound m p t → ⊥) → Tells (SomeRound m n t) 0
-  none_at_all p past none = tells_no (λ x. let h = x.2 in none (x.0, x.1, omega arith, x.3, x.4))
+  pub none_at_all : (p : ℕ) → n ≤ p → (SomeRound m p t → ⊥) → Tells (SomeRound m n t) false
+  none_at_all p past none = record {
+    yes = λ q. absurd (true≢false (sym q));
+    no = λ q x. let h = x.2 in none (x.0, x.1, omega arith, x.3, x.4);
+  }
 
 -- All goals.
 
 -- those before k are told of
-abbrev pub Told : (m : List ℕ) → (n : ℕ) → (r : List ℕ) → (k : ℕ) → Type 0
-Told m n r k = (length r ≡ 64) × ((t : ℕ) → t < k → Tells (SomeRound m n t) (get_or r t 0))
+abbrev pub Told : (m : List ℕ) → (n : ℕ) → (r : List Bool) → (k : ℕ) → Type 0
+Told m n r k = (length r ≡ 64) × ((t : ℕ) → t < k → Tells (SomeRound m n t) (get_or r t false))
 
-pub told_none : (m : List ℕ) (n : ℕ) → Told m n (replicate 64 0) 0
-told_none m n = (length-replicate {A = ℕ} 64 0, λ t h. absurd (omega arith))
+pub told_none : (m : List ℕ) (n : ℕ) → Told m n (replicate 64 false) 0
+told_none m n = (length-replicate {A = Bool} 64 false, λ t h. absurd (omega arith))
 
-pub told_all : (m : List ℕ) (n : ℕ) (r : List ℕ) (k : ℕ) → 64 ≤ k → Told m n r k → Told m n r 64
+pub told_all : (m : List ℕ) (n : ℕ) (r : List Bool) (k : ℕ) → 64 ≤ k → Told m n r k → Told m n r 64
 told_all m n r k past told = (told.0, λ t h. told.1 t (omega arith))
 
-pub told_more : (m : List ℕ) (n : ℕ) (r : List ℕ) (k v : ℕ) → k < 64 → Told m n r k → Tells (SomeRound m n k) v
+pub told_more : (m : List ℕ) (n : ℕ) (r : List Bool) (k : ℕ) (v : Bool) → k < 64 → Told m n r k → Tells (SomeRound m n k) v
     → Told m n (set r k v) (k + 1)
 told_more m n r k v lt so_far told = (length-set r k v ∙ so_far.0, λ t h. at t h (eqb t k) refl)
   where
-    at : (t : ℕ) → t < k + 1 → (b : Bool) → eqb t k ≡ b → Tells (SomeRound m n t) (get_or (set r k v) t 0)
+    at : (t : ℕ) → t < k + 1 → (b : Bool) → eqb t k ≡ b → Tells (SomeRound m n t) (get_or (set r k v) t false)
     at t h true q =
         let full = so_far.0 in
         let e = eqb-true t k q in
-        subst (λ (i : ℕ). Tells (SomeRound m n i) (get_or (set r k v) i 0)) (sym e)
-        (subst (Tells (SomeRound m n k)) (sym (get_or-set_same r k v 0 (omega arith))) told)
+        subst (λ (i : ℕ). Tells (SomeRound m n i) (get_or (set r k v) i false)) (sym e)
+        (subst (Tells (SomeRound m n k)) (sym (get_or-set_same r k v false (omega arith))) told)
     at t h false q =
         let other = eqb-false t k q in
-        subst (Tells (SomeRound m n t)) (sym (get_or-set_other r k t v 0 other)) (so_far.1 t (omega arith))
+        subst (Tells (SomeRound m n t)) (sym (get_or-set_other r k t v false other)) (so_far.1 t (omega arith))
 
 -- The book.
 
@@ -151,20 +149,19 @@ module _ (b : Book) (s : Sound b) (old m : List ℕ) (edges : Edges (view b) old
         ),
       )
 
-  pub marked : (r : List ℕ) → Told m places r 64 → Marks (view b) r
+  pub marked : (r : List Bool) → Told m places r 64 → Marks (view b) r
   marked r told = record {
     whole = told.0;
-    bits = λ g. by g (get_or r g 0 ≤ 1) (λ h. (told.1 g h).bit) (λ e. omega arith);
-    on_cycle = λ g q. by g (OnNotCycle (view b) g) (λ h. round_is g h ((told.1 g h).yes q)) (λ e. absurd (omega arith));
+    on_cycle = λ g q. by g (OnNotCycle (view b) g) (λ h. round_is g h ((told.1 g h).yes q)) (λ e. absurd (true≢false (sym q ∙ e)));
     off_cycle = λ g q cycle.
         let few = s.few_goals in
         let inside = starts_inside cycle.1 (omega arith) in
         (told.1 g (omega arith)).no q (is_round_in g cycle);
   }
     where
-      by : (g : ℕ) (P : Type 0) → (g < 64 → P) → (get_or r g 0 ≡ 0 → P) → P
+      by : (g : ℕ) (P : Type 0) → (g < 64 → P) → (get_or r g false ≡ false → P) → P
       by g P within past = at (ltb g 64) refl
         where
           at : (t : Bool) → ltb g 64 ≡ t → P
           at true q = within (ltb-true g 64 q)
-          at false q = let full = told.0 in past (get_or-eq_default r 0 (omega (arith, ltb-false g 64 q)))
+          at false q = let full = told.0 in past (get_or-eq_default r false (omega (arith, ltb-false g 64 q)))

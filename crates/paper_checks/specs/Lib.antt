@@ -1,3 +1,4 @@
+pub mod Telling
 pub mod Profile
 pub mod Paper
 pub mod Places

@@ -1,10 +1,11 @@
 -- Which goals of a book lead to which, in a matrix of 64 by 64 numbers, row by row. At (i, j) stands 0 where goal i is not known to lead
 -- to goal j, 1 where it does, and 2 where a "not" of one of its clauses names j. An entry only gets larger.
-use Rattle.std.specs.Prelude.{ℕ, suc, ◌+◌, ◌*◌, ◌≤◌, ◌<◌, ◌≡◌, ◌⊎◌, length, get_or}
+use Rattle.std.specs.Prelude.{ℕ, suc, ◌+◌, ◌*◌, ◌≤◌, ◌<◌, ◌≡◌, ◌⊎◌, Bool, true, false, length, get_or}
 use mathlib.Core.List.{List, Memᴰ}
 use Rattle.definitions.specs.Book.{Literal, Clause, Book, goal_of}
 use Rattle.papers.specs.Model.{clauses_of}
 use Rattle.papers.specs.Levels.{Walk, is_not}
+use Rattle.book.specs.declared.Book as kept
 use Rattle.book.specs.Access.{entry, literal_read}
 use Rattle.book.specs.View.{meant}
 
@@ -29,16 +30,16 @@ abbrev pub Names : Literal → (v j : ℕ) → Type 0
 Names l v j = (goal_of l ≡ j) × (v ≤ suc (is_not l))
 
 -- literal k of clause c, by the arrays of a book
-abbrev pub said_literal : (kinds goals wants : List ℕ) → (c k : ℕ) → Literal
-said_literal kinds goals wants c k = meant (literal_read kinds goals wants c k)
+abbrev pub said_literal : kept.Book → (c k : ℕ) → Literal
+said_literal b c k = meant (literal_read b.literal_kind b.literal_goal b.literal_want c k)
 
-module _ (lens kinds goals wants : List ℕ) where
+module _ (b : kept.Book) where
   -- its literals name goals that the matrix has a row for
   abbrev pub NamesFew : (c : ℕ) → Type 0
-  NamesFew c = (k : ℕ) → k < entry 256 lens c → (literal_read kinds goals wants c k).goal < 64
+  NamesFew c = (k : ℕ) → k < entry 256 b.clause_len c → (literal_read b.literal_kind b.literal_goal b.literal_want c k).goal < 64
 
   abbrev pub ClauseLeads : (c v j : ℕ) → Type 0
-  ClauseLeads c v j = (k : ℕ) × (k < entry 256 lens c) × Names (said_literal kinds goals wants c k) v j
+  ClauseLeads c v j = (k : ℕ) × (k < entry 256 b.clause_len c) × Names (said_literal b c k) v j
 
   -- by so many clauses from `first` on
   abbrev pub GoalLeads : (first count v j : ℕ) → Type 0
@@ -92,8 +93,7 @@ Round m t a c = (2 ≤ cell m a c) × (0 < cell m t a) × (0 < cell m c t)
 abbrev pub SomeRound : List ℕ → (n t : ℕ) → Type 0
 SomeRound m n t = (a : ℕ) × (c : ℕ) × (64 * a + c < n) × (c < 64) × Round m t a c
 
--- 1 where it is so, 0 where it is not
-pub record Tells (P : Type 0) (r : ℕ) : Type 0 where
-  pub bit : r ≤ 1
-  pub yes : r ≡ 1 → P
-  pub no : r ≡ 0 → P → ⊥
+-- whether it is so
+pub record Tells (P : Type 0) (r : Bool) : Type 0 where
+  pub yes : r ≡ true → P
+  pub no : r ≡ false → P → ⊥

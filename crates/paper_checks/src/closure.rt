@@ -15,7 +15,6 @@ fn way_of(x: u8) -> u8
 
 // Row i with what row k has, if i leads to k.
 fn join_row(m: &mut [u8; CELLS], k: usize, i: usize)
-    requires m_len { length m.old ≡ 4096 }
     requires k_bound { k < 64 }
     requires i_bound { i < 64 }
     ensures { Raised (Row m.old k i) m.old m.new }
@@ -23,33 +22,25 @@ fn join_row(m: &mut [u8; CELLS], k: usize, i: usize)
     if m[MOST_GOALS * i + k] == 0 {
         return;
     }
-    let mut j: usize = 0;
-    while j < MOST_GOALS {
+    for j in 0..MOST_GOALS {
         let x = m[MOST_GOALS * k + j];
         raise(m, i, j, way_of(x));
-        j += 1;
     }
 }
 
 fn join_rows(m: &mut [u8; CELLS], k: usize)
-    requires m_len { length m.old ≡ 4096 }
-    requires k_bound { k < 64 }
+    requires { k < 64 }
     ensures { Raised (Rows m.old k 64) m.old m.new }
 {
-    let mut i: usize = 0;
-    while i < MOST_GOALS {
+    for i in 0..MOST_GOALS {
         join_row(m, k, i);
-        i += 1;
     }
 }
 
 pub(crate) fn close(m: &mut [u8; CELLS])
-    requires { length m.old ≡ 4096 }
     ensures { Closed m.old m.new 64 }
 {
-    let mut k: usize = 0;
-    while k < MOST_GOALS {
+    for k in 0..MOST_GOALS {
         join_rows(m, k);
-        k += 1;
     }
 }

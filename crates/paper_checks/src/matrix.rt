@@ -9,7 +9,6 @@ pub(crate) const CELLS: usize = MOST_GOALS * MOST_GOALS;
 
 // Sees to it that at row i and column j there is v or more.
 pub(crate) fn raise(m: &mut [u8; CELLS], i: usize, j: usize, v: u8)
-    requires m_len { length m.old ≡ 4096 }
     requires i_bound { i < 64 }
     requires j_bound { j < 64 }
     ensures { Raised (Here i j v) m.old m.new }

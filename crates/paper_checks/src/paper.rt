@@ -3,20 +3,15 @@ ghost use Rattle.book.specs.View.{Gives};
 ghost use Rattle.paper_checks.specs.Paper.{plain_paper};
 
 use crate::plain::is_plain;
-use book::Reading;
 use book::desk::desk;
-use book::reader::refused;
+use book::{Book, Refusal};
 
-pub fn plain(bytes: &[u8]) -> Reading
+pub fn plain(bytes: &[u8]) -> Result<Book, Refusal>
     ensures { Gives (plain_paper bytes.now) result }
 {
-    let reading = desk(bytes);
-    if reading.number != 0 {
-        return reading;
+    let book = desk(bytes)?;
+    if !is_plain(&book) {
+        return Err(Refusal::NotPlain);
     }
-    let b = reading.book;
-    if !is_plain(b) {
-        return refused(37);
-    }
-    reading
+    Ok(book)
 }

@@ -4,17 +4,15 @@ ghost use Rattle.papers.specs.NotPlain.{not_plain_place};
 ghost use Rattle.paper_checks.specs.Places.{numbers};
 
 use crate::NotPlain;
-use crate::plain::{book_place, no_place};
+use crate::plain::book_place;
 use book::desk::desk;
 
 // There is no place where the desk refuses the paper, and none where the paper is plain.
-pub fn not_plain(bytes: &[u8]) -> NotPlain
+pub fn not_plain(bytes: &[u8]) -> Option<NotPlain>
     ensures { result ≡ numbers (not_plain_place bytes.now) }
 {
-    let reading = desk(bytes);
-    if reading.number != 0 {
-        return no_place();
+    match desk(bytes) {
+        Ok(book) => book_place(&book),
+        Err(_) => None,
     }
-    let b = reading.book;
-    book_place(b)
 }

@@ -1,109 +1,63 @@
 // What a goal spoils by itself (definitions, `spoil`): that it is coinductive, or else its first "not".
 ghost use Rattle.std.specs.Prelude.{◌≡◌, ◌+◌, ◌≤◌, ◌<◌};
-ghost use Rattle.std.proofs.Math.Option.{none};
-ghost use Rattle.book.specs.Repeats.{literals_read};
-ghost use Rattle.paper_checks.specs.Spoilers.{spoil_numbers, not_in, nots_read, spoil_read, itself_number};
+ghost use Rattle.laws.specs.Spans.{span};
+ghost use Rattle.papers.specs.NotPlain.{first_from};
+ghost use Rattle.papers.specs.Spoilt.{not_in_clause};
+ghost use Rattle.book.specs.Repeats.{lent_by, clause_read};
+ghost use Rattle.paper_checks.specs.Spoilers.{own_told, spoil_read, itself};
 
 use crate::OwnSpoil;
-use book::access::{is_coinductive, is_negative, literal_at, literal_count};
-use sizes::{BOOK_LITERALS, MOST_CLAUSES, MOST_GOALS};
-
-fn nothing() -> OwnSpoil
-    ensures { result ≡ spoil_numbers none }
-{
-    OwnSpoil {
-        what: 0,
-        clause: 0,
-        literal: 0,
-    }
-}
+use book::Book;
+use book::access::is_negative;
 
 // The first "not" of clause c, which is clause k of its goal.
-fn clause_not(
-    len: &[u8; MOST_CLAUSES],
-    kind: &[u8; BOOK_LITERALS],
-    goal: &[u16; BOOK_LITERALS],
-    want: &[u32; BOOK_LITERALS],
-    k: usize,
-    c: usize,
-) -> OwnSpoil
+fn clause_not(b: &Book, k: usize, c: usize) -> Option<OwnSpoil>
     requires { k < 256 }
-    ensures { result ≡ spoil_numbers (not_in k
-        (literals_read len.now kind.now goal.now want.now c)) }
+    ensures { result ≡ own_told (not_in_clause k (clause_read (lent_by b.now) c)) }
 {
-    let count = literal_count(len, c);
-    let mut j: usize = 0;
-    while j < count {
-        if is_negative(literal_at(kind, goal, want, c, j)) {
-            let clause = k as u8;
-            let literal = j as u8;
-            return OwnSpoil {
-                what: 2,
-                clause,
-                literal,
-            };
+    let count = b.literal_count(c);
+    for j in 0..count {
+        if is_negative(b.literal(c, j)) {
+            return Some(OwnSpoil::Negative {
+                clause: k as u8,
+                literal: j as u8,
+            });
         }
-        j += 1;
     }
-    nothing()
+    None
 }
 
 // The first "not" of so many clauses from `first` on.
-fn clauses_not(
-    len: &[u8; MOST_CLAUSES],
-    kind: &[u8; BOOK_LITERALS],
-    goal: &[u16; BOOK_LITERALS],
-    want: &[u32; BOOK_LITERALS],
-    first: usize,
-    count: usize,
-) -> OwnSpoil
+fn clauses_not(b: &Book, first: usize, count: usize) -> Option<OwnSpoil>
     requires { first + count ≤ 256 }
-    ensures { result ≡ spoil_numbers
-        (nots_read len.now kind.now goal.now want.now first count) }
+    ensures { result ≡ own_told (first_from not_in_clause 0 (span (clause_read (lent_by b.now)) first count)) }
 {
-    let mut k: usize = 0;
-    while k < count {
-        let s = clause_not(len, kind, goal, want, k, first + k);
-        if s.what != 0 {
-            return s;
+    for k in 0..count {
+        if let Some(s) = clause_not(b, k, first + k) {
+            return Some(s);
         }
-        k += 1;
     }
-    nothing()
+    None
 }
 
 // Of goal g, which has so many clauses from `first` on.
-pub(crate) fn own_spoil(
-    flags: &[u8; MOST_GOALS],
-    len: &[u8; MOST_CLAUSES],
-    kind: &[u8; BOOK_LITERALS],
-    goal: &[u16; BOOK_LITERALS],
-    want: &[u32; BOOK_LITERALS],
-    g: usize,
-    first: usize,
-    count: usize,
-) -> OwnSpoil
+pub(crate) fn own_spoil(b: &Book, g: usize, first: usize, count: usize) -> Option<OwnSpoil>
     requires { first + count ≤ 256 }
-    ensures { result ≡ spoil_numbers (spoil_read len.now kind.now goal.now want.now
-        flags.now g first count) }
+    ensures { result ≡ own_told (spoil_read b.now g first count) }
 {
-    if is_coinductive(flags, g) {
-        return OwnSpoil {
-            what: 1,
-            clause: 0,
-            literal: 0,
-        };
+    if b.is_coinductive(g) {
+        return Some(OwnSpoil::Coinductive);
     }
-    clauses_not(len, kind, goal, want, first, count)
+    clauses_not(b, first, count)
 }
 
 // By which goal it is spoilt before any pass: by itself, or by none.
-pub(crate) fn by_itself(what: u8, goal: usize) -> u8
+pub(crate) fn by_itself(own: Option<OwnSpoil>, goal: usize) -> Option<u8>
     requires { goal < 64 }
-    ensures { result ≡ itself_number what goal }
+    ensures { result ≡ itself own goal }
 {
-    if what == 0 {
-        return 64;
+    match own {
+        Some(_) => Some(goal as u8),
+        None => None,
     }
-    goal as u8
 }

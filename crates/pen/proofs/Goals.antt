@@ -1,34 +1,34 @@
--- What is left to say of the goals, put down from where the pen is, is the same at each turn. Assumes nothing.
-use Prim.Native.Nat.{ℕ, ◌+◌, ◌<◌, ◌≤◌}
+-- What is said of the goals so far, put down one after the other. Assumes nothing.
+use Prim.Native.Nat.{ℕ, suc, ◌+◌, ◌<◌}
+use native.Mathlib.Omega.{arith}
 use native.Mathlib.Numerals.{add-one}
 use mathlib.Core.Path.{◌≡◌, sym, ap, ◌∙◌}
-use mathlib.Core.List.{List, [], ◌++◌}
-use lib.ListN.{length, get_or, drop, drop_of_length-le}
-use lib.Seq.{drop-cons}
+use mathlib.Core.List.{List, [], ◌∷◌, ◌++◌, append-nil, append_assoc}
+use lib.ListN.{length, get_or, take}
+use lib.Seq.{take-suc, length-take-le}
 use Rattle.pen.specs.Pen.{Pen, put_all}
 use Rattle.pen.specs.Goals.{words_from}
-use Rattle.pen.proofs.Putting.{put_left, put_ended}
+use Rattle.pen.proofs.Putting.{put_all_append, put_nothing}
 
-module _ (words : (goal number : ℕ) → List ℕ) (l : List ℕ) where
-  -- what is left to say at the goal g
-  abbrev pub words_left : ℕ → List ℕ
-  words_left g = words_from words g (drop g l)
-
-  words_next : (g : ℕ) → g < length l → words_left g ≡ words g (get_or l g 0) ++ words_left (g + 1)
+module _ {A : Type 0} (words : (goal : ℕ) → A → List ℕ) where
+  words_append : (g k : ℕ) (a : List A) (x : A) → g + length a ≡ k → words_from words g (a ++ (x ∷ [])) ≡ words_from words g a ++ words k x
   unfolding words_from
-  words_next g h =
-      ap (words_from words g) (drop-cons l g 0 h)
-      ∙ ap (λ (t : ℕ). words g (get_or l g 0) ++ words_from words t (drop t l)) (sym (add-one g))
+  words_append g k [] x e =
+      let z : g ≡ k = omega (arith, e) in append-nil (words g x) ∙ ap (λ (n : ℕ). words n x) z
+  words_append g k (y ∷ a) x e =
+      ap (λ (w : List ℕ). words g y ++ w) (words_append (suc g) k a x (omega (arith, e)))
+      ∙ sym (append_assoc (words g y) (words_from words (suc g) a) (words k x))
 
-  words_end : (g : ℕ) → length l ≤ g → words_left g ≡ []
+  -- nothing is said of no goals
+  pub words_start : (p : Pen) → put_all (words_from words 0 []) p ≡ p
   unfolding words_from
-  words_end g h = ap (words_from words g) (drop_of_length-le l {i = g} h)
+  words_start p = put_nothing p
 
-  pub words_step : (g : ℕ) (p q start : Pen) → g < length l → put_all (words_left g) p ≡ put_all (words_left 0) start
-      → q ≡ put_all (words g (get_or l g 0)) p → put_all (words_left (g + 1)) q ≡ put_all (words_left 0) start
-  words_step g p q start h i e =
-      put_left (words g (get_or l g 0)) (words_left (g + 1)) p q e ∙ ap (λ (w : List ℕ). put_all w p) (sym (words_next g h)) ∙ i
-
-  pub words_said : (g : ℕ) (p q : Pen) → length l ≤ g → put_all (words_left g) q ≡ put_all (words_left 0) p
-      → q ≡ put_all (words_from words 0 l) p
-  words_said g p q h i = put_ended (words_left g) (words_left 0) p q (words_end g h) i
+  -- and one more
+  pub words_next : (l : List A) (g : ℕ) (none : A) (p : Pen) → g < length l
+      → put_all (words_from words 0 (take (g + 1) l)) p ≡ put_all (words g (get_or l g none)) (put_all (words_from words 0 (take g l)) p)
+  words_next l g none p h =
+      ap (λ (a : List A). put_all (words_from words 0 a) p) (ap (λ (n : ℕ). take n l) (add-one g) ∙ take-suc l g none h)
+      ∙ ap (λ (w : List ℕ). put_all w p)
+      (words_append 0 g (take g l) (get_or l g none) (omega (arith, length-take-le g l (omega arith))))
+      ∙ put_all_append (words_from words 0 (take g l)) (words g (get_or l g none)) p

@@ -1,5 +1,4 @@
 pub mod Putting
-pub mod Decimal
 pub mod Sentences
 pub mod Goals
-pub mod Filling
+pub mod Numbers

@@ -1,13 +1,14 @@
 -- What the proofs of the pen's functions cite: where a byte goes, and that bytes put down one after the other are put down as one list.
 -- And that a text that fits stands in the buffer as it is (`put_fits`, at the end). Assumes nothing.
-use Prim.Native.Nat.{ℕ, suc, ◌+◌, ◌<◌, ◌≤◌}
+use Prim.Native.Nat.{ℕ, zero, suc, ◌+◌, ◌<◌, ◌≤◌}
 use native.Mathlib.Omega.{arith}
 use mathlib.Core.Path.{◌≡◌, refl, sym, ap, subst, ◌∙◌}
 use mathlib.Core.List.{List, [], ◌∷◌, ◌++◌, append-nil, append_assoc}
 use native.Mathlib.Numerals.{add-one}
 use lib.ListN.{length, length-set, set, take, get_or}
-use lib.Seq.{take-suc, take-suc-set, take_all, length-take-le}
+use lib.Seq.{take-suc, take-suc-set, length-take-le}
 use borrow.Author.Tests.{lt-ltb, le-ltb}
+use Rattle.definitions.specs.Text.{blanks}
 use Rattle.pen.specs.Pen.{Pen, pen, anew, put, put_all}
 
 pub put_room : (l : List ℕ) (at b : ℕ) → at < length l → pen (set l at b) (at + 1) ≡ put b (pen l at)
@@ -31,13 +32,13 @@ pub put_next : (l : List ℕ) (i : ℕ) (p : Pen) → i < length l → put_all (
 unfolding put_all
 put_next l i p h = rw (add-one i, take-suc l i 0 h) (put_all_append (take i l) (get_or l i 0 ∷ []) p)
 
--- one more byte of a list, and the whole list
-pub put_step : (l : List ℕ) (i : ℕ) (p q start : Pen) → i < length l → p ≡ put_all (take i l) start → q ≡ put (get_or l i 0) p
-    → q ≡ put_all (take (i + 1) l) start
-put_step l i p q start h e f = f ∙ ap (λ (x : Pen). put (get_or l i 0) x) e ∙ sym (put_next l i start h)
+blanks_more : (n : ℕ) (p : Pen) → put_all (blanks (suc n)) p ≡ put 32 (put_all (blanks n) p)
+unfolding put_all
+blanks_more zero p = refl
+blanks_more (suc n) p = blanks_more n (put 32 p)
 
-pub put_done : (l : List ℕ) (i : ℕ) (p start : Pen) → length l ≤ i → p ≡ put_all (take i l) start → p ≡ put_all l start
-put_done l i p start h e = e ∙ ap (λ (x : List ℕ). put_all x start) (take_all i l h)
+pub put_all_blanks : (n : ℕ) (p : Pen) → put_all (blanks (n + 1)) p ≡ put 32 (put_all (blanks n) p)
+put_all_blanks n p = rw (add-one n) (blanks_more n p)
 
 -- texts put down one after the other
 pub put_two : (a b : List ℕ) (p q r : Pen) → q ≡ put_all a p → r ≡ put_all b q → r ≡ put_all (a ++ b) p

@@ -2,50 +2,63 @@
 #![tactic(auto)]
 
 ghost use Rattle.std.specs.Prelude.{◌≡◌};
-ghost use Rattle.papers.specs.NotPlain.{fault_of, place_of};
-ghost use Rattle.pen.specs.Pen.{pen, put_all};
+ghost use Rattle.std.proofs.Math.Option.{some};
+ghost use Rattle.paper_checks.specs.Places.{fault_seen, seen_place, place_seen};
+ghost use Rattle.pen.specs.Pen.{put_all};
 ghost use Rattle.places.specs.Words.{fault_words, place_line};
 
-use pen::{Streams, counted, text};
+use paper_checks::{Fault, NotPlain};
+use pen::Pen;
 
-fn fault(to: Streams, out: &mut [u8], at: usize, what: u8) -> usize
-    ensures { pen out.new result ≡ put_all (fault_words (fault_of what)) (pen out.old at) }
+fn fault(pen: &mut Pen, fault: Fault)
+    ensures { pen.new ≡ put_all (fault_words (some (fault_seen fault))) pen.old }
 {
-    match what {
-        0 => at,
-        1 => text(to, out, at, b": a flag\n"),
-        2 => text(to, out, at, b": a variant\n"),
-        3 => text(to, out, at, b": a want\n"),
-        _ => text(to, out, at, b": a range\n"),
+    match fault {
+        Fault::Flag => pen.text(b": a flag\n"),
+        Fault::Variant => pen.text(b": a variant\n"),
+        Fault::Want => pen.text(b": a want\n"),
+        Fault::Range => pen.text(b": a range\n"),
     }
 }
 
-// A place by its numbers (papers NotPlain, `place_of`); of none, with `what` 0, nothing is said.
-pub fn place(
-    to: Streams,
-    out: &mut [u8],
-    at: usize,
-    what: u8,
-    in_clause: bool,
-    in_literal: bool,
-    goal: usize,
-    clause: usize,
-    literal: usize,
-) -> usize
-    ensures { pen out.new result
-        ≡ put_all (place_line (place_of what in_clause in_literal goal clause literal)) (pen out.old at) }
+fn line(pen: &mut Pen, p: NotPlain)
+    ensures { pen.new ≡ put_all (place_line (some (seen_place p))) pen.old }
 {
-    if what == 0 {
-        return at;
-    }
-    let of_goal = counted(to, out, at, b"goal ", goal as u64);
-    if in_clause {
-        let of_clause = counted(to, out, of_goal, b", clause ", clause as u64);
-        if in_literal {
-            let of_literal = counted(to, out, of_clause, b", literal ", literal as u64);
-            return fault(to, out, of_literal, what);
+    match p {
+        NotPlain::Goal { goal, fault: f } => {
+            pen.counted(b"goal ", goal as u64);
+            fault(pen, f);
         }
-        return fault(to, out, of_clause, what);
+        NotPlain::Clause {
+            goal,
+            clause,
+            fault: f,
+        } => {
+            pen.counted(b"goal ", goal as u64);
+            pen.counted(b", clause ", clause as u64);
+            fault(pen, f);
+        }
+        NotPlain::Literal {
+            goal,
+            clause,
+            literal,
+            fault: f,
+        } => {
+            pen.counted(b"goal ", goal as u64);
+            pen.counted(b", clause ", clause as u64);
+            pen.counted(b", literal ", literal as u64);
+            fault(pen, f);
+        }
     }
-    fault(to, out, of_goal, what)
+}
+
+// Of no place nothing is said.
+#[tactic(auto, using(pen::proofs::Putting::put_nothing))]
+pub fn place(pen: &mut Pen, p: Option<NotPlain>)
+    ensures { pen.new ≡ put_all (place_line (place_seen p)) pen.old }
+{
+    match p {
+        Some(p) => line(pen, p),
+        None => {}
+    }
 }

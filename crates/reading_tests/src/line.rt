@@ -1,28 +1,27 @@
 // A line of the list, character by character.
-use book::Looked;
+use book::desk::look;
+use book::{Looked, Refusal};
 use intake::input;
-use pen::Streams;
+use pen::Pen;
 use std::rt::Files;
 use std::{fs, str};
 
-// What is known of the line so far: whether its label is over, the high half of a byte (16: none), how many characters of a name or
-// bytes of a book are there, and how much of the output's buffer is in use. `over` is set at the end of the input.
+// What is known of the line so far: whether its label is over, the high half of a byte, and how many characters of a name or bytes of a
+// book are there. `over` is set at the end of the input.
 #[derive(Clone, Copy)]
 pub(crate) struct Line {
     pub hex: bool,
     pub over: bool,
-    pub half: u8,
+    pub half: Option<u8>,
     pub len: usize,
-    pub at: usize,
 }
 
 pub(crate) fn start() -> Line {
     Line {
         hex: false,
         over: false,
-        half: 16,
+        half: None,
         len: 0,
-        at: 0,
     }
 }
 
@@ -30,52 +29,14 @@ pub(crate) fn ended(line: Line) -> Line {
     Line { over: true, ..line }
 }
 
-pub(crate) fn goes_on(line: Line) -> bool {
-    !line.over
-}
-
-pub(crate) fn close(to: Streams, out: &[u8], line: Line) -> bool {
-    pen::flush(to, out, line.at)
-}
-
-// Where the next line starts, once the output is at a place.
-fn next(at: usize) -> Line {
-    Line {
-        hex: false,
-        over: false,
-        half: 16,
-        len: 0,
-        at: at,
+// The value of a hex digit, and none for any other character.
+fn digit(c: u8) -> Option<u8> {
+    match c {
+        b'0'..=b'9' => Some(c - b'0'),
+        b'A'..=b'F' => Some(c - b'A' + 10),
+        b'a'..=b'f' => Some(c - b'a' + 10),
+        _ => None,
     }
-}
-
-fn put(to: Streams, out: &mut [u8], line: Line, c: u8) -> Line {
-    let at = pen::byte(to, out, line.at, c);
-    Line { at: at, ..line }
-}
-
-// The value of a hex digit, and 16 for any other character.
-fn digit(c: u8) -> u8 {
-    if c >= b'0' && c <= b'9' {
-        return c - b'0';
-    }
-    if c >= b'A' && c <= b'F' {
-        return c - 55;
-    }
-    if c >= b'a' && c <= b'f' {
-        return c - 87;
-    }
-    16
-}
-
-fn joined(high: u8, low: u8) -> u8 {
-    if high >= 16 {
-        return 0;
-    }
-    if low >= 16 {
-        return 0;
-    }
-    16 * high + low
 }
 
 // One more character of a name or byte of a book; past the end of the buffer nothing is kept.
@@ -84,72 +45,72 @@ fn kept(bytes: &mut [u8], line: Line, b: u8) -> Line {
     if len < bytes.len() {
         bytes[len] = b;
         return Line {
-            half: 16,
+            half: None,
             len: len + 1,
             ..line
         };
     }
-    Line { half: 16, ..line }
+    Line { half: None, ..line }
 }
 
 fn hex(bytes: &mut [u8], line: Line, c: u8) -> Line {
-    let d = digit(c);
-    if d == 16 {
+    let Some(low) = digit(c) else {
         return line;
+    };
+    match line.half {
+        None => Line {
+            half: Some(low),
+            ..line
+        },
+        Some(high) => kept(bytes, line, high % 16 * 16 + low % 16),
     }
-    if line.half == 16 {
-        return Line { half: d, ..line };
-    }
-    kept(bytes, line, joined(line.half, d))
 }
 
-fn counted(to: Streams, out: &mut [u8], at: usize, n: usize, words: &[u8]) -> usize {
-    let comma = pen::text(to, out, at, b", ");
-    let number = pen::number(to, out, comma, n as u64);
-    pen::text(to, out, number, words)
+fn counted(pen: &mut Pen, n: usize, words: &[u8]) {
+    pen.counted(b", ", n as u64);
+    pen.text(words);
 }
 
-fn accepted(to: Streams, out: &mut [u8], at: usize, goals: usize, clauses: usize) -> usize {
-    let word = pen::text(to, out, at, b": accepted");
-    let first = counted(to, out, word, goals, b" goals");
-    counted(to, out, first, clauses, b" clauses")
+fn accepted(pen: &mut Pen, goals: usize, clauses: usize) {
+    pen.text(b": accepted");
+    counted(pen, goals, b" goals");
+    counted(pen, clauses, b" clauses");
 }
 
 // What the desk says to a book that the old entry takes.
-fn at_desk(to: Streams, out: &mut [u8], at: usize, twice: bool) -> usize {
+fn at_desk(pen: &mut Pen, twice: bool) {
     if twice {
-        return pen::text(to, out, at, b", desk 36\n");
+        pen.text(b", desk 36");
     }
-    pen::byte(to, out, at, b'\n')
+    pen.byte(b'\n');
 }
 
-fn refused(to: Streams, out: &mut [u8], at: usize, number: u8) -> usize {
-    let word = pen::text(to, out, at, b": refused ");
-    let named = pen::number(to, out, word, number as u64);
-    pen::byte(to, out, named, b'\n')
+fn refused(pen: &mut Pen, e: Refusal) {
+    pen.counted(b": refused ", u8::from(e) as u64);
+    pen.byte(b'\n');
 }
 
-fn answer(to: Streams, out: &mut [u8], at: usize, looked: Looked) -> usize {
-    let twice = looked.repeat.found;
-    let reading = looked.reading;
-    if reading.number == 0 {
-        let book = reading.book;
-        let words = accepted(to, out, at, book.goals, book.clauses);
-        return at_desk(to, out, words, twice);
+fn answer(pen: &mut Pen, looked: &Result<Looked, Refusal>) {
+    match looked {
+        Ok(l) => {
+            accepted(pen, l.book.goals, l.book.clauses);
+            at_desk(pen, l.repeat.is_some());
+        }
+        Err(e) => refused(pen, *e),
     }
-    refused(to, out, at, reading.number)
 }
 
-fn unreadable(to: Streams, out: &mut [u8], at: usize) -> usize {
-    pen::text(to, out, at, b": can't be read\n")
+fn unreadable(pen: &mut Pen) {
+    pen.text(b": can't be read\n");
 }
 
-fn vector(to: Streams, out: &mut [u8], bytes: &[u8], line: Line) -> Line {
+fn vector(pen: &mut Pen, bytes: &[u8], line: Line) {
     let len = line.len;
     if len <= bytes.len() {
-        return next(answer(to, out, line.at, book::desk::look(&bytes[..len])));
+        answer(pen, &look(&bytes[..len]));
+        return;
     }
-    next(unreadable(to, out, line.at))
+    unreadable(pen);
 }
 
 // The file of a name; a name that is no text names none.
@@ -161,17 +122,21 @@ fn opened<R: Files>(rt: &R, bytes: &[u8], len: usize) -> Option<R::File> {
     fs::open(rt, name).ok()
 }
 
-fn file<R: Files>(rt: &R, to: Streams, out: &mut [u8], bytes: &mut [u8], line: Line) -> Line {
+// A file that breaks off is looked at as far as it goes.
+fn file<R: Files>(rt: &R, pen: &mut Pen, bytes: &mut [u8], line: Line) {
     match opened(rt, bytes, line.len) {
-        None => next(unreadable(to, out, line.at)),
+        None => unreadable(pen),
         Some(mut from) => {
-            let n = input(&mut from, bytes).count;
-            next(answer(to, out, line.at, book::desk::look(&bytes[..n])))
+            let n = match input(&mut from, bytes) {
+                Ok(count) => count,
+                Err(e) => e.count,
+            };
+            answer(pen, &look(&bytes[..n]));
         }
     }
 }
 
-fn label(to: Streams, out: &mut [u8], bytes: &mut [u8], line: Line, c: u8) -> Line {
+fn label(pen: &mut Pen, bytes: &mut [u8], line: Line, c: u8) -> Line {
     if c == b':' {
         return Line {
             hex: true,
@@ -179,42 +144,35 @@ fn label(to: Streams, out: &mut [u8], bytes: &mut [u8], line: Line, c: u8) -> Li
             ..line
         };
     }
-    kept(bytes, put(to, out, line, c), c)
+    pen.byte(c);
+    kept(bytes, line, c)
 }
 
-fn step<R: Files>(
-    rt: &R,
-    to: Streams,
-    out: &mut [u8],
-    bytes: &mut [u8],
-    line: Line,
-    c: u8,
-) -> Line {
+fn step<R: Files>(rt: &R, pen: &mut Pen, bytes: &mut [u8], line: Line, c: u8) -> Line {
     if c == b'\n' {
         if line.hex {
-            return vector(to, out, bytes, line);
+            vector(pen, bytes, line);
+        } else {
+            file(rt, pen, bytes, line);
         }
-        return file(rt, to, out, bytes, line);
+        return start();
     }
     if line.hex {
         return hex(bytes, line, c);
     }
-    label(to, out, bytes, line, c)
+    label(pen, bytes, line, c)
 }
 
 pub(crate) fn chunk<R: Files>(
     rt: &R,
-    to: Streams,
-    out: &mut [u8],
+    pen: &mut Pen,
     bytes: &mut [u8],
     line: Line,
     input: &[u8],
 ) -> Line {
     let mut now = line;
-    let mut i = 0;
-    while i < input.len() {
-        now = step(rt, to, out, bytes, now, input[i]);
-        i += 1;
+    for c in input {
+        now = step(rt, pen, bytes, now, *c);
     }
     now
 }

@@ -7,43 +7,32 @@
 mod line;
 
 use line::Line;
-use pen::Streams;
+use pen::{Pen, Streams};
 use sizes::READ_AHEAD;
 use std::io::{Read, Stdin};
 use std::rt::Files;
 
 // One read of the input, which is worked through; answers whether to go on.
-fn some<R: Files>(
-    rt: &R,
-    from: &mut Stdin,
-    to: Streams,
-    out: &mut [u8],
-    bytes: &mut [u8],
-    line: Line,
-) -> Line {
+fn some<R: Files>(rt: &R, from: &mut Stdin, pen: &mut Pen, bytes: &mut [u8], line: Line) -> Line {
     let mut input = [0u8; 4096];
     let n = from.read(&mut input).unwrap_or(0);
     if n == 0 {
         return line::ended(line);
     }
-    line::chunk(rt, to, out, bytes, line, &input[..n])
+    line::chunk(rt, pen, bytes, line, &input[..n])
 }
 
-// A proved loop has to end, and nothing says that the input does. So the loop counts its turns down, from a number that no run uses up.
-fn all<R: Files>(rt: &R, from: &mut Stdin, to: Streams, out: &mut [u8], bytes: &mut [u8]) {
-    let mut line = line::start();
-    let mut turns = u64::MAX;
-    while turns > 0 && line::goes_on(line) {
-        line = some(rt, from, to, out, bytes, line);
-        turns -= 1;
-    }
-    line::close(to, out, line);
-}
-
-fn run<R: Files>(rt: &R, from: &mut Stdin, to: Streams, out: &mut [u8]) {
+// A proved loop has to end, and nothing says that the input does. So the loop counts its turns, up to a number that no run uses up.
+fn all<R: Files>(rt: &R, from: &mut Stdin, pen: &mut Pen) {
     // a book has at most 17,537 bytes, and what follows the first 20,480 of an input doesn't change how it is read
     let mut bytes = [0u8; READ_AHEAD];
-    all(rt, from, to, out, &mut bytes);
+    let mut line = line::start();
+    for _turn in 0..u64::MAX {
+        if line.over {
+            break;
+        }
+        line = some(rt, from, pen, &mut bytes, line);
+    }
 }
 
 fn main(rt: HostRuntime) {
@@ -53,5 +42,7 @@ fn main(rt: HostRuntime) {
     };
     // shorter than what is said of the vectors, so that the run shows that a full buffer is written out
     let mut out = [0u8; 4096];
-    run(&rt, &mut rt.stdin(), to, &mut out);
+    let mut pen = Pen::new(to, &mut out);
+    all(&rt, &mut rt.stdin(), &mut pen);
+    pen.flush();
 }

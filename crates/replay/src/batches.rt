@@ -4,7 +4,7 @@ ghost use Rattle.std.specs.Prelude.{◌<◌};
 use crate::line::Line;
 use crate::{line, words};
 use batch::calls::{NUMBERS, Reply};
-use pen::Streams;
+use pen::Pen;
 
 // So many calls wait at most.
 pub(crate) const MOST: u64 = 256;
@@ -58,75 +58,66 @@ fn reply_at(replies: &[u64; NUMBERS], at: u64) -> Reply {
 }
 
 // A word that has a number.
-fn numbered(to: Streams, out: &mut [u8], at: usize, word: u64, value: u64) -> usize {
+fn numbered(pen: &mut Pen, word: u64, value: u64) {
     match word {
-        0 => pen::counted(to, out, at, b"refused ", value),
-        1 => pen::counted(to, out, at, b"table ", value),
-        2 => pen::counted(to, out, at, b"stop ", value),
-        3 => pen::counted(to, out, at, b"yes ", value),
-        _ => pen::counted(to, out, at, b"maybe ", value),
+        0 => pen.counted(b"refused ", value),
+        1 => pen.counted(b"table ", value),
+        2 => pen.counted(b"stop ", value),
+        3 => pen.counted(b"yes ", value),
+        _ => pen.counted(b"maybe ", value),
     }
 }
 
 // A word that has none.
-fn bare(to: Streams, out: &mut [u8], at: usize, word: u64) -> usize {
+fn bare(pen: &mut Pen, word: u64) {
     match word {
-        5 => pen::text(to, out, at, b"none"),
-        6 => pen::text(to, out, at, b"floundered"),
-        7 => pen::text(to, out, at, b"again"),
-        8 => pen::text(to, out, at, b"negcycle"),
-        9 => pen::text(to, out, at, b"invalid"),
-        10 => pen::text(to, out, at, b"cut"),
-        11 => pen::text(to, out, at, b"false"),
-        _ => pen::text(to, out, at, b"true"),
+        5 => pen.text(b"none"),
+        6 => pen.text(b"floundered"),
+        7 => pen.text(b"again"),
+        8 => pen.text(b"negcycle"),
+        9 => pen.text(b"invalid"),
+        10 => pen.text(b"cut"),
+        11 => pen.text(b"false"),
+        _ => pen.text(b"true"),
     }
 }
 
-fn word(to: Streams, out: &mut [u8], at: usize, word: u64, value: u64) -> usize {
+fn word(pen: &mut Pen, word: u64, value: u64) {
     if word < 5 {
-        return numbered(to, out, at, word, value);
+        numbered(pen, word, value);
+        return;
     }
-    bare(to, out, at, word)
+    bare(pen, word);
 }
 
 // A call's line: behind its word the turns of a search, or where a peek ended and the turns of its last search.
-fn told_one(to: Streams, out: &mut [u8], at: usize, kind: u64, r: Reply) -> usize {
-    let a = word(to, out, at, r.word, r.value);
+fn told_one(pen: &mut Pen, kind: u64, r: Reply) {
+    word(pen, r.word, r.value);
     if r.word == 0 {
-        return pen::byte(to, out, a, b'\n');
+        pen.byte(b'\n');
+        return;
     }
     match kind {
-        1 => words::turns(to, out, a, r.turns),
-        2 => words::index_and_turns(to, out, a, r.index, r.turns),
-        _ => pen::byte(to, out, a, b'\n'),
+        1 => words::turns(pen, r.turns),
+        2 => words::index_and_turns(pen, r.index, r.turns),
+        _ => pen.byte(b'\n'),
     }
 }
 
 pub(crate) fn told_all(
-    to: Streams,
-    out: &mut [u8],
-    at: usize,
+    pen: &mut Pen,
     calls: &[u64; NUMBERS],
     replies: &[u64; NUMBERS],
     count: u64,
-) -> usize {
-    let mut a = at;
-    let mut k: u64 = 0;
-    while k < count {
-        let r = reply_at(replies, k);
-        a = told_one(to, out, a, kind_at(calls, k), r);
-        k += 1;
+) {
+    for k in 0..count {
+        told_one(pen, kind_at(calls, k), reply_at(replies, k));
     }
-    a
 }
 
 // As many calls have no forest.
-pub(crate) fn told_none(to: Streams, out: &mut [u8], at: usize, count: u64) -> usize {
-    let mut a = at;
-    let mut k: u64 = 0;
-    while k < count {
-        a = pen::text(to, out, a, b"no forest\n");
-        k += 1;
+pub(crate) fn told_none(pen: &mut Pen, count: u64) {
+    for _call in 0..count {
+        pen.text(b"no forest\n");
     }
-    a
 }

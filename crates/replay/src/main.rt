@@ -23,57 +23,59 @@ use dump::{LONGEST_DUMP, dump};
 use forest::Forest;
 use forest::shown::show;
 use manner::Manner;
-use pen::Streams;
+use pen::{Pen, Streams};
 use sizes::READ_AHEAD;
 use std::io::Stdin;
 use steps::Step;
 
+// What the forest holds, in the room that is lent: how many bytes there are.
 #[inline(never)]
 fn shown(to: Streams, forest: &Forest, room: &mut [u8]) -> usize {
-    dump(to, show(*forest), room)
+    let mut pen = Pen::new(to, room);
+    dump(&mut pen, show(*forest));
+    pen.used
 }
 
 // The forest stays here: what needs none is done by `steps::next`, which moves no forest. A proved loop has to end, and nothing says that
-// the input does. So the loop counts its turns down, from a number that no run uses up.
+// the input does. So the loop counts its turns, up to a number that no run uses up.
 fn all(
     manner: Manner,
     from: Stdin,
-    to: Streams,
-    out: &mut [u8],
+    pen: &mut Pen,
     input: &mut [u8],
     bytes: &mut [u8],
     room: &mut [u8],
-) -> usize {
+) {
     let mut calls = [0u64; NUMBERS];
     let mut replies = [0u64; NUMBERS];
     let mut forest = calls::no_forest();
     let mut m = steps::start(manner);
-    let mut turns = u64::MAX;
-    while turns > 0 && !m.over {
-        turns -= 1;
+    for _turn in 0..u64::MAX {
+        if m.over {
+            break;
+        }
         let step = m.step;
         match step {
             Step::Book => {
                 let n = steps::least(m.line.bytes, bytes.len());
                 let making = calls::take_book(&mut forest, &bytes[..n], m.line.a, m.line.desk);
-                m = steps::booked(to, out, m, making);
+                m = steps::booked(pen, m, making);
             }
             Step::Call => {
                 let reply = calls::call(&mut forest, m.line, m.manner.lent);
-                m = steps::told(to, out, m, reply);
+                m = steps::told(pen, m, reply);
             }
             Step::Batch => {
                 calls::served(&mut forest, m.waiting, &calls, &mut replies);
-                m = steps::served(to, out, m, &calls, &replies);
+                m = steps::served(pen, m, &calls, &replies);
             }
             Step::Show => {
-                let n = shown(to, &forest, room);
-                m = steps::shown(to, out, m, room, n);
+                let n = shown(pen.to, &forest, room);
+                m = steps::shown(pen, m, room, n);
             }
-            _ => m = steps::next(from, to, out, input, bytes, &mut calls, m),
+            _ => m = steps::next(from, pen, input, bytes, &mut calls, m),
         }
     }
-    m.at
 }
 
 fn main(rt: HostRuntime) {
@@ -85,16 +87,16 @@ fn main(rt: HostRuntime) {
     let mut input = [0u8; 4096];
     let mut bytes = [0u8; READ_AHEAD];
     let mut room = [0u8; LONGEST_DUMP];
-    let at = all(
+    let mut pen = Pen::new(to, &mut out);
+    all(
         manner::asked(&rt),
         rt.stdin(),
-        to,
-        &mut out,
+        &mut pen,
         &mut input,
         &mut bytes,
         &mut room,
     );
-    if !pen::flush(to, &out, at) {
+    if !pen.flush() {
         let _ = eprintln!(to.errors; "replay: what the script comes to can't be written");
     }
 }

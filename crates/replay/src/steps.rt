@@ -8,7 +8,7 @@ use crate::words::Reply;
 use crate::{batches, hash, line, words};
 use batch::calls::NUMBERS;
 use forest::make::Making;
-use pen::Streams;
+use pen::{Pen, Streams};
 use std::io::{Read, Stdin};
 
 // What comes next: more of the input is read; its characters are looked at, up to a line's end; a whole line is looked at. Then the steps
@@ -24,14 +24,13 @@ pub(crate) enum Step {
     Show,
 }
 
-// Between two steps: how the script is run; how much of the output's buffer is in use; how much of the input's buffer was read, and from
-// where on it was not looked at; whether the input is at its end, and all is done; the line so far; whether there was a book, so that
-// there is a forest, and how many calls wait for it.
+// Between two steps: how the script is run; how much of the input's buffer was read, and from where on it was not looked at; whether the
+// input is at its end, and all is done; the line so far; whether there was a book, so that there is a forest, and how many calls wait for
+// it.
 #[derive(Clone, Copy)]
 pub(crate) struct Midst {
     pub step: Step,
     pub manner: Manner,
-    pub at: usize,
     pub read: usize,
     pub from: usize,
     pub ended: bool,
@@ -47,7 +46,6 @@ pub(crate) fn start(manner: Manner) -> Midst {
     Midst {
         step,
         manner,
-        at: 0,
         read: 0,
         from: 0,
         ended: false,
@@ -71,115 +69,102 @@ fn passed(m: Midst) -> Midst {
 }
 
 // What is said of the forest, or its hash.
-fn state(streams: Streams, out: &mut [u8], at: usize, said: &[u8], quiet: bool) -> usize {
+fn state(pen: &mut Pen, said: &[u8], quiet: bool) {
     if quiet {
-        let a = hash::digits(streams, out, at, hash::fnv(said));
-        return pen::byte(streams, out, a, b'\n');
+        hash::digits(pen, hash::fnv(said));
+    } else {
+        pen.text(said);
     }
-    let a = pen::text(streams, out, at, said);
-    pen::byte(streams, out, a, b'\n')
+    pen.byte(b'\n');
 }
 
 pub(crate) fn least(n: usize, most: usize) -> usize
     ensures { result ≤ most }
 {
-    if n <= most { n } else { most }
+    n.min(most)
 }
 
 // What the forest holds was said. The line before which calls were handed over is still to be looked at.
-fn after_state(m: Midst, at: usize) -> Midst {
-    let after = Midst { at, ..m };
+fn after_state(m: Midst) -> Midst {
     if m.manner.batch {
-        return to(after, Step::Whole);
+        return to(m, Step::Whole);
     }
-    to(after, Step::Scan)
+    to(m, Step::Scan)
 }
 
 // What the forest holds: the first so many bytes.
-pub(crate) fn shown(streams: Streams, out: &mut [u8], m: Midst, said: &[u8], n: usize) -> Midst {
+pub(crate) fn shown(pen: &mut Pen, m: Midst, said: &[u8], n: usize) -> Midst {
     let k = least(n, said.len());
-    let a = state(streams, out, m.at, &said[..k], m.manner.quiet);
-    after_state(m, a)
+    state(pen, &said[..k], m.manner.quiet);
+    after_state(m)
 }
 
 // What the forest holds comes next; where there is none, that is said at once, and in a bare run nothing is.
-pub(crate) fn show(streams: Streams, out: &mut [u8], m: Midst) -> Midst {
+pub(crate) fn show(pen: &mut Pen, m: Midst) -> Midst {
     if m.manner.bare {
-        return after_state(m, m.at);
+        return after_state(m);
     }
     if m.there {
         return to(m, Step::Show);
     }
-    let a = state(streams, out, m.at, b"state none", m.manner.quiet);
-    after_state(m, a)
+    state(pen, b"state none", m.manner.quiet);
+    after_state(m)
 }
 
 // What a line came to that was not put off. Among calls that are handed over together that is a book alone.
-pub(crate) fn told(streams: Streams, out: &mut [u8], m: Midst, r: Reply) -> Midst {
-    let a = words::told(streams, out, m.at, r);
-    let p = passed(m);
-    let after = Midst { at: a, ..p };
+pub(crate) fn told(pen: &mut Pen, m: Midst, r: Reply) -> Midst {
+    words::told(pen, r);
+    let after = passed(m);
     if m.manner.batch {
         return after;
     }
-    show(streams, out, after)
+    show(pen, after)
 }
 
 // From the first book on there is a forest: a refused one leaves one too, by which every call is refused.
-pub(crate) fn booked(streams: Streams, out: &mut [u8], m: Midst, making: Making) -> Midst {
+pub(crate) fn booked(pen: &mut Pen, m: Midst, making: Making) -> Midst {
     let b = Midst { there: true, ..m };
-    told(streams, out, b, Reply::Booked(making))
+    told(pen, b, Reply::Booked(making))
 }
 
 // The calls that waited were served; what the forest then holds comes next.
 pub(crate) fn served(
-    streams: Streams,
-    out: &mut [u8],
+    pen: &mut Pen,
     m: Midst,
     calls: &[u64; NUMBERS],
     replies: &[u64; NUMBERS],
 ) -> Midst {
-    let a = batches::told_all(streams, out, m.at, calls, replies, m.waiting);
-    let after = Midst {
-        at: a,
-        waiting: 0,
-        ..m
-    };
-    show(streams, out, after)
+    batches::told_all(pen, calls, replies, m.waiting);
+    let after = Midst { waiting: 0, ..m };
+    show(pen, after)
 }
 
 // The calls that wait are handed over next; where there is no forest, that is said of each at once.
-fn hand_over(streams: Streams, out: &mut [u8], m: Midst) -> Midst {
+fn hand_over(pen: &mut Pen, m: Midst) -> Midst {
     if m.there {
         return to(m, Step::Batch);
     }
-    let a = batches::told_none(streams, out, m.at, m.waiting);
-    let b = Midst {
-        at: a,
-        waiting: 0,
-        ..m
-    };
-    show(streams, out, b)
+    batches::told_none(pen, m.waiting);
+    show(pen, Midst { waiting: 0, ..m })
 }
 
 // A line that no call waits before.
-fn alone(streams: Streams, out: &mut [u8], m: Midst, l: Line) -> Midst {
+fn alone(pen: &mut Pen, m: Midst, l: Line) -> Midst {
     if !line::is_call(l) {
-        let a = words::bad(streams, out, m.at, l.number);
-        let p = passed(m);
-        return Midst { at: a, ..p };
+        words::bad(pen, l.number);
+        return passed(m);
     }
     if l.call == 1 {
         return to(m, Step::Book);
     }
     if !m.there {
-        return told(streams, out, m, Reply::NoForest);
+        return told(pen, m, Reply::NoForest);
     }
     to(m, Step::Call)
 }
 
 // A line that is whole.
-fn whole(streams: Streams, out: &mut [u8], calls: &mut [u64; NUMBERS], m: Midst) -> Midst {
+fn whole(pen: &mut Pen, calls: &mut [u64; NUMBERS], m: Midst) -> Midst {
     let was = m.line;
     let l = line::spaced(was);
     let w = Midst { line: l, ..m };
@@ -192,24 +177,22 @@ fn whole(streams: Streams, out: &mut [u8], calls: &mut [u64; NUMBERS], m: Midst)
         return Midst { waiting, ..p };
     }
     if w.waiting > 0 {
-        return hand_over(streams, out, w);
+        return hand_over(pen, w);
     }
-    alone(streams, out, w, l)
+    alone(pen, w, l)
 }
 
 // The characters that were read, up to the end of a line.
 fn scan(bytes: &mut [u8], input: &[u8], m: Midst) -> Midst {
     let upto = least(m.read, input.len());
     let mut l = m.line;
-    let mut i = m.from;
-    while i < upto {
+    for i in m.from..upto {
         let c = input[i];
-        i += 1;
         if c == b'\n' {
             let step = Step::Whole;
             return Midst {
                 step,
-                from: i,
+                from: i + 1,
                 line: l,
                 ..m
             };
@@ -219,7 +202,7 @@ fn scan(bytes: &mut [u8], input: &[u8], m: Midst) -> Midst {
     let step = Step::Read;
     Midst {
         step,
-        from: i,
+        from: m.from.max(upto),
         line: l,
         ..m
     }
@@ -239,19 +222,19 @@ fn some(mut from: Stdin, streams: Streams, input: &mut [u8]) -> usize
 }
 
 // Nothing is left of the input.
-fn close(streams: Streams, out: &mut [u8], m: Midst) -> Midst {
+fn close(pen: &mut Pen, m: Midst) -> Midst {
     if m.waiting > 0 {
-        return hand_over(streams, out, m);
+        return hand_over(pen, m);
     }
     Midst { over: true, ..m }
 }
 
 // The last line may lack its newline.
-fn refill(from: Stdin, streams: Streams, out: &mut [u8], input: &mut [u8], m: Midst) -> Midst {
+fn refill(from: Stdin, pen: &mut Pen, input: &mut [u8], m: Midst) -> Midst {
     if m.ended {
-        return close(streams, out, m);
+        return close(pen, m);
     }
-    let n = some(from, streams, input);
+    let n = some(from, pen.to, input);
     let r = Midst {
         read: n,
         from: 0,
@@ -267,8 +250,7 @@ fn refill(from: Stdin, streams: Streams, out: &mut [u8], input: &mut [u8], m: Mi
 // One step that needs no forest; where it would need one, none.
 pub(crate) fn next(
     from: Stdin,
-    streams: Streams,
-    out: &mut [u8],
+    pen: &mut Pen,
     input: &mut [u8],
     bytes: &mut [u8],
     calls: &mut [u64; NUMBERS],
@@ -276,9 +258,9 @@ pub(crate) fn next(
 ) -> Midst {
     let step = m.step;
     match step {
-        Step::Read => refill(from, streams, out, input, m),
+        Step::Read => refill(from, pen, input, m),
         Step::Scan => scan(bytes, input, m),
-        Step::Whole => whole(streams, out, calls, m),
+        Step::Whole => whole(pen, calls, m),
         _ => m,
     }
 }

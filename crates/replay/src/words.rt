@@ -3,7 +3,7 @@ use forest::any_future_answer::Future;
 use forest::make::Making;
 use forest::open::Opening;
 use forest::searches::Outcome;
-use pen::Streams;
+use pen::Pen;
 
 // `Searched` has the turns, `Peeked` the index at which it ended and the turns of its last search.
 #[derive(Clone, Copy)]
@@ -16,57 +16,58 @@ pub(crate) enum Reply {
     Asked(Future),
 }
 
-fn line(to: Streams, out: &mut [u8], at: usize, word: &[u8], n: u64) -> usize {
-    let a = pen::counted(to, out, at, word, n);
-    pen::byte(to, out, a, b'\n')
+fn line(pen: &mut Pen, word: &[u8], n: u64) {
+    pen.counted(word, n);
+    pen.byte(b'\n');
 }
 
-pub(crate) fn bad(to: Streams, out: &mut [u8], at: usize, n: u64) -> usize {
-    line(to, out, at, b"bad line ", n)
+pub(crate) fn bad(pen: &mut Pen, n: u64) {
+    line(pen, b"bad line ", n);
 }
 
-pub(crate) fn turns(to: Streams, out: &mut [u8], at: usize, n: u64) -> usize {
-    line(to, out, at, b" turns ", n)
+pub(crate) fn turns(pen: &mut Pen, n: u64) {
+    line(pen, b" turns ", n);
 }
 
-pub(crate) fn index_and_turns(to: Streams, out: &mut [u8], at: usize, index: u64, n: u64) -> usize {
-    let a = pen::counted(to, out, at, b" at ", index);
-    turns(to, out, a, n)
+pub(crate) fn index_and_turns(pen: &mut Pen, index: u64, n: u64) {
+    pen.counted(b" at ", index);
+    turns(pen, n);
 }
 
-fn booked(to: Streams, out: &mut [u8], at: usize, m: Making) -> usize {
+fn booked(pen: &mut Pen, m: Making) {
     match m {
-        Making::Made => pen::text(to, out, at, b"made\n"),
-        Making::Refused(n) => line(to, out, at, b"refused ", n as u64),
+        Making::Made => pen.text(b"made\n"),
+        Making::Refused(n) => line(pen, b"refused ", n as u64),
     }
 }
 
-fn opened(to: Streams, out: &mut [u8], at: usize, o: Opening) -> usize {
+fn opened(pen: &mut Pen, o: Opening) {
     match o {
-        Opening::Table(t) => line(to, out, at, b"table ", t),
-        Opening::Stopped(n) => line(to, out, at, b"stop ", n as u64),
-        Opening::Refused(n) => line(to, out, at, b"refused ", n as u64),
+        Opening::Table(t) => line(pen, b"table ", t),
+        Opening::Stopped(n) => line(pen, b"stop ", n as u64),
+        Opening::Refused(n) => line(pen, b"refused ", n as u64),
     }
 }
 
-fn found(to: Streams, out: &mut [u8], at: usize, variant: u16, ambiguous: bool) -> usize {
+fn found(pen: &mut Pen, variant: u16, ambiguous: bool) {
     if ambiguous {
-        return pen::counted(to, out, at, b"maybe ", variant as u64);
+        pen.counted(b"maybe ", variant as u64);
+        return;
     }
-    pen::counted(to, out, at, b"yes ", variant as u64)
+    pen.counted(b"yes ", variant as u64);
 }
 
-fn outcome(to: Streams, out: &mut [u8], at: usize, o: Outcome) -> usize {
+fn outcome(pen: &mut Pen, o: Outcome) {
     match o {
-        Outcome::Refused(n) => pen::counted(to, out, at, b"refused ", n as u64),
-        Outcome::Found(variant, ambiguous) => found(to, out, at, variant, ambiguous),
-        Outcome::NoMoreSolutions => pen::text(to, out, at, b"none"),
-        Outcome::Floundered => pen::text(to, out, at, b"floundered"),
-        Outcome::QuantumExceeded => pen::text(to, out, at, b"again"),
-        Outcome::NegativeCycle => pen::text(to, out, at, b"negcycle"),
-        Outcome::InvalidAnswer => pen::text(to, out, at, b"invalid"),
-        Outcome::Cut => pen::text(to, out, at, b"cut"),
-        Outcome::Stopped(n) => pen::counted(to, out, at, b"stop ", n as u64),
+        Outcome::Refused(n) => pen.counted(b"refused ", n as u64),
+        Outcome::Found(variant, ambiguous) => found(pen, variant, ambiguous),
+        Outcome::NoMoreSolutions => pen.text(b"none"),
+        Outcome::Floundered => pen.text(b"floundered"),
+        Outcome::QuantumExceeded => pen.text(b"again"),
+        Outcome::NegativeCycle => pen.text(b"negcycle"),
+        Outcome::InvalidAnswer => pen.text(b"invalid"),
+        Outcome::Cut => pen.text(b"cut"),
+        Outcome::Stopped(n) => pen.counted(b"stop ", n as u64),
     }
 }
 
@@ -77,43 +78,46 @@ fn is_refused(o: Outcome) -> bool {
     }
 }
 
-fn searched(to: Streams, out: &mut [u8], at: usize, o: Outcome, n: u64) -> usize {
-    let a = outcome(to, out, at, o);
+fn searched(pen: &mut Pen, o: Outcome, n: u64) {
+    outcome(pen, o);
     if is_refused(o) {
-        return pen::byte(to, out, a, b'\n');
+        pen.byte(b'\n');
+        return;
     }
-    turns(to, out, a, n)
+    turns(pen, n);
 }
 
-fn peeked(to: Streams, out: &mut [u8], at: usize, o: Outcome, index: u64, n: u64) -> usize {
-    let a = outcome(to, out, at, o);
+fn peeked(pen: &mut Pen, o: Outcome, index: u64, n: u64) {
+    outcome(pen, o);
     if is_refused(o) {
-        return pen::byte(to, out, a, b'\n');
+        pen.byte(b'\n');
+        return;
     }
-    index_and_turns(to, out, a, index, n)
+    index_and_turns(pen, index, n);
 }
 
-fn is(to: Streams, out: &mut [u8], at: usize, b: bool) -> usize {
+fn is(pen: &mut Pen, b: bool) {
     if b {
-        return pen::text(to, out, at, b"true\n");
+        pen.text(b"true\n");
+        return;
     }
-    pen::text(to, out, at, b"false\n")
+    pen.text(b"false\n");
 }
 
-fn asked(to: Streams, out: &mut [u8], at: usize, f: Future) -> usize {
+fn asked(pen: &mut Pen, f: Future) {
     match f {
-        Future::Refused(n) => line(to, out, at, b"refused ", n as u64),
-        Future::Found(b) => is(to, out, at, b),
+        Future::Refused(n) => line(pen, b"refused ", n as u64),
+        Future::Found(b) => is(pen, b),
     }
 }
 
-pub(crate) fn told(to: Streams, out: &mut [u8], at: usize, r: Reply) -> usize {
+pub(crate) fn told(pen: &mut Pen, r: Reply) {
     match r {
-        Reply::NoForest => pen::text(to, out, at, b"no forest\n"),
-        Reply::Booked(m) => booked(to, out, at, m),
-        Reply::Opened(o) => opened(to, out, at, o),
-        Reply::Searched(o, n) => searched(to, out, at, o, n),
-        Reply::Peeked(o, index, n) => peeked(to, out, at, o, index, n),
-        Reply::Asked(f) => asked(to, out, at, f),
+        Reply::NoForest => pen.text(b"no forest\n"),
+        Reply::Booked(m) => booked(pen, m),
+        Reply::Opened(o) => opened(pen, o),
+        Reply::Searched(o, n) => searched(pen, o, n),
+        Reply::Peeked(o, index, n) => peeked(pen, o, index, n),
+        Reply::Asked(f) => asked(pen, f),
     }
 }

@@ -1,6 +1,28 @@
 -- What the rings mean: a table's queue is what a walk along the links from the table's last place meets, as many steps as the queue is
 -- long.
-use Rattle.std.specs.Prelude.{ℕ, zero, suc, ◌+◌, ◌-◌, ◌≤◌, ◌≡◌, Bool, true, false, List, [], ◌∷◌, map, get_or, set, eqb, ltb}
+use Rattle.std.specs.Prelude.{
+  ℕ,
+  zero,
+  suc,
+  ◌+◌,
+  ◌-◌,
+  ◌≤◌,
+  ◌≡◌,
+  Bool,
+  true,
+  false,
+  List,
+  [],
+  ◌∷◌,
+  map,
+  get_or,
+  set,
+  eqb,
+  ltb,
+  Option,
+  Some,
+  None,
+}
 use Rattle.sizes.specs.Limits.{most_places}
 use Rattle.rings.specs.Lists.{times, grown, Full}
 
@@ -21,7 +43,12 @@ abbrev pub end : ℕ → List ℕ → ℕ
 end a [] = a
 end a (x ∷ l) = end x l
 
--- a place, or none
+-- A place as a number, which is most_places where there is none. A place is a byte, so that this tells the one from the other.
+abbrev pub place_number : Option ℕ → ℕ
+place_number None = most_places
+place_number (Some p) = p
+
+-- a place's number, or that of none
 abbrev pub place_if : Bool → ℕ → ℕ
 place_if true p = p
 place_if false p = most_places

@@ -6,7 +6,7 @@
 
 ghost use Rattle.std.specs.Prelude.{◌≡◌, ◌-◌, ◌<◌, get_or, set, ltb};
 ghost use Rattle.rings.specs.Lists.{grown};
-ghost use Rattle.rings.specs.Rings.{ring_of, place_if, has_any, unlinked, shortened};
+ghost use Rattle.rings.specs.Rings.{ring_of, place_number, place_if, has_any, unlinked, shortened};
 ghost use Rattle.rings.specs.Rings.{popped_next, linked, lengthened, joined, RingMove};
 
 use sizes::{PLACES, wide};
@@ -31,38 +31,32 @@ pub fn ring_unlink(
     let after = next[p];
     next[a] = after;
     tail[t] = before;
-    len[t] = less(len[t]);
+    len[t] = len[t].saturating_sub(1);
     p
 }
 
-// Takes the first place of the table's queue: where the table is that of the free places, this finds one. 256 where there is none.
+// Takes the first place of the table's queue, if there is one: where the table is that of the free places, this finds one.
 pub fn ring_pop(
     next: &mut [u8; PLACES],
     tail: &[u8; PLACES],
     len: &mut [u16; PLACES],
     table: u8,
-) -> usize
-    ensures { (result ≡ place_if (has_any len.old table) (get_or next.old (get_or tail.now table 0) 0))
+) -> Option<u8>
+    ensures { (place_number result ≡ place_if (has_any len.old table) (get_or next.old (get_or tail.now table 0) 0))
         × (next.new ≡ popped_next (has_any len.old table) next.old (get_or tail.now table 0))
         × (len.new ≡ shortened len.old table) }
 {
     let t = table as usize;
     let m = len[t];
     if m == 0 {
-        return PLACES;
+        return None;
     }
     let a = wide(tail[t]);
-    let p = wide(next[a]);
-    let after = next[p];
+    let p = next[a];
+    let after = next[wide(p)];
     next[a] = after;
-    len[t] = less(m);
-    p
-}
-
-fn less(m: u16) -> u16
-    ensures { result ≡ m - 1 }
-{
-    if m > 0 { m - 1 } else { 0 }
+    len[t] = m - 1;
+    Some(p)
 }
 
 fn more(m: u16) -> u16
@@ -148,26 +142,24 @@ pub fn ring_move(
     next[j] = x;
 }
 
-// The place at an index of the table's queue, counted from 0; 256 where the queue is shorter.
+// The place at an index of the table's queue, counted from 0, unless the queue is shorter.
 pub fn ring_at(
     next: &[u8; PLACES],
     tail: &[u8; PLACES],
     len: &[u16; PLACES],
     table: u8,
     index: u16,
-) -> usize
-    ensures { result ≡ place_if (ltb index (get_or len.now table 0))
+) -> Option<u8>
+    ensures { place_number result ≡ place_if (ltb index (get_or len.now table 0))
         (get_or (ring_of next.now tail.now len.now table) index 0) }
 {
     let t = table as usize;
     if index >= len[t] {
-        return PLACES;
+        return None;
     }
     let mut prev = tail[t];
-    let mut left = index;
-    while left > 0 {
+    for _step in 0..index {
         prev = next[wide(prev)];
-        left = left - 1;
     }
-    wide(next[wide(prev)])
+    Some(next[wide(prev)])
 }

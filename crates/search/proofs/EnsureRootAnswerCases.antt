@@ -39,60 +39,17 @@ use Rattle.search.specs.EnsureRootAnswer.{place_read, looked_as, top_now, looked
 use Rattle.search.specs.RootAnswer.{one_more, course_at, end_search}
 use Rattle.search.specs.Walk.{Walk, numbered, walk, numbers_of, goes_by, goes_on, turned, conclude_by, conclude, pass_with}
 
-pub read_caller : (p : Next) (active : List ℕ) (depth c : ℕ) → p.found ≡ false → c ≡ caller_place depth active
-    → c % 256 ≡ place_read p active depth
-read_caller p active depth c e is =
-    ap (λ (m : ℕ). m % 256) is ∙ sym (ap (λ (b : Bool). place_by b p.place (caller_place depth active)) e)
-
 module _ (entry_table entry_clock positive negative active complete next tail len time ambiguous waits wants : List ℕ) (depth : ℕ) where
   abbrev with : Top → Next → (place : ℕ) → Looked
   with top p q = looked_as waits wants top p q positive negative active len
 
-  pub look_is : (top : Top) → top ≡ top_now entry_table entry_clock positive negative active complete next tail len time ambiguous waits
-      wants depth → (p : Next) → p ≡ next_strand next tail len time ambiguous top → (i : Idle)
-      → i ≡ without_strand len waits positive negative active p top → (q : ℕ) → q ≡ place_read p active depth
-      → ◌≡◌ {A = Looked} (record { top = top; next = p; idle = i; place = q; waits = get_or waits q 0; wants = get_or wants q 0 })
-      (looked entry_table entry_clock positive negative active complete next tail len time ambiguous waits wants depth)
-  look_is top et p ep i ei q eq =
-      ap (λ (j : Idle). record { top = top; next = p; idle = j; place = q; waits = get_or waits q 0; wants = get_or wants q 0 }) ei
-      ∙ ap (with top p) eq
-      ∙ ap (λ (m : Next). with top m (place_read m active depth)) ep
-      ∙ ap (λ (u : Top). let m = next_strand next tail len time ambiguous u in with u m (place_read m active depth)) et
-
--- the strand in hand, the strands that are live, and the choice
-pub pick_is : (choose_by : Strand → (live : ℕ) → Chosen) → (hand hand' : Strand) → hand ≡ hand' → (live live' : ℕ) → live ≡ live'
-    → (c : Chosen) → c ≡ choose_by hand live
-    → ◌≡◌ {A = Picked} (record { hand = hand; chosen = c }) (record { hand = hand'; chosen = choose_by hand' live' })
-pick_is choose_by hand hand' eh live live' el c ec =
-    ap (λ (d : Chosen). record { hand = hand; chosen = d }) ec
-    ∙ ap (λ (n : ℕ). record { hand = hand; chosen = choose_by hand n }) el
-    ∙ ap (λ (h : Strand). record { hand = h; chosen = choose_by h live' }) eh
-
 -- `goes_on`
-pub goes_turn : (asked : Asked) (c : Course) (b : Bool) → b ≡ is_turn asked.mode → b ≡ true → false ≡ goes_on asked c
-goes_turn asked c b is e = ap (λ (t : Bool). goes_by t c.flow (one_more c.done) asked.limit) (sym e ∙ is)
-
-pub goes_flow : (asked : Asked) (c : Course) (b : Bool) → b ≡ is_turn asked.mode → b ≡ false → (f : Flow) → c.flow ≡ f → (done : ℕ)
-    → done ≡ one_more c.done → goes_by false f done asked.limit ≡ goes_on asked c
-goes_flow asked c b is e f ef done ed =
-    ap₂ (λ (t : Bool) (n : ℕ). goes_by t f n asked.limit) (sym e ∙ is) ed
-    ∙ ap (λ (g : Flow). goes_by (is_turn asked.mode) g (one_more c.done) asked.limit) (sym ef)
 
 -- `conclude`, by its two tests
 module _ (asked : Asked) (c : Course) (goes : Bool) (is : goes ≡ goes_on asked c) where
-  pub concludes_on : (w : Lent) → goes ≡ true → (done : ℕ) → done ≡ one_more c.done
-      → walk (course_at c.over c.ending c.index c.more c.exceeded done c.mark c.depth c.clock c) w
-      ≡ conclude asked c w
-  concludes_on w e done ed =
-      ap (λ (n : ℕ). walk (course_at c.over c.ending c.index c.more c.exceeded n c.mark c.depth c.clock c) w) ed
-      ∙ ap (λ (g : Bool). conclude_by g (is_turn asked.mode) asked c w) (sym e ∙ is)
-
   module _ (e : goes ≡ false) (turns : Bool) (it : turns ≡ is_turn asked.mode) where
     at : (b : Bool) → turns ≡ b → (w : Lent) → conclude_by false b asked c w ≡ conclude asked c w
     at b eb w = ap₂ (λ (g t : Bool). conclude_by g t asked c w) (sym e ∙ is) (sym eb ∙ it)
-
-    pub concludes_turn : (w : Lent) → turns ≡ true → walk (turned c) w ≡ conclude asked c w
-    concludes_turn w eb = at true eb w
 
     -- the search has ended: the rings and the entries' arrays are as they were put back, and the course is the next one
     module _ (eb : turns ≡ false) (r : Course) (goal coinductive floundered complete : List ℕ) (strands : List Strand)
@@ -111,30 +68,6 @@ module _ (asked : Asked) (c : Course) (goes : Bool) (is : goes ≡ goes_on asked
 
       abbrev rings : (top : ℕ) → Places
       rings top = all_back entry_table active (within c.depth) (places next tail len top)
-
-      pub concludes_ended : (nx tl ln et ec ps ng ac : List ℕ)
-          → ((top : ℕ) → places nx tl ln top ≡ all_back entry_table active (within c.depth) (places next tail len top))
-          → et ≡ written_at 0 asked.table entry_table → ec ≡ written_at 0 r.clock entry_clock → ps ≡ written_at 0 MAX positive
-          → ng ≡ written_at 0 MAX negative → ac ≡ written_at 0 256 active
-          → walk r (with_arrays r nx tl ln et ec ps ng ac)
-          ≡ conclude asked c (with_arrays c next tail len entry_table entry_clock positive negative active)
-      concludes_ended nx tl ln et ec ps ng ac back e1 e2 e3 e4 e5 =
-          let p : Places = rings c.used in
-          let is-p : places nx tl ln c.used ≡ p = back c.used in
-          ap (λ (l : List ℕ). f r l tl ln et ec ps ng ac) (ap (λ (q : Places). q.next) is-p)
-          ∙ ap (λ (l : List ℕ). f r p.next l ln et ec ps ng ac) (ap (λ (q : Places). q.tail) is-p)
-          ∙ ap (λ (l : List ℕ). f r p.next p.tail l et ec ps ng ac) (ap (λ (q : Places). q.len) is-p)
-          ∙ ap (λ (l : List ℕ). f r p.next p.tail p.len l ec ps ng ac) e1
-          ∙ ap (λ (l : List ℕ). f r p.next p.tail p.len (written_at 0 asked.table entry_table) l ps ng ac) e2
-          ∙ ap (λ (l : List ℕ). f r p.next p.tail p.len (written_at 0 asked.table entry_table)
-          (written_at 0 r.clock entry_clock) l ng ac) e3
-          ∙ ap (λ (l : List ℕ). f r p.next p.tail p.len (written_at 0 asked.table entry_table)
-          (written_at 0 r.clock entry_clock) (written_at 0 MAX positive) l ac) e4
-          ∙ ap (λ (l : List ℕ). f r p.next p.tail p.len (written_at 0 asked.table entry_table)
-          (written_at 0 r.clock entry_clock) (written_at 0 MAX positive) (written_at 0 MAX negative) l) e5
-          ∙ ap (λ (d : Course). f d p.next p.tail p.len (written_at 0 asked.table entry_table)
-          (written_at 0 d.clock entry_clock) (written_at 0 MAX positive) (written_at 0 MAX negative) (written_at 0 256 active)) er
-          ∙ at false eb (with_arrays c next tail len entry_table entry_clock positive negative active)
 
 -- `pass`: what was lent by the numbers that the course carries, the turn as it was performed, and what it was concluded to
 module _ (b : Book) (asked : Asked) (c : Course) (l : Looked) (k : Picked) (a : Answer) (lent_by : Carried → Lent) where

@@ -32,18 +32,6 @@ use Rattle.search.specs.Walk.{Walk, numbers_of, goes_by, goes_on, conclude_by, c
 use Rattle.search.specs.Walk.{looked_in, picked_in, pass, Comes, goes_further}
 use Rattle.search.proofs.RootAnswerFalls.{end_falls, done_falls}
 
--- what is lent, with the numbers of a course
-abbrev pub lent_with : List Strand → List Answer
-    → (goal coinductive floundered complete next tail len time ambiguous variant waits wants : List ℕ)
-    → (answer_next answer_tail answer_len answer_variant answer_key answer_ambiguous : List ℕ)
-    → (entry_table entry_clock positive negative active : List ℕ) → Course → Lent
-lent_with strands answers goal coinductive floundered complete next tail len time ambiguous variant waits wants answer_next answer_tail
-    answer_len answer_variant answer_key answer_ambiguous entry_table entry_clock positive negative active c =
-    lent_of (tables_of c.count goal coinductive floundered complete)
-    (store strands time ambiguous variant waits wants (places next tail len c.used))
-    (answers_of answers answer_variant answer_key answer_ambiguous (places answer_next answer_tail answer_len c.answer_used))
-    (stack_of c.depth entry_table entry_clock positive negative active) c.clock
-
 -- the loop's test, `!over`
 pub still_on : (over : Bool) → not over ≡ true → over ≡ false
 still_on true e = absurd (false≢true e)

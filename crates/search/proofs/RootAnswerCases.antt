@@ -63,10 +63,6 @@ module _ (key : List ℕ) (from i : ℕ) where
 
     -- the first of them, read as q
     module _ (q : ℕ) (is_q : q ≡ get_or next b 0) where
-      pub valid_found : 0 < n → from ≤ i → get_or key q 0 ≡ 0 → i ≡ left
-      valid_found some h z =
-          found (get_or next b 0) (walk (n - 1) next (get_or next b 0)) h (sym (ap (λ (x : ℕ). get_or key x 0) is_q) ∙ z) ∙ step some
-
       pub valid_passed : 0 < n → from ≤ i → (get_or key q 0 ≡ 0 → ⊥) → later (i + 1) ≡ left
       valid_passed some h d =
           ap later (add-one i)
@@ -80,17 +76,6 @@ module _ (key : List ℕ) (from i : ℕ) where
 
     over : n ≤ 0 → ends (ltb i from) ≡ first_valid key from i (walk n next a)
     over h = let e : 0 ≡ n = omega arith in ap (λ (m : ℕ). first_valid key from i (walk m next a)) e
-
-    pub valid_none : n ≤ 0 → i < from → from ≡ first_valid key from i (walk n next a)
-    valid_none h b = sym (ap ends (lt-ltb i from b)) ∙ over h
-
-    pub valid_all : n ≤ 0 → from ≤ i → i ≡ first_valid key from i (walk n next a)
-    valid_all h b = sym (ap ends (le-ltb i from b)) ∙ over h
-
-pub index_peeks : (mode : Mode) (next tail len key : List ℕ) (t from : ℕ) (peeks : Bool) → peeks ≡ is_peek mode → peeks ≡ true
-    → (r : ℕ) → r ≡ first_valid key from 0 (ring_of next tail len t) → r ≡ index_from mode next tail len key t from
-index_peeks mode next tail len key t from peeks is e r is-r =
-    is-r ∙ sym (ap (λ (b : Bool). index_by b from (first_valid key from 0 (ring_of next tail len t))) (sym is ∙ e))
 
 -- the answer stored at an index
 module _ (next tail len variant key ambiguous : List ℕ) (t index : ℕ) where
@@ -128,20 +113,12 @@ module _ (asked : Asked) (c : Course) where
   abbrev pushed : (late none_left : Bool) → Course
   pushed late none_left = pushes_by late none_left c
 
-  pub push_late : asked.clock_limit ≤ c.clock → pushes_by true false c ≡ pushes_root asked c
-  push_late h = sym (ap (λ (b : Bool). pushed b (eqb asked.limit 0)) (le-leb asked.clock_limit c.clock h))
-
   abbrev clocked : (over : Bool) → (depth clock : ℕ) → Course
   clocked over depth clock = course_at over endings.Cut c.index c.more c.exceeded c.done c.mark depth clock c
 
   module _ (few : asked.clock_limit ≤ MAX) (h : c.clock < asked.clock_limit) (n : ℕ) (ticked : n ≡ incremented c.clock) where
     next_is : n ≡ suc c.clock
     next_is = ticked ∙ next_time c.clock asked.clock_limit few h
-
-    pub push_cut : asked.limit ≡ 0 → clocked true c.depth n ≡ pushes_root asked c
-    push_cut e =
-        ap (clocked true c.depth) next_is
-        ∙ sym (ap₂ pushed (lt-leb asked.clock_limit c.clock h) (eq-eqb asked.limit 0 e))
 
     pub push_new : (asked.limit ≡ 0 → ⊥) → clocked false 1 n ≡ pushes_root asked c
     push_new e =
@@ -161,12 +138,6 @@ module _ (asked : Asked) (floundered next tail len variant key ambiguous : List 
 
   abbrev first : ℕ
   first = index_from asked.mode next tail len key asked.table c.index
-
-  pub start_missing : c.count ≤ asked.table → ended (endings.Stopped 0) (from_index c.index c) ≡ started
-  start_missing h =
-      sym
-      (ap (λ (b : Bool). started_by first b (flag_at asked.table floundered) (eqb first (get_or len asked.table 0)))
-      (le-leb c.count asked.table h))
 
   -- the table's flag is read as f
   module _ (there : asked.table < c.count) (f : Bool) (is_f : f ≡ flag_at asked.table floundered) where
@@ -195,9 +166,6 @@ module _ (asked : Asked) (floundered next tail len variant key ambiguous : List 
 -- AFTER THE LAST TURN
 
 module _ (n : ℕ) where
-  pub more_below : n < MAX → n + 1 ≡ one_more n
-  more_below h = add-one n ∙ sym (ap (λ (b : Bool). one_more_by b n) (lt-ltb n MAX h))
-
   pub more_most : MAX ≤ n → n ≡ one_more n
   more_most h = sym (ap (λ (b : Bool). one_more_by b n) (le-ltb n MAX h))
 
@@ -206,32 +174,15 @@ module _ (f : Flow) (stored : Ending) (c : Course) where
   abbrev finished : Ending → (done mark : ℕ) → Course
   finished e done mark = course_at true e c.index c.more c.exceeded done mark 0 c.clock c
 
-  pub finish_is : (e : Ending) (d m : ℕ) → e ≡ ending_of f stored → d ≡ counted f c.done → m ≡ marked f c.mark
-      → finished e d m ≡ finish f stored c
-  finish_is e d m ee ed em =
-      ap₂ (λ (x : Ending) (y : ℕ). finished x y m) ee ed ∙ ap (finished (ending_of f stored) (counted f c.done)) em
-
 module _ (c : Course) where
   abbrev moved : (index : ℕ) → Course
   moved index = course_at false c.ending index c.more c.exceeded c.done c.mark c.depth c.clock c
-
-  pub skip_below : c.index < last_index → moved (c.index + 1) ≡ skip_invalid c
-  skip_below h = ap moved (add-one c.index) ∙ sym (ap (λ (b : Bool). skip_by b c) (lt-ltb c.index last_index h))
-
-  pub skip_last : last_index ≤ c.index → c ≡ skip_invalid c
-  skip_last h = sym (ap (λ (b : Bool). skip_by b c) (le-ltb c.index last_index h))
 
   -- QuantumExceeded, counted as x
   module _ (x : ℕ) (is : x ≡ one_more c.exceeded) where
     abbrev round : (over : Bool) → (more exceeded : ℕ) → Course
     round over more exceeded =
         course_at over c.ending c.index more exceeded c.done c.mark c.depth c.clock c
-
-    pub round_left : 0 < c.more → round false (c.more - 1) x ≡ next_round c
-    round_left h = ap (round false (c.more - 1)) is ∙ sym (ap (λ (b : Bool). round_by b c) (lt-ltb 0 c.more h))
-
-    pub round_none : c.more ≤ 0 → round c.over c.more x ≡ next_round c
-    round_none h = ap (round c.over c.more) is ∙ sym (ap (λ (b : Bool). round_by b c) (le-ltb 0 c.more h))
 
 -- what comes after a search
 module _ (mode : Mode) (c : Course) (peeks : Bool) (is : peeks ≡ is_peek mode) where

@@ -13,6 +13,8 @@ use Rattle.definitions.specs.{MAX}
 use Rattle.book.specs.declared.Book.{Book}
 use Rattle.strands.specs.declared.Answer.{Answer}
 use Rattle.strands.specs.declared.Strand.{Strand}
+use Rattle.stores.specs.declared.Stores.{Stores}
+use Rattle.stores.specs.declared.stack.Stack.{Stack}
 use Rattle.stores.specs.View.{unread_answer}
 use Rattle.control.specs.declared.performed.Flow.{Flow}
 use Rattle.control.specs.declared.performed.Flow.TheVariants as flow
@@ -29,28 +31,18 @@ use Rattle.search.specs.declared.ensure_root_answer.Picked.{Picked}
 use Rattle.search.specs.Course.{is_turn, carry}
 use Rattle.search.specs.Falls.{left_by, left_of}
 use Rattle.search.specs.RootAnswer.{one_more_by, one_more}
-use Rattle.search.specs.Walk.{Walk, walk, numbered, numbers_of, one_done, may_settle_by, may_settle, settled_flow, settled_done}
+use Rattle.search.specs.Walk.{Walk, walk, standing, walking, numbered, numbers_of, one_done, may_settle_by, may_settle, settled_flow, settled_done}
 use Rattle.search.specs.Walk.{settles_on, settles, settles_next, settled_walk, Settles, none_settles, next_settles}
 use Rattle.search.specs.Walk.{pass_with, looked_in, picked_in, Comes, goes_by_numbers}
-use Rattle.search.proofs.Looping.{lent_with, further, falls}
+use Rattle.search.proofs.Looping.{further, falls}
 
 -- `may_settle`
 pub may_not : (asked : Asked) (done : ℕ) (b : Bool) → b ≡ is_turn asked.mode → b ≡ true → false ≡ may_settle asked done
 may_not asked done b is e = ap (λ (t : Bool). may_settle_by t (one_more done) asked.limit) (sym e ∙ is)
 
-pub may_by_limit : (asked : Asked) (done : ℕ) (b : Bool) → b ≡ is_turn asked.mode → b ≡ false → (n : ℕ) → n ≡ one_more done
-    → ltb n asked.limit ≡ may_settle asked done
-may_by_limit asked done b is e n en =
-    ap₂ (λ (t : Bool) (m : ℕ). may_settle_by t m asked.limit) (sym e ∙ is) en
-
 -- `done_after`
-pub done_settled : (settled : Bool) (done n : ℕ) → n ≡ one_more done → settled ≡ true → n ≡ settled_done settled done
-done_settled settled done n en e = en ∙ sym (ap (λ (b : Bool). settled_done b done) e)
 
 -- `settles_on`
-pub on_settled : (settled : Bool) (asked : Asked) (done : ℕ) (b : Bool) → b ≡ may_settle asked done → settled ≡ true
-    → b ≡ settles_on settled asked done
-on_settled settled asked done b eb e = eb ∙ sym (ap (λ (s : Bool). settles_on s asked done) e)
 
 -- THE COURSE that turns by numbers leave, of which only these are new
 abbrev pub course_so : Course → (depth clock done : ℕ) → Flow → Course
@@ -134,42 +126,19 @@ module _ (asked : Asked) (c : Course) (w w' : Lent) where
         subst (Settles asked (walk c w)) (sym stays ∙ subst (λ (more : Bool). rest_by more asked (after false) u) on h)
         (none_settles (ap (λ (n : NumberTurn). settles_on n.settled asked c.done) (sym is)))
 
--- the arrays and the numbers as the functions give them; those that a turn by numbers writes come last, before and after it
-module _ (asked : Asked) (c : Course) (strands : List Strand) (answers : List Answer)
-    (goal coinductive floundered complete ambiguous variant waits wants : List ℕ)
-    (answer_next answer_tail answer_len answer_variant answer_key answer_ambiguous : List ℕ)
-    (next tail len time entry_table entry_clock positive negative active : List ℕ)
-    (next' tail' len' time' entry_table' entry_clock' positive' negative' active' : List ℕ) where
-  abbrev lent_before : Lent
-  lent_before =
-      lent_with strands answers goal coinductive floundered complete next tail len time ambiguous variant waits wants answer_next
-      answer_tail answer_len answer_variant answer_key answer_ambiguous entry_table entry_clock positive negative active c
-
-  abbrev lent_after : Course → Lent
-  lent_after d =
-      lent_with strands answers goal coinductive floundered complete next' tail' len' time' ambiguous variant waits wants answer_next
-      answer_tail answer_len answer_variant answer_key answer_ambiguous entry_table' entry_clock' positive' negative' active' d
-
+-- the stores and the stack before it and after it
+module _ (asked : Asked) (c : Course) (s s' : Stores) (k k' : Stack) where
   pub turn_settles : may_settle asked c.done ≡ true → (settled : Bool) (depth clock done : ℕ) (f : Flow)
-      → numbered_by settled (lent_with strands answers goal coinductive floundered complete next' tail' len' time' ambiguous variant waits
-      wants answer_next answer_tail answer_len answer_variant answer_key answer_ambiguous entry_table' entry_clock' positive' negative'
-      active' (course_so c depth clock done f))
-      ≡ number_turn (leb asked.clock_limit c.clock) (lent_with strands answers goal coinductive floundered complete next tail len
-      time ambiguous variant waits wants answer_next answer_tail answer_len answer_variant answer_key answer_ambiguous entry_table
-      entry_clock positive negative active c)
+      → numbered_by settled (numbered (course_so c depth clock done f) (standing s' k' clock))
+      ≡ number_turn (leb asked.clock_limit c.clock) (numbered c (standing s k c.clock))
       → done ≡ settled_done settled c.done → f ≡ settled_flow settled c.flow
       → (again : Bool) → again ≡ settles_on settled asked done → (u : Walk)
-      → rest_by again asked (walk (course_so c depth clock done f) (lent_with strands answers goal coinductive floundered complete next'
-      tail' len' time' ambiguous variant waits wants answer_next answer_tail answer_len answer_variant answer_key answer_ambiguous
-      entry_table' entry_clock' positive' negative' active' (course_so c depth clock done f))) u
-      → Settles asked (walk c (lent_with strands answers goal coinductive floundered complete next tail len time ambiguous variant waits
-      wants answer_next answer_tail answer_len answer_variant answer_key answer_ambiguous entry_table entry_clock positive negative active
-      c)) u
+      → rest_by again asked (walking (course_so c depth clock done f) s' k') u → Settles asked (walking c s k) u
   turn_settles may settled depth clock done f is ed ef again on u h =
-      settles_by asked c lent_before (lent_after (course_so c depth clock done f)) may again u settled is
+      settles_by asked c (standing s k c.clock) (numbered (course_so c depth clock done f) (standing s' k' clock)) may again u settled is
       (on ∙ ap (settles_on settled asked) ed)
       (subst (λ (y : Walk). rest_by again asked y u)
-      (ap₂ (λ (n : ℕ) (g : Flow). let d = course_so c depth clock n g in walk d (lent_after d)) ed ef) h)
+      (ap₂ (λ (n : ℕ) (g : Flow). walking (course_so c depth clock n g) s' k') ed ef) h)
 
 -- WHAT TURNS BY NUMBERS COME TO
 more_most : (n : ℕ) (b : Bool) → n ≤ one_more_by b n

@@ -23,7 +23,7 @@ use Rattle.search.specs.declared.solve_state.Turned.{Turned}
 use Rattle.search.specs.Course.{is_turn}
 use Rattle.search.specs.Means.{stores_of}
 use Rattle.search.specs.RootAnswer.{one_more}
-use Rattle.search.specs.SolveState.{book_in, stores_in, with_stores, is_stop, left_by, turn_so, turn_by, turn_of, cut_of}
+use Rattle.search.specs.SolveState.{stores_in, with_stores, is_stop, left_by, turn_so, turn_by, turn_of, cut_of}
 use Rattle.search.specs.Walk.{Walk, walk, may_settle_by, settles, settles_next, pass}
 use Rattle.search.specs.Walk.{Comes, is_over, goes_further, goes_by_numbers}
 use Rattle.search.proofs.Settling.{next_not}
@@ -34,7 +34,7 @@ with_rings p s =
     let z = stores_in s in
     with_stores (with_lent (lent_of z.tables (with_places z.strands p) z.answers (bare z.stack) z.clock) z) s.done s
 
-pub cut_is : (s : Search) (p : Places) → p ≡ all_back s.entry_table s.active (within s.depth) (stores_in s).strands.places
+pub cut_is : (s : Search) (p : Places) → p ≡ all_back s.stack.table s.stack.active (within s.stack.depth) (stores_in s).strands.places
     → with_rings p s ≡ cut_of s
 cut_is s p e = ap (λ (p : Places). with_rings p s) e
 
@@ -72,11 +72,11 @@ module _ (s : Search) where
     exceeded = 0;
     done = s.done;
     mark = s.mark;
-    count = s.count;
-    depth = s.depth;
+    count = s.stores.tables.count;
+    depth = s.stack.depth;
     clock = s.clock;
-    used = s.used;
-    answer_used = s.answer_used;
+    used = s.stores.strands.places.top;
+    answer_used = s.stores.answers.places.top;
   }
 
   abbrev pub walk_in : Walk
@@ -84,15 +84,15 @@ module _ (s : Search) where
 
   -- the search that a walk leaves
   abbrev pub search_at : Walk → (done : ℕ) → Search
-  search_at v n = with_stores (stores_of (book_in s) asked_in v) n s
+  search_at v n = with_stores (stores_of s.book asked_in v) n s
 
-  pub turns_once : {u : Walk} → Comes (book_in s) asked_in walk_in u → pass (book_in s) asked_in walk_in ≡ u
-  turns_once k = comes_by_a_pass (book_in s) asked_in k refl refl refl
+  pub turns_once : {u : Walk} → Comes s.book asked_in walk_in u → pass s.book asked_in walk_in ≡ u
+  turns_once k = comes_by_a_pass s.book asked_in k refl refl refl
 
-  flow_is : {u : Walk} → Comes (book_in s) asked_in walk_in u → (turn_done (stores_in s)).flow ≡ u.course.flow
+  flow_is : {u : Walk} → Comes s.book asked_in walk_in u → (turn_done (stores_in s)).flow ≡ u.course.flow
   flow_is k = ap (λ (v : Walk). v.course.flow) (turns_once k)
 
-  search_is : {u : Walk} → Comes (book_in s) asked_in walk_in u
+  search_is : {u : Walk} → Comes s.book asked_in walk_in u
       → with_stores (turned (stores_in s)) (one_more s.done) s ≡ search_at u (one_more s.done)
   search_is k = ap (λ (v : Walk). search_at v (one_more s.done)) (turns_once k)
 
@@ -107,22 +107,18 @@ module _ (s : Search) where
   abbrev turned_with : Flow → Search → Turned
   turned_with f x = record { flow = f; search = x }
 
-  -- with nothing on the stack
-  pub turn_empty : s.depth ≡ 0 → turned_with (flow.Stop 0) s ≡ turn_of s
-  turn_empty e = sym (ap (λ (empty : Bool). turn_by empty s) (eq-eqb s.depth 0 e))
-
   -- else
-  module _ (standing : s.depth ≡ 0 → ⊥) where
+  module _ (standing : s.stack.depth ≡ 0 → ⊥) where
     by_flow : (f : Flow) → (turn_done (stores_in s)).flow ≡ f → turn_so f s ≡ turn_of s
-    by_flow f e = ap (λ (f : Flow). turn_so f s) (sym e) ∙ sym (ap (λ (empty : Bool). turn_by empty s) (ne_eqb s.depth 0 standing))
+    by_flow f e = ap (λ (f : Flow). turn_so f s) (sym e) ∙ sym (ap (λ (empty : Bool). turn_by empty s) (ne_eqb s.stack.depth 0 standing))
 
-    pub turn_stopped : {u : Walk} → Comes (book_in s) asked_in walk_in u → (stops : Bool) → stops ≡ is_stop u.course.flow
+    pub turn_stopped : {u : Walk} → Comes s.book asked_in walk_in u → (stops : Bool) → stops ≡ is_stop u.course.flow
         → stops ≡ true → turned_with u.course.flow s ≡ turn_of s
     turn_stopped {u} k stops e is =
         ap (turned_with u.course.flow) (as_it_was u.course.flow stops e is)
         ∙ by_flow u.course.flow (flow_is k)
 
-    pub turn_left : {u : Walk} → Comes (book_in s) asked_in walk_in u → (stops : Bool) → stops ≡ is_stop u.course.flow
+    pub turn_left : {u : Walk} → Comes s.book asked_in walk_in u → (stops : Bool) → stops ≡ is_stop u.course.flow
         → stops ≡ false → (done : ℕ) → done ≡ one_more s.done → turned_with u.course.flow (search_at u done) ≡ turn_of s
     turn_left {u} k stops e is done d =
         ap (λ (n : ℕ). turned_with u.course.flow (search_at u n)) d

@@ -41,7 +41,7 @@ module _ (s : Search) where
   undone_by false e = ap (λ (b : Bool). left_by b s) e
 
   pub turn_undone : is_stop (turn_of s).flow ≡ true → (turn_of s).search ≡ s
-  turn_undone e = undone_by (eqb s.depth 0) e
+  turn_undone e = undone_by (eqb s.stack.depth 0) e
 
   -- else the stores that the turn left, and a turn more
   went_by : (empty : Bool) → is_stop (flow_by empty) ≡ false
@@ -50,10 +50,10 @@ module _ (s : Search) where
   went_by false e = ap (λ (b : Bool). left_by b s) e
 
   pub turn_stores : is_stop (turn_of s).flow ≡ false → stores_in (turn_of s).search ≡ turned (stores_in s)
-  turn_stores e = ap stores_in (went_by (eqb s.depth 0) e)
+  turn_stores e = ap stores_in (went_by (eqb s.stack.depth 0) e)
 
   pub turn_counted : is_stop (turn_of s).flow ≡ false → (turn_of s).search.done ≡ one_more s.done
-  turn_counted e = ap (λ (x : Search). x.done) (went_by (eqb s.depth 0) e)
+  turn_counted e = ap (λ (x : Search). x.done) (went_by (eqb s.stack.depth 0) e)
 
   -- and what is searched for stays
   abbrev Kept : Search → Type 0
@@ -68,10 +68,10 @@ module _ (s : Search) where
   kept_by false = left_keeps (is_stop (turn_done (stores_in s)).flow)
 
   pub turn_keeps : ((turn_of s).search.table ≡ s.table) × ((turn_of s).search.index ≡ s.index) × ((turn_of s).search.limit ≡ s.limit)
-  turn_keeps = kept_by (eqb s.depth 0)
+  turn_keeps = kept_by (eqb s.stack.depth 0)
 
   -- WITH NOTHING ON THE STACK there is no turn, and all stays; so the definitions have it
-  module _ (empty : s.depth ≡ 0) where
+  module _ (empty : s.stack.depth ≡ 0) where
     pub turn_of_none : turn_of s ≡ turn_so (ways.Stop 0) s
     turn_of_none = ap (λ (n : ℕ). turn_by (eqb n 0) s) empty
 
@@ -111,7 +111,7 @@ module _ (root index first : ℕ) (s : Search) (o : SoundStores root index first
 
   -- something is on the stack
   stands : turn_of s ≡ turn_by false s
-  stands = ap (λ (empty : Bool). turn_by empty s) (ne_eqb s.depth 0 (never_empty root index first z o))
+  stands = ap (λ (empty : Bool). turn_by empty s) (ne_eqb s.stack.depth 0 (never_empty root index first z o))
 
   -- A TURN is the definitions' turn
   pub search_turn_is : flows (turn_of s).flow (state (stores_in (turn_of s).search)) ≡ turns.turn (state (stores_in s))
@@ -158,7 +158,7 @@ module _ (root index first : ℕ) (s : Search) (o : SoundStores root index first
       )
 
   -- and its stores are between two searches, with the root's answers below the index or a floundered root
-  pub cut_ended : Ended s.goals root index (forest (stores_in (cut_of s)))
+  pub cut_ended : Ended s.book.goals root index (forest (stores_in (cut_of s)))
   cut_ended = backed_kept z (standing_sounds root index first z o) (standing_drops root index first z o)
 
   pub cut_rests : Rests (stores_in (cut_of s))

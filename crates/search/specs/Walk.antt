@@ -4,6 +4,8 @@ use Rattle.definitions.specs.{MAX}
 use Rattle.book.specs.declared.Book.{Book}
 use Rattle.strands.specs.declared.Answer.{Answer}
 use Rattle.strands.specs.declared.Strand.{Strand}
+use Rattle.stores.specs.declared.Stores.{Stores}
+use Rattle.stores.specs.declared.stack.Stack.{Stack}
 use Rattle.stores.specs.Numbers.{free, within}
 use Rattle.stores.specs.Places.{places}
 use Rattle.stores.specs.Queue.{store, with_places}
@@ -49,6 +51,14 @@ numbered c w =
 
 abbrev pub walk : Course → Lent → Walk
 walk c w = record { course = c; lent = numbered c w }
+
+-- what the stores and the stack hold, at this clock
+abbrev pub standing : Stores → Stack → (clock : ℕ) → Lent
+standing s k clock = lent_of s.tables s.strands s.answers k clock
+
+-- THE WALK of a course through the stores: their own counts are the course's as long as it goes on
+abbrev pub walking : Course → Stores → Stack → Walk
+walking c s k = walk c (standing s k c.clock)
 
 -- the numbers that a turn leaves
 abbrev pub numbers_of : Lent → Carried
@@ -145,23 +155,6 @@ module _ (asked : Asked) where
   pub data Settles : Walk → Walk → Type 0 where
     none_settles : {v : Walk} → settles_next v ≡ false → Settles v v
     next_settles : {v u : Walk} → settles_next v ≡ true → Settles (settled_walk v) u → Settles v u
-
--- a book by its arrays
-abbrev pub book_of : (goals clauses : ℕ)
-    → (goal_flags goal_first goal_len clause_variant clause_flags clause_len literal_kind literal_goal literal_want : List ℕ) → Book
-book_of goals clauses goal_flags goal_first goal_len clause_variant clause_flags clause_len kind goal want = record {
-  goals = goals;
-  clauses = clauses;
-  goal_flags = goal_flags;
-  goal_first = goal_first;
-  goal_len = goal_len;
-  clause_variant = clause_variant;
-  clause_flags = clause_flags;
-  clause_len = clause_len;
-  literal_kind = kind;
-  literal_goal = goal;
-  literal_want = want;
-}
 
 -- ONE PASS: what was looked up and picked, and the answer that was read, are given
 module _ (b : Book) (asked : Asked) where

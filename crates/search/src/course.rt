@@ -56,21 +56,13 @@ pub struct Course {
 pub fn is_turn(mode: Mode) -> bool
     ensures { result ≡ is_turn mode }
 {
-    match mode {
-        Mode::Turn => true,
-        Mode::Search => false,
-        Mode::Peek => false,
-    }
+    matches!(mode, Mode::Turn)
 }
 
 pub fn is_peek(mode: Mode) -> bool
     ensures { result ≡ is_peek mode }
 {
-    match mode {
-        Mode::Turn => false,
-        Mode::Search => false,
-        Mode::Peek => true,
-    }
+    matches!(mode, Mode::Peek)
 }
 
 // The search has ended so.

@@ -9,92 +9,60 @@ ghost use Rattle.search.specs.RootAnswer.{skip_invalid, next_round, next_search,
 use crate::course::{Asked, Course, Ending, Mode, ended, is_peek};
 use control::performed::Flow;
 use rings::ring_at;
-use sizes::{MOST_TABLES, PLACES, wide};
+use sizes::wide;
+use stores::Stores;
 use stores::numbers::flag_at;
+use stores::table::Answers;
 use strands::times::TimeStamp;
 
 // The last index that a peek goes on from, so that it ends; no table has as many answers.
 const LAST_INDEX: u64 = 256;
 
-// A length that is read of a lent array tells its range so.
-fn wide_len(n: u16) -> u64
-    ensures { (result ≡ n) × (result < 65536) }
-{
-    n as u64
-}
-
 // The first index from this one on whose answer of the table is not invalid: has no delayed goals; else the first with no stored answer.
-fn first_valid(
-    next: &[u8; PLACES],
-    tail: &[u8; PLACES],
-    len: &[u16; PLACES],
-    key: &[u64; PLACES],
-    t: u8,
-    from: u64,
-) -> u64
-    ensures { result ≡ first_valid key.now from 0
-        (ring_of next.now tail.now len.now t) }
+fn first_valid(answers: &Answers, t: u8, from: u64) -> u64
+    ensures { result ≡ first_valid answers.now.key from 0
+        (ring_of answers.now.places.next answers.now.places.tail answers.now.places.len t) }
 {
-    let mut prev = tail[t as usize];
-    let mut left = wide_len(len[t as usize]);
-    let mut i: u64 = 0;
-    while left > 0 {
-        let p = next[wide(prev)];
-        if i >= from {
-            if key[wide(p)] == 0 {
-                return i;
-            }
+    let ring = &answers.places;
+    let mut prev = ring.tail[t as usize];
+    let count = u64::from(ring.len[t as usize]);
+    for i in 0..count {
+        let p = ring.next[wide(prev)];
+        if i >= from && answers.key[wide(p)] == 0 {
+            return i;
         }
         prev = p;
-        i = i + 1;
-        left = left - 1;
     }
-    if i < from { from } else { i }
+    from.max(count)
 }
 
 // A peek goes by the invalid answers that are stored.
-fn index_from(
-    mode: Mode,
-    next: &[u8; PLACES],
-    tail: &[u8; PLACES],
-    len: &[u16; PLACES],
-    key: &[u64; PLACES],
-    t: u8,
-    from: u64,
-) -> u64
-    ensures { result ≡ index_from mode next.now tail.now len.now key.now t from }
+fn index_from(mode: Mode, answers: &Answers, t: u8, from: u64) -> u64
+    ensures { result ≡ index_from mode answers.now.places.next answers.now.places.tail answers.now.places.len answers.now.key t from }
 {
-    if is_peek(mode) {
-        return first_valid(next, tail, len, key, t, from);
+    match mode {
+        Mode::Peek => first_valid(answers, t, from),
+        _ => from,
     }
-    from
 }
 
 // The answer stored at an index of the table: one with delayed goals is invalid.
-fn stored_answer(
-    next: &[u8; PLACES],
-    tail: &[u8; PLACES],
-    len: &[u16; PLACES],
-    variant: &[u16; PLACES],
-    key: &[u64; PLACES],
-    ambiguous: &[u8; PLACES],
-    t: u8,
-    index: u64,
-) -> Ending
-    ensures { result ≡ stored_answer next.now tail.now len.now variant.now
-        key.now ambiguous.now t index }
+fn stored_answer(answers: &Answers, t: u8, index: u64) -> Ending
+    ensures { result ≡ stored_answer answers.now.places.next answers.now.places.tail answers.now.places.len answers.now.variant
+        answers.now.key answers.now.ambiguous t index }
 {
     if index >= 256 {
         return Ending::Stopped(0);
     }
-    let p = ring_at(next, tail, len, t, index as u16);
-    if p >= 256 {
+    let ring = &answers.places;
+    let Some(place) = ring_at(&ring.next, &ring.tail, &ring.len, t, index as u16) else {
         return Ending::Stopped(0);
-    }
-    if key[p] > 0 {
+    };
+    let p = wide(place);
+    if answers.key[p] > 0 {
         return Ending::InvalidAnswer;
     }
-    Ending::Found(variant[p], ambiguous[p] != 0)
+    Ending::Found(answers.variant[p], answers.ambiguous[p] != 0)
 }
 
 // The first push: at the clock's limit nothing but the mark changes. A search that may do no turn is cut at once.
@@ -130,55 +98,28 @@ fn push_root(asked: Asked, c: Course) -> Course
 
 // All that is done before the first turn of a search at the course's index: a floundered table or a stored answer ends it. Whoever calls
 // writes the root's entry.
-pub fn start<'a>(
-    asked: Asked,
-    was: Course,
-    floundered: &'a [u8; MOST_TABLES],
-    answer_next: &'a [u8; PLACES],
-    answer_tail: &'a [u8; PLACES],
-    answer_len: &'a [u16; PLACES],
-    answer_variant: &'a [u16; PLACES],
-    answer_key: &'a [u64; PLACES],
-    answer_ambiguous: &'a [u8; PLACES],
-) -> Course
-    ensures { result ≡ start asked floundered.now answer_next.now answer_tail.now
-        answer_len.now answer_variant.now answer_key.now answer_ambiguous.now was }
+pub fn start(asked: Asked, was: Course, stores: &Stores) -> Course
+    ensures { result ≡ start asked stores.now.tables.floundered stores.now.answers.places.next stores.now.answers.places.tail
+        stores.now.answers.places.len stores.now.answers.variant stores.now.answers.key stores.now.answers.ambiguous was }
 {
     let t = asked.table;
     let mode = asked.mode;
     if t as usize >= was.count {
         return ended(Course { done: 0, ..was }, Ending::Stopped(0));
     }
-    if flag_at(floundered, t) {
+    if flag_at(&stores.tables.floundered, t) {
         return ended(Course { done: 0, ..was }, Ending::Floundered);
     }
-    let i = index_from(
-        mode,
-        answer_next,
-        answer_tail,
-        answer_len,
-        answer_key,
-        t,
-        was.index,
-    );
+    let i = index_from(mode, &stores.answers, t, was.index);
     let c = Course {
         done: 0,
         index: i,
         ..was
     };
-    if i == wide_len(answer_len[t as usize]) {
+    if i == u64::from(stores.answers.places.len[t as usize]) {
         return push_root(asked, c);
     }
-    let stored = stored_answer(
-        answer_next,
-        answer_tail,
-        answer_len,
-        answer_variant,
-        answer_key,
-        answer_ambiguous,
-        t,
-        i,
-    );
+    let stored = stored_answer(&stores.answers, t, i);
     ended(c, stored)
 }
 
@@ -208,12 +149,8 @@ fn counted(flow: Flow, done: u64) -> u64
     ensures { result ≡ counted flow done }
 {
     match flow {
-        Flow::Continue => one_more(done),
-        Flow::ReturnOk => one_more(done),
-        Flow::NoMoreSolutions => one_more(done),
-        Flow::QuantumExceeded => one_more(done),
-        Flow::NegativeCycle => one_more(done),
         Flow::Stop(_) => done,
+        _ => one_more(done),
     }
 }
 
@@ -222,12 +159,8 @@ fn marked(flow: Flow, mark: u8) -> u8
     ensures { result ≡ marked flow mark }
 {
     match flow {
-        Flow::Continue => mark,
-        Flow::ReturnOk => mark,
-        Flow::NoMoreSolutions => mark,
-        Flow::QuantumExceeded => mark,
-        Flow::NegativeCycle => mark,
         Flow::Stop(n) => n,
+        _ => mark,
     }
 }
 
@@ -251,31 +184,13 @@ fn finish(c: Course, flow: Flow, stored: Ending) -> Course
 fn is_invalid(ending: Ending) -> bool
     ensures { result ≡ is_invalid ending }
 {
-    match ending {
-        Ending::Found(_, _) => false,
-        Ending::NoMoreSolutions => false,
-        Ending::Floundered => false,
-        Ending::QuantumExceeded => false,
-        Ending::NegativeCycle => false,
-        Ending::InvalidAnswer => true,
-        Ending::Cut => false,
-        Ending::Stopped(_) => false,
-    }
+    matches!(ending, Ending::InvalidAnswer)
 }
 
 fn is_exceeded(ending: Ending) -> bool
     ensures { result ≡ is_exceeded ending }
 {
-    match ending {
-        Ending::Found(_, _) => false,
-        Ending::NoMoreSolutions => false,
-        Ending::Floundered => false,
-        Ending::QuantumExceeded => true,
-        Ending::NegativeCycle => false,
-        Ending::InvalidAnswer => false,
-        Ending::Cut => false,
-        Ending::Stopped(_) => false,
-    }
+    matches!(ending, Ending::QuantumExceeded)
 }
 
 // An invalid answer: a peek goes on with the next index.
@@ -312,58 +227,26 @@ fn next_round(c: Course) -> Course
 fn next_search(mode: Mode, c: Course) -> Course
     ensures { result ≡ next_search mode c }
 {
-    if is_peek(mode) {
-        let ending = c.ending;
-        if is_invalid(ending) {
-            return skip_invalid(c);
-        }
-        if is_exceeded(ending) {
-            return next_round(c);
-        }
+    if is_peek(mode) && is_invalid(c.ending) {
+        return skip_invalid(c);
+    }
+    if is_peek(mode) && is_exceeded(c.ending) {
+        return next_round(c);
     }
     c
 }
 
 // The search ends by its last turn, and another one starts where the peek has one to do.
-pub fn end_search<'a>(
-    asked: Asked,
-    c: Course,
-    floundered: &'a [u8; MOST_TABLES],
-    answer_next: &'a [u8; PLACES],
-    answer_tail: &'a [u8; PLACES],
-    answer_len: &'a [u16; PLACES],
-    answer_variant: &'a [u16; PLACES],
-    answer_key: &'a [u64; PLACES],
-    answer_ambiguous: &'a [u8; PLACES],
-) -> Course
-    ensures { result ≡ end_search asked floundered.now answer_next.now answer_tail.now
-        answer_len.now answer_variant.now answer_key.now answer_ambiguous.now c }
+pub fn end_search(asked: Asked, c: Course, stores: &Stores) -> Course
+    ensures { result ≡ end_search asked stores.now.tables.floundered stores.now.answers.places.next stores.now.answers.places.tail
+        stores.now.answers.places.len stores.now.answers.variant stores.now.answers.key stores.now.answers.ambiguous c }
 {
-    let stored = stored_answer(
-        answer_next,
-        answer_tail,
-        answer_len,
-        answer_variant,
-        answer_key,
-        answer_ambiguous,
-        asked.table,
-        c.index,
-    );
+    let stored = stored_answer(&stores.answers, asked.table, c.index);
     let mode = asked.mode;
     let flow = c.flow;
     let n = next_search(mode, finish(c, flow, stored));
     if n.over {
         return n;
     }
-    start(
-        asked,
-        n,
-        floundered,
-        answer_next,
-        answer_tail,
-        answer_len,
-        answer_variant,
-        answer_key,
-        answer_ambiguous,
-    )
+    start(asked, n, stores)
 }

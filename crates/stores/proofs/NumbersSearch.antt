@@ -6,10 +6,11 @@ use mathlib.Core.Path.{◌≡◌, refl, sym, ap, ◌∙◌}
 use mathlib.Core.Bool.{Bool, true, false}
 use mathlib.Core.Option.{Option, some}
 use lib.Dec.{ltb}
-use borrow.Author.Tests.{lt-ltb, le-ltb}
+use borrow.Author.Tests.{lt-ltb, le-ltb, ltb-false}
+use Rattle.std.specs.Option.{unwrap_or}
 use Rattle.definitions.specs.Lists.{position}
 use Rattle.laws.specs.Spans.{span}
-use Rattle.stores.specs.Numbers.{first_at}
+use Rattle.stores.specs.Numbers.{first_at, found_if, found_below}
 use Rattle.stores.proofs.ListsSpans.{first_if, later}
 
 abbrev pub choose : Bool → (m n : ℕ) → ℕ
@@ -25,6 +26,14 @@ module _ (test : ℕ → Bool) where
           → (i ≤ choose b i (first_at test (suc i) n)) × (choose b i (first_at test (suc i) n) ≤ i + suc n)
       at true h = (omega arith, omega arith)
       at false h = (omega arith, omega arith)
+
+  -- as a number: n where none passes
+  pub first_or : (n : ℕ) → unwrap_or (found_below n (first_at test 0 n)) n ≡ first_at test 0 n
+  first_or n = by (ltb (first_at test 0 n) n) refl
+    where
+      by : (b : Bool) → ltb (first_at test 0 n) n ≡ b → unwrap_or (found_if b (first_at test 0 n)) n ≡ first_at test 0 n
+      by true e = refl
+      by false e = omega (arith, ltb-false (first_at test 0 n) n e, (first_bound 0 n).1)
 
   -- it stands among the first n, or is looked for at n
   pub first_more : (i n : ℕ) → (first_at test i n < i + n → first_at test i (suc n) ≡ first_at test i n)

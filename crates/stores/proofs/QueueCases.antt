@@ -11,6 +11,7 @@ use lib.ListN.{length, take, get_or, set, get_elem?, length-take}
 use lib.Seq.{get_or-take}
 use lib.Dec.{eqb, ltb}
 use borrow.Author.Tests.{lt-ltb, le-ltb, ltb-true, ne_eqb}
+use Rattle.std.specs.Prelude as code
 use Rattle.laws.proofs.Maps.{get_elem_map, get_elem_map_past}
 use Rattle.definitions.specs.Book as books
 use Rattle.definitions.specs.Strand.{SelectedSubgoal}
@@ -27,7 +28,7 @@ use Rattle.stores.specs.declared.queue.Spot.{Spot}
 use Rattle.stores.specs.declared.queue.Strands.{Strands}
 use Rattle.stores.specs.Places.{places, ring, unlinked_at, taken_if, taken, taken_place, has_one, first_of, TookPlace}
 use Rattle.stores.specs.Numbers.{waits_fresh, flag_number}
-use Rattle.stores.specs.Queue.{is_not, waits_on, waits_for, waits_of, spot_if, spot_from, TookStrand}
+use Rattle.stores.specs.Queue.{is_not, waits_on, waits_for, waits_of, spot_if, spot_from, is_found, place_found, before_found, TookStrand}
 use Rattle.stores.specs.Queue.{with_places, made_fresh, fresh_if, fresh_stored, fresh_each, store, Does}
 use Rattle.stores.proofs.ListsSpans.{ltb_suc}
 use Rattle.stores.proofs.PlacesViews.{length_ring}
@@ -62,8 +63,8 @@ waits_written x = for_no_mark (clause x).subgoals (selected x.selected)
 
 -- THE LOOP
 module _ (test : ℕ → Bool) (next : List ℕ) (n a : ℕ) (h : 0 < n) where
-  pub spot_here : test (get_or next a 0) ≡ true → spot_from test a
-      (walk n next a) ≡ record { found = true; before = a; place = get_or next a 0 }
+  pub spot_here : test (get_or next a 0) ≡ true
+      → spot_from test a (walk n next a) ≡ code.Some (record { before = a; place = get_or next a 0 })
   spot_here e =
       ap (spot_from test a) (walk_step n next a h)
       ∙ ap (λ (b : Bool). spot_if b a (get_or next a 0) (spot_from test (get_or next a 0) (walk (n - 1) next (get_or next a 0)))) e
@@ -74,90 +75,96 @@ module _ (test : ℕ → Bool) (next : List ℕ) (n a : ℕ) (h : 0 < n) where
       ap (spot_from test a) (walk_step n next a h)
       ∙ ap (λ (b : Bool). spot_if b a (get_or next a 0) (spot_from test (get_or next a 0) (walk (n - 1) next (get_or next a 0)))) e
 
-pub spot_over : (test : ℕ → Bool) (next : List ℕ) (n a : ℕ) → n ≤ 0
-    → spot_from test a (walk n next a) ≡ record { found = false; before = a; place = 0 }
+pub spot_over : (test : ℕ → Bool) (next : List ℕ) (n a : ℕ) → n ≤ 0 → spot_from test a (walk n next a) ≡ code.None
 spot_over test next n a h = let e : n ≡ 0 = omega arith in ap (λ (m : ℕ). spot_from test a (walk m next a)) e
 
 -- what is found, by where the first that passes the test stands
-abbrev spot_at : (a j : ℕ) → List ℕ → Spot
-spot_at a j l = record { found = ltb j (length l); before = end a (take j l); place = get_or l j 0 }
+abbrev pub spot_by : (there : Bool) → (before place : ℕ) → code.Option Spot
+spot_by true before place = code.Some (record { before = before; place = place })
+spot_by false before place = code.None
 
-pub spot_is : (test : ℕ → Bool) (a : ℕ) (l : List ℕ)
-    → spot_from test a l ≡ record {
-      found = ltb (first_index test l) (length l);
-      before = end a (take (first_index test l) l);
-      place = get_or l (first_index test l) 0;
-    }
+abbrev pub spot_at : (a j : ℕ) → List ℕ → code.Option Spot
+spot_at a j l = spot_by (ltb j (length l)) (end a (take j l)) (get_or l j 0)
+
+pub spot_is : (test : ℕ → Bool) (a : ℕ) (l : List ℕ) → spot_from test a l ≡ spot_at a (first_index test l) l
 spot_is test a [] = refl
 spot_is test a (x ∷ l) = step (test x) (spot_is test x l)
   where
     step : (b : Bool) → spot_from test x l ≡ spot_at x (first_index test l) l
         → spot_if b a x (spot_from test x l) ≡ spot_at a (stop b (first_index test l)) (x ∷ l)
-    step true e = ap (λ (b : Bool). record { found = b; before = a; place = x }) (sym (lt-ltb 0 (suc (length l)) (omega arith)))
+    step true e = ap (λ (b : Bool). spot_by b a x) (sym (lt-ltb 0 (suc (length l)) (omega arith)))
     step false e =
-        e ∙ ap (λ (b : Bool). record { found = b; before = end x (take (first_index test l) l); place = get_or l (first_index test l) 0 })
+        e ∙ ap (λ (b : Bool). spot_by b (end x (take (first_index test l) l)) (get_or l (first_index test l) 0))
         (sym (ltb_suc (first_index test l) (length l)))
+
+pub found_by : (b : Bool) (before place : ℕ) → is_found (spot_by b before place) ≡ b
+found_by true before place = refl
+found_by false before place = refl
+
+none_by : (b : Bool) (before place : ℕ) → spot_by b before place ≡ code.None → b ≡ false
+none_by true before place e = cc
+none_by false before place e = refl
+
+some_by : (b : Bool) (before place : ℕ) (s : Spot) → spot_by b before place ≡ code.Some s
+    → (b ≡ true) × (s.before ≡ before) × (s.place ≡ place)
+some_by true before place s e = (refl, sym (ap before_found e), sym (ap place_found e))
+some_by false before place s e = cc
 
 -- LOOKING AND THEN UNLINKING IS TAKING
 module _ (test : ℕ → Bool) (t : ℕ) (p : Places) where
-  abbrev s : Spot
-  s = spot_from test (get_or p.tail t 0) (ring p t)
+  abbrev found : code.Option Spot
+  found = spot_from test (get_or p.tail t 0) (ring p t)
 
   abbrev j : ℕ
   j = first_of test t p
 
-  looked : s ≡ spot_at (get_or p.tail t 0) j (ring p t)
+  abbrev behind : ℕ
+  behind = end (get_or p.tail t 0) (take j (ring p t))
+
+  looked : found ≡ spot_at (get_or p.tail t 0) j (ring p t)
   looked = spot_is test (get_or p.tail t 0) (ring p t)
 
-  found_is : (b : Bool) → s.found ≡ b → has_one test t p ≡ b
-  found_is b e = sym (ap (λ (x : Spot). x.found) looked) ∙ e
-
-  pub looked_none : s.found ≡ false → (256 ≡ taken_place test t p) × (p ≡ taken test t p)
+  pub looked_none : found ≡ code.None → (256 ≡ taken_place test t p) × (p ≡ taken test t p)
   looked_none e =
-      let n : has_one test t p ≡ false = found_is false e in
+      let n : has_one test t p ≡ false = none_by (has_one test t p) behind (get_or (ring p t) j 0) (sym looked ∙ e) in
       (ap (λ (b : Bool). place_if b (get_or (ring p t) j 0)) (sym n), ap (λ (b : Bool). taken_if b t j p) (sym n))
 
-  pub looked_unlinked : s.found ≡ true → (s.place ≡ taken_place test t p) × (unlinked_at t s.before p ≡ taken test t p)
-  looked_unlinked e =
-      let y : has_one test t p ≡ true = found_is true e in (
-        ap (λ (x : Spot). x.place) looked ∙ ap (λ (b : Bool). place_if b (get_or (ring p t) j 0)) (sym y),
-        ap (λ (x : Spot). unlinked_at t x.before p) looked ∙ ap (λ (b : Bool). taken_if b t j p) (sym y),
-      )
+  module _ (s : Spot) (e : found ≡ code.Some s) where
+    here : (has_one test t p ≡ true) × (s.before ≡ behind) × (s.place ≡ get_or (ring p t) j 0)
+    here = some_by (has_one test t p) behind (get_or (ring p t) j 0) s (sym looked ∙ e)
 
-  -- what is found is behind the place before it
-  pub looked_behind : s.found ≡ true → get_or p.next s.before 0 ≡ s.place
-  looked_behind e =
-      let h : j < length (ring p t) = ltb-true j (length (ring p t)) (found_is true e) in
-      ap (λ (x : Spot). get_or p.next x.before 0) looked
-      ∙ sym (walk_at (get_or p.len t 0) p.next (get_or p.tail t 0) j (omega (arith, length_ring p t)))
-      ∙ sym (ap (λ (x : Spot). x.place) looked)
+    pub looked_unlinked : (s.place ≡ taken_place test t p) × (unlinked_at t s.before p ≡ taken test t p)
+    looked_unlinked = (
+      here.2 ∙ ap (λ (b : Bool). place_if b (get_or (ring p t) j 0)) (sym here.0),
+      ap (λ (b : ℕ). unlinked_at t b p) here.1 ∙ ap (λ (b : Bool). taken_if b t j p) (sym here.0),
+    )
 
--- `take_strand` at the test's answers
-module _ (test : ℕ → Bool) (t : ℕ) (next tail len : List ℕ) (s : Spot)
-    (is : s ≡ spot_from test (get_or tail t 0) (ring_of next tail len t)) where
-  looked_at : (b : Bool) → s.found ≡ b → (spot_from test (get_or tail t 0) (ring_of next tail len t)).found ≡ b
-  looked_at b e = ap (λ (x : Spot). x.found) (sym is) ∙ e
+    -- what is found is behind the place before it
+    pub looked_behind : get_or p.next s.before 0 ≡ s.place
+    looked_behind =
+        let h : j < length (ring p t) = ltb-true j (length (ring p t)) here.0 in
+        ap (λ (b : ℕ). get_or p.next b 0) here.1
+        ∙ sym (walk_at (get_or p.len t 0) p.next (get_or p.tail t 0) j (omega (arith, length_ring p t)))
+        ∙ sym here.2
 
-  pub strand_none : s.found ≡ false → TookStrand test t next tail len next tail len 256
+-- `take_strand` at the answers of looking
+module _ (test : ℕ → Bool) (t : ℕ) (next tail len : List ℕ) where
+  pub strand_none : code.None ≡ spot_from test (get_or tail t 0) (ring_of next tail len t)
+      → TookStrand test t next tail len next tail len 256
   strand_none e =
       let none : (top : ℕ) → (256 ≡ taken_place test t (places next tail len top))
       × (places next tail len top ≡ taken test t (places next tail len top)) =
-      λ top. looked_none test t (places next tail len top) (looked_at false e) in
+      λ top. looked_none test t (places next tail len top) (sym e) in
       record { is = (none 0).0; left = λ top. (none top).1 }
 
-  pub strand_taken : s.found ≡ true → (next' tail' len' : List ℕ) (r : ℕ) → r ≡ get_or next s.before 0 → next' ≡ unlinked next s.before
-      → tail' ≡ set tail t s.before → len' ≡ shortened len t → TookStrand test t next tail len next' tail' len' r
-  strand_taken e next' tail' len' r er en et el =
-      let found = looked_at true e in
-      let before : s.before ≡ (spot_from test (get_or tail t 0) (ring_of next tail len t)).before = ap (λ (x : Spot). x.before) is in
-      record {
-        is = er ∙ ap (λ (b : ℕ). get_or next b 0) before ∙ looked_behind test t (places next tail len 0) found
-            ∙ (looked_unlinked test t (places next tail len 0) found).0;
-        left = λ top. places_is next' (unlinked next s.before) tail' (set tail t s.before) len'
-            (shortened len t) top top en et el refl
-            ∙ ap (λ (b : ℕ). unlinked_at t b (places next tail len top)) before
-            ∙ (looked_unlinked test t (places next tail len top) found).1;
-      }
+  pub strand_taken : (s : Spot) → code.Some s ≡ spot_from test (get_or tail t 0) (ring_of next tail len t)
+      → (next' tail' len' : List ℕ) → next' ≡ unlinked next s.before
+      → tail' ≡ set tail t s.before → len' ≡ shortened len t → TookStrand test t next tail len next' tail' len' s.place
+  strand_taken s e next' tail' len' en et el = record {
+    is = (looked_unlinked test t (places next tail len 0) s (sym e)).0;
+    left = λ top. places_is next' (unlinked next s.before) tail' (set tail t s.before) len' (shortened len t) top top en et el refl
+        ∙ (looked_unlinked test t (places next tail len top) s (sym e)).1;
+  }
 
 -- A FRESH PLACE, by what `take_place` found
 module _ (t c v f : ℕ) (time ambiguous variant waits wants next tail len : List ℕ) (top : ℕ) (n' l' : List ℕ) (m' q : ℕ)
@@ -189,11 +196,12 @@ module _ (t c v f : ℕ) (time ambiguous variant waits wants next tail len : Lis
 
 -- THE LOOP over clauses
 module _ (variants flags : List ℕ) (t : ℕ) where
-  pub fresh_step : (left c : ℕ) (s s'' : Strands) → 0 < left → s'' ≡ fresh_stored t c (get_or variants c 0) (get_or flags c 0) s
-      → fresh_each variants flags t (left - 1) (c + 1) s'' ≡ fresh_each variants flags t left c s
-  fresh_step zero c s s'' h e = absurd (omega arith)
-  fresh_step (suc left) c s s'' h e =
-      let less : suc left - 1 ≡ left = omega arith in
+  pub fresh_step : (left m c : ℕ) (s s'' : Strands) → 0 < left → m ≡ left - 1
+      → s'' ≡ fresh_stored t c (get_or variants c 0) (get_or flags c 0) s
+      → fresh_each variants flags t m (c + 1) s'' ≡ fresh_each variants flags t left c s
+  fresh_step zero m c s s'' h on e = absurd (omega arith)
+  fresh_step (suc left) m c s s'' h on e =
+      let less : m ≡ left = omega arith in
       ap₂ (λ (m d : ℕ). fresh_each variants flags t m d s'') less (add-one c) ∙ ap (fresh_each variants flags t left (suc c)) e
 
   pub fresh_over : (left c : ℕ) (s : Strands) → left ≤ 0 → fresh_each variants flags t left c s ≡ s

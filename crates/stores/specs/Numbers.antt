@@ -1,5 +1,5 @@
 -- What belongs to no store: flags as numbers, a write or none, and the first of some numbers that passes a test.
-use Rattle.std.specs.Prelude.{ℕ, zero, suc, ◌+◌, min, Bool, true, false, not, ◌&&◌, List, get_or, set, eqb, ltb}
+use Rattle.std.specs.Prelude.{ℕ, zero, suc, ◌+◌, min, Bool, true, false, not, ◌&&◌, List, get_or, set, eqb, ltb, Option, Some, None}
 use Rattle.sizes.specs.Limits.{most_tables}
 
 -- what a strand waits on is a table, raised by this for a "not", or nothing
@@ -54,6 +54,14 @@ within n = min n most_tables
 abbrev pub first_at : (ℕ → Bool) → (i n : ℕ) → ℕ
 first_at test i zero = i
 first_at test i (suc n) = elim (test i) [ true ↦ i | false ↦ first_at test (suc i) n ]
+
+-- an index below n, or none
+abbrev pub found_if : Bool → (i : ℕ) → Option ℕ
+found_if true i = Some i
+found_if false i = None
+
+abbrev pub found_below : (n i : ℕ) → Option ℕ
+found_below n i = found_if (ltb i n) i
 
 -- n numbers from i on pass the test
 abbrev pub all_from : (ℕ → Bool) → (i n : ℕ) → Bool

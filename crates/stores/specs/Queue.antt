@@ -22,6 +22,7 @@ use Rattle.std.specs.Prelude.{
   eqb,
   ltb,
 }
+use Rattle.std.specs.Prelude as code
 use Rattle.std.proofs.Math.Option.{Option, none, some}
 use Rattle.std.proofs.Math.ListN.{get_elem?}
 use Rattle.definitions.specs.Book as books
@@ -120,13 +121,26 @@ abbrev pub eligible : (time ambiguous : List ℕ) → (clock : ℕ) → (complet
 eligible time ambiguous clock complete p = eligible_at (get_or time p 0) (get_or ambiguous p 0) clock complete
 
 -- `find_strand`: the first of a list of places that passes the test, and the place before it, where a is before the list
-abbrev pub spot_if : Bool → (a x : ℕ) → Spot → Spot
-spot_if true a x s = record { found = true; before = a; place = x }
+abbrev pub spot_if : Bool → (a x : ℕ) → code.Option Spot → code.Option Spot
+spot_if true a x s = code.Some (record { before = a; place = x })
 spot_if false a x s = s
 
-abbrev pub spot_from : (ℕ → Bool) → ℕ → List ℕ → Spot
-spot_from test a [] = record { found = false; before = a; place = 0 }
+abbrev pub spot_from : (ℕ → Bool) → ℕ → List ℕ → code.Option Spot
+spot_from test a [] = code.None
 spot_from test a (x ∷ l) = spot_if (test x) a x (spot_from test x l)
+
+-- whether a place was found, and its numbers; 0 where none was
+abbrev pub is_found : code.Option Spot → Bool
+is_found code.None = false
+is_found (code.Some s) = true
+
+abbrev pub place_found : code.Option Spot → ℕ
+place_found code.None = 0
+place_found (code.Some s) = s.place
+
+abbrev pub before_found : code.Option Spot → ℕ
+before_found code.None = 0
+before_found (code.Some s) = s.before
 
 -- `take_strand`: what it gives, and what it leaves, wherever the places that were never used begin
 pub record TookStrand (test : ℕ → Bool) (t : ℕ) (next tail len next' tail' len' : List ℕ) (r : ℕ) : Type 0 where

@@ -8,3 +8,15 @@ pub mod queue; // queue.rt: the queues of strands
 pub mod table; // table.rt: a table's answers
 pub mod tables; // tables.rt: the tables' own numbers
 pub mod stack; // stack.rt: the stack's entries
+
+use crate::queue::Strands;
+use crate::table::Answers;
+use crate::tables::Tables;
+
+// What a forest keeps beside its book: the tables, the strands and the answers.
+#[derive(Clone, Copy)]
+pub struct Stores {
+    pub tables: Tables,
+    pub strands: Strands,
+    pub answers: Answers,
+}

@@ -1,7 +1,7 @@
 // Places of a store: a free one is found here, and one by the numbers that stand beside it; the rings' own operations are in the crate
 // `rings`.
 ghost use Rattle.std.specs.Prelude.{◌≡◌, ◌&&◌, ◌-◌, ◌<◌, drop, get_or, eqb};
-ghost use Rattle.rings.specs.Rings.{ring_of};
+ghost use Rattle.rings.specs.Rings.{ring_of, place_number};
 ghost use Rattle.stores.specs.Numbers.{free};
 ghost use Rattle.stores.specs.Places.{TookPlace, numbered_by, numbered, found_in, blank_places};
 
@@ -30,15 +30,15 @@ pub fn blank_places() -> Places
     }
 }
 
-// A place that was used and is free again, else one that was never used; 256 where all are in use.
+// A place that was used and is free again, else one that was never used; none where all are in use.
 pub fn take_place(
     next: &mut [u8; PLACES],
     tail: &[u8; PLACES],
     len: &mut [u16; PLACES],
     top: &mut u16,
-) -> usize
+) -> Option<u8>
     ensures { TookPlace next.old tail.now len.old top.old
-        next.new len.new top.new result }
+        next.new len.new top.new (place_number result) }
 {
     if len[FREE as usize] > 0 {
         return ring_pop(next, tail, len, FREE);
@@ -46,43 +46,26 @@ pub fn take_place(
     let t = *top;
     if t < NO_PLACE {
         *top = t + 1;
-        return t as usize;
+        return Some(t as u8);
     }
-    PLACES
+    None
 }
 
 // How many places are in use: they wait in a table's ring, or are held.
 pub fn in_use(len: &[u16; PLACES], top: u16) -> u16
     ensures { result ≡ top - get_or len.now free 0 }
 {
-    let free = len[FREE as usize];
-    if free < top { top - free } else { 0 }
-}
-
-fn less(n: usize) -> usize
-    ensures { result ≡ n - 1 }
-{
-    if n > 0 { n - 1 } else { 0 }
+    top.saturating_sub(len[FREE as usize])
 }
 
 // Whether the numbers beside a place are those looked for, once none is to be passed over.
 fn hit(skip: usize, by_key: bool, variant: u16, v: u16, key: u64, k: u64) -> bool
     ensures { result ≡ eqb skip 0 && numbered_by by_key variant v key k }
 {
-    if skip > 0 {
-        return false;
-    }
-    if variant != v {
-        return false;
-    }
-    if by_key {
-        return key == k;
-    }
-    true
+    skip == 0 && variant == v && (!by_key || key == k)
 }
 
-// The first place of the table's ring, from an index on, whose variant is v and, where keys are looked for, whose key is k; 256 where
-// there is none.
+// The first place of the table's ring, from an index on, whose variant is v and, where keys are looked for, whose key is k.
 pub fn find_number(
     next: &[u8; PLACES],
     tail: &[u8; PLACES],
@@ -94,22 +77,20 @@ pub fn find_number(
     key: &[u64; PLACES],
     k: u64,
     by_key: bool,
-) -> usize
-    ensures { result ≡ found_in (numbered by_key variant.now v key.now k)
+) -> Option<u8>
+    ensures { place_number result ≡ found_in (numbered by_key variant.now v key.now k)
         (drop from (ring_of next.now tail.now len.now t)) }
 {
     let mut prev = tail[t as usize];
-    let mut left = len[t as usize];
     let mut skip = from;
-    while left > 0 {
+    for _step in 0..len[t as usize] {
         let p = next[wide(prev)];
         let q = wide(p);
         if hit(skip, by_key, variant[q], v, key[q], k) {
-            return q;
+            return Some(p);
         }
-        skip = less(skip);
+        skip = skip.saturating_sub(1);
         prev = p;
-        left = left - 1;
     }
-    PLACES
+    None
 }

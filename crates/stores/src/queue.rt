@@ -4,7 +4,7 @@ ghost use Rattle.std.specs.Prelude.{◌≡◌, false, map, ◌<◌, take, get_or
 ghost use Rattle.std.proofs.Math.ListN.{get_elem?};
 ghost use Rattle.book.specs.View.{meant};
 ghost use Rattle.sizes.specs.Limits.{most_tables, most_places};
-ghost use Rattle.rings.specs.Rings.{ring_of};
+ghost use Rattle.rings.specs.Rings.{ring_of, place_number};
 ghost use Rattle.stores.specs.Numbers.{flag_number};
 ghost use Rattle.stores.specs.Places.{places, numbered, found_in};
 ghost use Rattle.stores.specs.Queue.{is_not, waits_on, waits_of, wants_of, eligible_at, eligible, spot_from, TookStrand};
@@ -16,6 +16,7 @@ use book::Literal;
 use rings::{ring_enqueue, ring_unlink};
 use sizes::{MOST_CLAUSES, MOST_LITERALS, MOST_TABLES, PLACES, wide};
 use strands::literals::is_negative;
+use strands::making::blank;
 use strands::{Selected, Strand};
 
 // The strands by place, and the numbers beside them: `time` is when a strand was last pursued, which stands nowhere else, `waits` what it
@@ -36,26 +37,7 @@ pub struct Strands {
 pub fn blank_strands() -> Strands
     ensures { result ≡ blank_strands }
 {
-    let l = Literal {
-        goal: 0,
-        kind: 0,
-        want: 0,
-        high: 0,
-    };
-    let b = Strand {
-        variant: 0,
-        outsized: false,
-        ambiguous: false,
-        answer_time: 0,
-        literal_count: 0,
-        floundered_count: 0,
-        delayed_count: 0,
-        literals: [l; MOST_LITERALS],
-        floundered: [l; MOST_LITERALS],
-        floundered_time: [0; MOST_LITERALS],
-        delayed: [0; MOST_LITERALS],
-        selected: Selected::Nothing,
-    };
+    let b = blank();
     let p = blank_places();
     Strands {
         strands: [b; PLACES],
@@ -177,26 +159,22 @@ fn fresh_place(
         (λ strands. store strands time.new ambiguous.new variant.new waits.new
         wants.new (places next.new tail.new len.new top.new)) }
 {
-    let q = take_place(next, tail, len, top);
-    if q >= PLACES {
+    let Some(p) = take_place(next, tail, len, top) else {
         return;
-    }
+    };
+    let q = wide(p);
     time[q] = 0;
     ambiguous[q] = flag_of(flags % 2 == 1);
     variant[q] = v;
     waits[q] = WAITS_FRESH;
     wants[q] = c;
-    ring_enqueue(next, tail, len, t, q as u8);
+    ring_enqueue(next, tail, len, t, p);
 }
 
 fn clauses_from(first: usize, count: usize) -> usize
     ensures { result ≡ clauses_from first count }
 {
-    if first >= MOST_CLAUSES {
-        return 0;
-    }
-    let room = MOST_CLAUSES - first;
-    if count < room { count } else { room }
+    count.min(MOST_CLAUSES.saturating_sub(first))
 }
 
 // The places of a new table: one for each of its clauses, whose variants and flags (bit 0 "cannot prove") are lent. No strand is written:
@@ -223,9 +201,7 @@ pub fn fresh_places(
         (λ strands. store strands time.new ambiguous.new variant.new waits.new
         wants.new (places next.new tail.new len.new top.new)) }
 {
-    let mut c = first;
-    let mut left = clauses_from(first, count);
-    while left > 0 {
+    for c in first..first + clauses_from(first, count) {
         fresh_place(
             next,
             tail,
@@ -241,15 +217,12 @@ pub fn fresh_places(
             clause_variant[c],
             clause_flags[c],
         );
-        c = c + 1;
-        left = left - 1;
     }
 }
 
-// Where looking along a queue came to: whether a strand is eligible, its place, and the place before it in the ring.
+// What looking along a queue finds: the place of a strand that is eligible, and the place before it in the ring.
 #[derive(Clone, Copy)]
 pub struct Spot {
-    pub found: bool,
     pub before: u8,
     pub place: u8,
 }
@@ -257,13 +230,7 @@ pub struct Spot {
 fn may_take(time: u64, ambiguous: u8, clock: u64, complete: bool) -> bool
     ensures { result ≡ eligible_at time ambiguous clock complete }
 {
-    if time >= clock {
-        return false;
-    }
-    if complete {
-        return ambiguous == 0;
-    }
-    true
+    time < clock && (!complete || ambiguous == 0)
 }
 
 // The search of `dequeue_next_strand_that`: the first strand of the table's queue that is eligible, one that was pursued before the
@@ -278,33 +245,26 @@ pub fn find_strand(
     ambiguous: &[u8; PLACES],
     clock: u64,
     complete: bool,
-) -> Spot
+) -> Option<Spot>
     ensures { result ≡ spot_from (eligible time.now ambiguous.now clock complete)
         (get_or tail.now t 0) (ring_of next.now tail.now len.now t) }
 {
     let mut prev = tail[t as usize];
-    let mut left = len[t as usize];
-    while left > 0 {
+    for _step in 0..len[t as usize] {
         let p = next[wide(prev)];
         let k = wide(p);
         if may_take(time[k], ambiguous[k], clock, complete) {
-            return Spot {
-                found: true,
+            return Some(Spot {
                 before: prev,
                 place: p,
-            };
+            });
         }
         prev = p;
-        left = left - 1;
     }
-    Spot {
-        found: false,
-        before: prev,
-        place: 0,
-    }
+    None
 }
 
-// `dequeue_next_strand_that`: the place of the first eligible strand, which is in no queue from now on; 256 where there is none.
+// `dequeue_next_strand_that`: the place of the first eligible strand, which is in no queue from now on.
 pub fn take_strand(
     next: &mut [u8; PLACES],
     tail: &mut [u8; PLACES],
@@ -314,15 +274,13 @@ pub fn take_strand(
     ambiguous: &[u8; PLACES],
     clock: u64,
     complete: bool,
-) -> usize
+) -> Option<u8>
     ensures { TookStrand (eligible time.now ambiguous.now clock complete) t
-        next.old tail.old len.old next.new tail.new len.new result }
+        next.old tail.old len.old next.new tail.new len.new (place_number result) }
 {
-    let s = find_strand(next, tail, len, t, time, ambiguous, clock, complete);
-    if s.found {
-        return ring_unlink(next, tail, len, t, s.before);
-    }
-    PLACES
+    let s = find_strand(next, tail, len, t, time, ambiguous, clock, complete)?;
+    ring_unlink(next, tail, len, t, s.before);
+    Some(s.place)
 }
 
 // The test of `any_future_answer` over the queue. No key is looked for, and the times stand in for keys.
@@ -338,5 +296,5 @@ pub fn any_strand<'a>(
     ensures { result ≡ ltb (found_in (numbered false variant.now v time.now 0)
         (ring_of next.now tail.now len.now t)) most_places }
 {
-    find_number(next, tail, len, t, 0, variant, v, time, 0, false) < PLACES
+    find_number(next, tail, len, t, 0, variant, v, time, 0, false).is_some()
 }

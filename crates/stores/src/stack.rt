@@ -67,7 +67,7 @@ pub fn push_entry(
 pub fn pop(depth: usize) -> usize
     ensures { result ≡ depth - 1 }
 {
-    if depth > 0 { depth - 1 } else { 0 }
+    depth.saturating_sub(1)
 }
 
 // The place of the strand of the caller, the entry below the top: 256 where there is no caller or no strand.
@@ -133,12 +133,8 @@ pub fn coinductive_from(
 ) -> bool
     ensures { result ≡ all_from (coinductive_at table.now coinductive.now) from (within depth - from) }
 {
-    let m = upto(depth);
-    let mut i = from;
-    while i < m {
-        if flag_at(coinductive, table[i]) {
-            i = i + 1;
-        } else {
+    for i in from..upto(depth) {
+        if !flag_at(coinductive, table[i]) {
             return false;
         }
     }

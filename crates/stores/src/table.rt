@@ -3,7 +3,7 @@
 // and strands.
 ghost use Rattle.std.specs.Prelude.{◌≡◌, true, false, ◌+◌, ◌*◌, ◌%◌, ◌<◌, drop, get_or, set, ltb};
 ghost use Rattle.sizes.specs.Limits.{most_places};
-ghost use Rattle.rings.specs.Rings.{ring_of, RingMove};
+ghost use Rattle.rings.specs.Rings.{ring_of, place_number, RingMove};
 ghost use Rattle.strands.specs.View.{answer};
 ghost use Rattle.stores.specs.Numbers.{free, flag_number, written_at};
 ghost use Rattle.stores.specs.Places.{numbered, found_in};
@@ -12,7 +12,8 @@ ghost use Rattle.stores.specs.Table.{key_of, repeated_of, AnswerPushed, blank_an
 use crate::numbers::{FREE, flag_of, set_flag};
 use crate::places::{Places, blank_places, find_number, take_place};
 use rings::{ring_enqueue, ring_move};
-use sizes::{MOST_LITERALS, MOST_TABLES, PLACES};
+use sizes::{MOST_TABLES, PLACES, wide};
+use strands::answers::blank_answer;
 use strands::{Answer, within};
 
 // The answers by place, and the numbers beside them: `key` is a number for the list of delayed goals.
@@ -29,12 +30,7 @@ pub struct Answers {
 pub fn blank_answers() -> Answers
     ensures { result ≡ blank_answers }
 {
-    let b = Answer {
-        variant: 0,
-        ambiguous: false,
-        delayed_count: 0,
-        delayed: [0; MOST_LITERALS],
-    };
+    let b = blank_answer();
     let p = blank_places();
     Answers {
         answers: [b; PLACES],
@@ -50,12 +46,9 @@ pub fn blank_answers() -> Answers
 pub fn key_of(x: Answer) -> u64
     ensures { result ≡ key_of (answer x).delayed_subgoals }
 {
-    let goals = x.delayed;
-    let mut i = within(x.delayed_count);
     let mut k: u64 = 0;
-    while i > 0 {
-        i = i - 1;
-        k = k * 128 + digit(goals[i]);
+    for i in (0..within(x.delayed_count)).rev() {
+        k = k * 128 + digit(x.delayed[i]);
     }
     k
 }
@@ -91,7 +84,7 @@ pub fn answer_count(len: &[u16; PLACES], t: u8) -> u16
     len[t as usize]
 }
 
-// The search of `push_answer` by variant and delayed goals: the place of the first answer that is the same, or 256.
+// The search of `push_answer` by variant and delayed goals: the place of the first answer that is the same.
 pub fn find_answer(
     next: &[u8; PLACES],
     tail: &[u8; PLACES],
@@ -100,8 +93,8 @@ pub fn find_answer(
     variant: &[u16; PLACES],
     key: &[u64; PLACES],
     x: Answer,
-) -> usize
-    ensures { result ≡ found_in
+) -> Option<u8>
+    ensures { place_number result ≡ found_in
         (numbered true variant.now x.variant key.now (key_of (answer x).delayed_subgoals))
         (ring_of next.now tail.now len.now t) }
 {
@@ -144,29 +137,24 @@ pub fn push_answer(
         next.old tail.old len.old top.old t x
         next.new tail.new len.new top.new result }
 {
-    let p = find_answer(next, tail, len, t, variant, key, x);
-    if p < PLACES {
-        return repeated(ambiguous[p] != 0, x.ambiguous);
+    if let Some(p) = find_answer(next, tail, len, t, variant, key, x) {
+        return repeated(ambiguous[wide(p)] != 0, x.ambiguous);
     }
-    let q = take_place(next, tail, len, top);
-    if q >= PLACES {
+    let Some(q) = take_place(next, tail, len, top) else {
         return PushAnswer::Stop(23);
-    }
-    let k = q as u8;
-    ring_enqueue(next, tail, len, t, k);
-    PushAnswer::New(k)
+    };
+    ring_enqueue(next, tail, len, t, q);
+    PushAnswer::New(q)
 }
 
 fn repeated(was: bool, is: bool) -> PushAnswer
     ensures { result ≡ repeated_of was is }
 {
-    if was {
-        if is {
-            return PushAnswer::Repeat;
-        }
-        return PushAnswer::Stop(26);
+    if was && !is {
+        PushAnswer::Stop(26)
+    } else {
+        PushAnswer::Repeat
     }
-    PushAnswer::Repeat
 }
 
 // The test of `any_future_answer` over the answers from an index on.
@@ -183,7 +171,7 @@ pub fn any_answer<'a>(
     ensures { result ≡ ltb (found_in (numbered false variant.now v key.now 0)
         (drop from (ring_of next.now tail.now len.now t))) most_places }
 {
-    find_number(next, tail, len, t, from, variant, v, key, 0, false) < PLACES
+    find_number(next, tail, len, t, from, variant, v, key, 0, false).is_some()
 }
 
 // `mark_floundered`: the flag, and the places of the table's queue and of its answers, which are free again.

@@ -3,7 +3,7 @@ ghost use Rattle.std.specs.Prelude.{◌≡◌, get_or, eqb};
 ghost use Rattle.stores.specs.Numbers.{count_after, flag_number, written_at, first_at, within};
 ghost use Rattle.stores.specs.Tables.{table_goal_at, blank_tables};
 
-use crate::numbers::{first_of, flag_of};
+use crate::numbers::{first_of, flag_of, upto};
 use sizes::MOST_TABLES;
 
 // The tables' own numbers; a flag is 0 or 1. `complete` is the answer mode.
@@ -28,11 +28,12 @@ pub fn blank_tables() -> Tables
     }
 }
 
-// `index_of`: the table of a goal; the count where it has none.
+// `index_of`: the table of a goal; the count where it has none. It stays a number: `opens` of crate `batch` says what comes of a count
+// above 64.
 pub fn index_of(goal: &[u8; MOST_TABLES], count: usize, g: u8) -> usize
     ensures { result ≡ first_at (λ i. eqb (get_or goal.now i 0) g) 0 (within count) }
 {
-    first_of(goal, count, g)
+    first_of(goal, count, g).unwrap_or(upto(count))
 }
 
 // `insert`, with the flags of the new table, whose answer mode is complete: the count that it leaves; the same count where there are 64.
@@ -67,8 +68,5 @@ pub fn goal_at(goal: &[u8; MOST_TABLES], t: u8) -> u8
     ensures { result ≡ table_goal_at t goal.now }
 {
     let i = t as usize;
-    if i >= MOST_TABLES {
-        return 0;
-    }
-    goal[i]
+    if i < MOST_TABLES { goal[i] } else { 0 }
 }

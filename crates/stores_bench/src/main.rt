@@ -3,13 +3,14 @@
 #![tactic(auto)]
 
 ghost use Rattle.std.specs.Prelude.{◌<◌};
+ghost use Rattle.std.specs.Counts.{IsPrefixLen};
 
 use book::desk::desk;
 use book::reader::read;
-use book::{Book, Reading};
+use book::{Book, Refusal};
 use intake::input;
-use paper_checks::Profile;
 use paper_checks::levels::levels;
+use paper_checks::{LeastLevels, Unlevelled};
 use rings::{ring_at, ring_enqueue};
 use sizes::{PLACES, READ_AHEAD};
 use std::env::FillError;
@@ -27,6 +28,14 @@ fn small(x: usize) -> u8
     if x < 256 { x as u8 } else { 0 }
 }
 
+// A place, or 256 for none.
+fn number(place: Option<u8>) -> usize {
+    match place {
+        Some(p) => p as usize,
+        None => PLACES,
+    }
+}
+
 // That many places wait in ring 0.
 fn filled(live: usize) -> Places {
     let p = blank_places();
@@ -34,11 +43,9 @@ fn filled(live: usize) -> Places {
     let mut tail = p.tail;
     let mut len = p.len;
     let mut top = p.top;
-    let mut i: usize = 0;
-    while i < live {
-        let q = take_place(&mut next, &tail, &mut len, &mut top);
-        ring_enqueue(&mut next, &mut tail, &mut len, 0, small(q));
-        i = i + 1;
+    for _i in 0..live {
+        let q = take_place(&mut next, &tail, &mut len, &mut top).unwrap_or(0);
+        ring_enqueue(&mut next, &mut tail, &mut len, 0, q);
     }
     Places {
         next,
@@ -56,14 +63,12 @@ fn places(live: usize, turns: usize) -> usize {
     let mut len = p.len;
     let mut top = p.top;
     let mut held = take_place(&mut next, &tail, &mut len, &mut top);
-    let mut i: usize = 0;
-    while i < turns {
+    for _i in 0..turns {
         let q = take_place(&mut next, &tail, &mut len, &mut top);
-        ring_enqueue(&mut next, &mut tail, &mut len, 64, small(held));
+        ring_enqueue(&mut next, &mut tail, &mut len, 64, held.unwrap_or(0));
         held = q;
-        i = i + 1;
     }
-    held
+    number(held)
 }
 
 // The first eligible strand is taken from the queue and goes to its end.
@@ -75,14 +80,12 @@ fn queue(live: usize, turns: usize) -> usize {
     let time = [0u64; PLACES];
     let ambiguous = [0u8; PLACES];
     let mut last: usize = 0;
-    let mut i: usize = 0;
-    while i < turns {
+    for _i in 0..turns {
         let q = take_strand(
             &mut next, &mut tail, &mut len, 0, &time, &ambiguous, 1, true,
         );
-        ring_enqueue(&mut next, &mut tail, &mut len, 0, small(q));
-        last = q;
-        i = i + 1;
+        ring_enqueue(&mut next, &mut tail, &mut len, 0, q.unwrap_or(0));
+        last = number(q);
     }
     last
 }
@@ -96,12 +99,10 @@ fn search(live: usize, turns: usize) -> usize {
     let time = [7u64; PLACES];
     let ambiguous = [0u8; PLACES];
     let mut last: usize = 0;
-    let mut i: usize = 0;
-    while i < turns {
-        last = take_strand(
+    for _i in 0..turns {
+        last = number(take_strand(
             &mut next, &mut tail, &mut len, 0, &time, &ambiguous, 1, true,
-        );
-        i = i + 1;
+        ));
     }
     last
 }
@@ -117,18 +118,16 @@ fn turns_of(live: usize, turns: usize) -> u16 {
     let time = [0u64; PLACES];
     let ambiguous = [0u8; PLACES];
     let mut last: u16 = 0;
-    let mut i: usize = 0;
-    while i < turns {
+    for _i in 0..turns {
         let q = take_strand(
             &mut next, &mut tail, &mut len, 0, &time, &ambiguous, 1, true,
         );
-        let k = small(q);
+        let k = q.unwrap_or(0);
         let mut x = strands[k as usize];
         x.variant = last;
         strands[k as usize] = x;
         ring_enqueue(&mut next, &mut tail, &mut len, 0, k);
         last = other(last);
-        i = i + 1;
     }
     last
 }
@@ -145,11 +144,9 @@ fn lookup(live: usize, first: u16, turns: usize) -> usize {
     let len = p.len;
     let mut index = first;
     let mut sum: usize = 0;
-    let mut i: usize = 0;
-    while i < turns {
-        sum = sum ^ ring_at(&next, &tail, &len, 0, index);
+    for _i in 0..turns {
+        sum = sum ^ number(ring_at(&next, &tail, &len, 0, index));
         index = flipped(index, first);
-        i = i + 1;
     }
     sum
 }
@@ -188,9 +185,7 @@ fn pushes(live: u16, turns: usize) -> usize {
     let mut top = p.top;
     let mut last: usize = 0;
     let mut n: u16 = 0;
-    let mut i: usize = 0;
-    while i < turns {
-        i = i + 1;
+    for _i in 0..turns {
         let x = answer(n);
         last = place_of(push_answer(
             &mut next, &mut tail, &mut len, &mut top, 0, &variant, &key, &ambiguous, x,
@@ -209,62 +204,69 @@ fn following(n: u16, live: u16) -> u16 {
 }
 
 // Of each array of a book one number, so that none of what was read goes unused.
-fn of_literals(b: Book, k: usize) -> usize {
+fn of_literals(b: &Book, k: usize) -> usize {
     let i = k % 2048;
     b.literal_kind[i] as usize ^ b.literal_goal[i] as usize ^ b.literal_want[i] as usize
 }
 
-fn of_clauses(b: Book, k: usize) -> usize {
+fn of_clauses(b: &Book, k: usize) -> usize {
     let c = k % 256;
     b.clause_variant[c] as usize ^ b.clause_flags[c] as usize ^ b.clause_len[c] as usize
 }
 
-fn of_goals(b: Book, k: usize) -> usize {
+fn of_goals(b: &Book, k: usize) -> usize {
     let g = k % 64;
     b.goal_first[g] as usize ^ b.goal_len[g] as usize ^ b.goal_flags[g] as usize
 }
 
-fn tally(r: Reading, k: usize) -> usize {
-    let b = r.book;
-    of_literals(b, k) ^ of_clauses(b, k) ^ of_goals(b, k) ^ r.number as usize
+fn tally(reading: Result<Book, Refusal>, k: usize) -> usize {
+    match reading {
+        Ok(b) => of_literals(&b, k) ^ of_clauses(&b, k) ^ of_goals(&b, k),
+        Err(e) => u8::from(e) as usize,
+    }
 }
 
-fn reading(bytes: &[u8], at_desk: bool) -> Reading {
-    if at_desk {
-        return desk(bytes);
+fn reading(bytes: &[u8], at_desk: bool) -> Result<Book, Refusal> {
+    if at_desk { desk(bytes) } else { read(bytes) }
+}
+
+// How much of standard input there is; where it breaks off, what came before.
+fn taken(from: &mut Stdin, bytes: &mut [u8]) -> usize
+    ensures { IsPrefixLen result bytes.new }
+{
+    match input(from, bytes) {
+        Ok(count) => count,
+        Err(e) => e.count,
     }
-    read(bytes)
 }
 
 // The book of standard input is read, by the old entry or at the desk.
 fn readings(mut from: Stdin, at_desk: bool, turns: usize) -> usize {
     let mut bytes = [0u8; READ_AHEAD];
-    let got = input(&mut from, &mut bytes);
-    let n = got.count;
+    let n = taken(&mut from, &mut bytes);
     let mut last: usize = 0;
-    let mut i: usize = 0;
-    while i < turns {
+    for _ in 0..turns {
         last = tally(reading(&bytes[..n], at_desk), last);
-        i = i + 1;
     }
     last
 }
 
-fn of_profile(p: Profile, k: usize) -> usize {
+fn of_levels(found: Result<LeastLevels, Unlevelled>, k: usize) -> usize {
     let g = k % 64;
-    p.levels[g] as usize ^ p.on_cycle[g] as usize ^ p.number as usize ^ p.goals
+    match found {
+        Ok(l) => l.levels[g] as usize ^ l.goals,
+        Err(Unlevelled::Refused(e)) => u8::from(e) as usize,
+        Err(Unlevelled::OnCycles(marks)) => marks[g] as usize ^ 38,
+    }
 }
 
 // The book of standard input is checked: plain, levelled.
 fn profiles(mut from: Stdin, turns: usize) -> usize {
     let mut bytes = [0u8; READ_AHEAD];
-    let got = input(&mut from, &mut bytes);
-    let n = got.count;
+    let n = taken(&mut from, &mut bytes);
     let mut last: usize = 0;
-    let mut i: usize = 0;
-    while i < turns {
-        last = of_profile(levels(&bytes[..n]), last);
-        i = i + 1;
+    for _ in 0..turns {
+        last = of_levels(levels(&bytes[..n]), last);
     }
     last
 }

@@ -7,7 +7,8 @@ use mathlib.Core.List.{List}
 use lib.ListN.{set}
 use lib.Dec.{ltb}
 use borrow.Author.Tests.{lt-ltb, le-ltb}
-use Rattle.rings.specs.Rings.{linked, lengthened, RingMove}
+use Rattle.std.specs.Prelude.{Option}
+use Rattle.rings.specs.Rings.{place_number, linked, lengthened, RingMove}
 use Rattle.strands.specs.declared.Answer.{Answer}
 use Rattle.strands.specs.declared.Strand.{Strand}
 use Rattle.stores.specs.declared.places.Places.{Places}
@@ -38,8 +39,8 @@ module _ (s : Strands) (t time : ℕ) (x : Strand) (n' l' : List ℕ) (m' q : �
       ∙ ap (λ (r : Strands). record { done = true; strands = r }) (stored_is s t time x n' l' m' q took n'' t'' l'' en et el)
       ∙ put_by true (lt-ltb q 256 h)
 
-pub take_of : (s : Strands) (t clock : ℕ) (n' t' l' : List ℕ) (r : ℕ)
-    → TookStrand (test_at clock false s) t s.places.next s.places.tail s.places.len n' t' l' r
+pub take_of : (s : Strands) (t clock : ℕ) (n' t' l' : List ℕ) (r : Option ℕ)
+    → TookStrand (test_at clock false s) t s.places.next s.places.tail s.places.len n' t' l' (place_number r)
     → Takes s t clock (record { place = r; strands = with_places s (places n' t' l' s.places.top) })
 take_of s t clock n' t' l' r did = record { place = did.is; is = ap (with_places s) (did.left s.places.top) }
 

@@ -2,6 +2,7 @@
 use Rattle.std.specs.Prelude.{ℕ, ◌≡◌, Bool, true, false, ltb}
 use Rattle.strands.specs.declared.Answer.{Answer}
 use Rattle.strands.specs.declared.Strand.{Strand}
+use Rattle.rings.specs.Rings.{place_number}
 use Rattle.stores.specs.declared.queue.Strands.{Strands}
 use Rattle.stores.specs.declared.table.Answers.{Answers}
 use Rattle.stores.specs.declared.table.PushAnswer.{PushAnswer}
@@ -22,7 +23,7 @@ abbrev pub Puts : Strands → (t time : ℕ) → Strand → Placed → Type 0
 Puts s t time x r = r ≡ put_if (ltb (free_place s.places) 256) s (stored t time x s)
 
 pub record Takes (s : Strands) (t clock : ℕ) (r : Took) : Type 0 where
-  pub place : r.place ≡ strand_place clock false t s
+  pub place : place_number r.place ≡ strand_place clock false t s
   pub is : r.strands ≡ taken_strand clock false t s
 
 -- the ring of the free places is no table's, and stays

@@ -23,12 +23,11 @@ struct Over {
 fn nine(strand: Strand) -> Over {
     let mut s = strand;
     let mut n: usize = 0;
-    let mut i: u8 = 0;
-    while i < 9 {
-        let d = delay_goal(s, i);
-        n = n + one(d.over);
-        s = d.strand;
-        i = i + 1;
+    for i in 0..9 {
+        match delay_goal(s, i) {
+            Some(t) => s = t,
+            None => n += 1,
+        }
     }
     Over { over: n, strand: s }
 }
@@ -49,8 +48,7 @@ fn pushed(k: Stack) -> Stack {
     let mut negative = k.negative;
     let mut active = k.active;
     let mut depth = k.depth;
-    let mut i: u8 = 0;
-    while i < 65 {
+    for i in 0..65 {
         depth = push_entry(
             &mut table,
             &mut clock,
@@ -63,7 +61,6 @@ fn pushed(k: Stack) -> Stack {
             9,
         );
         set_active(&mut active, depth, 3);
-        i = i + 1;
     }
     Stack {
         depth,
@@ -75,6 +72,11 @@ fn pushed(k: Stack) -> Stack {
     }
 }
 
+// An index, or 64 for none.
+fn at(index: Option<usize>) -> usize {
+    index.unwrap_or(MOST_TABLES)
+}
+
 // 64 entries and not 65; the entry nearest the bottom is found.
 pub(crate) fn entries(to: Stdout) {
     let k = pushed(blank_stack());
@@ -82,8 +84,8 @@ pub(crate) fn entries(to: Stdout) {
     let mut active = k.active;
     let depth = k.depth;
     line(to, b"entries", depth);
-    line(to, b"table 2 at", first_of(&table, depth, 2));
-    line(to, b"table 61 at", first_of(&table, depth, 61));
+    line(to, b"table 2 at", at(first_of(&table, depth, 2)));
+    line(to, b"table 61 at", at(first_of(&table, depth, 61)));
     line(
         to,
         b"caller's place",
@@ -128,8 +130,7 @@ fn made(ts: Tables) -> Tables {
     let mut floundered = ts.floundered;
     let mut complete = ts.complete;
     let mut count = ts.count;
-    let mut i: u8 = 0;
-    while i < 65 {
+    for i in 0..65 {
         count = insert(
             &mut goal,
             &mut coinductive,
@@ -140,7 +141,6 @@ fn made(ts: Tables) -> Tables {
             i % 2 == 0,
             false,
         );
-        i = i + 1;
     }
     Tables {
         count,

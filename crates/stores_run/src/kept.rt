@@ -3,7 +3,7 @@ ghost use Rattle.std.specs.Prelude.{◌≡◌, ◌≤◌};
 ghost use Rattle.stores.specs.Table.{written_answer};
 ghost use Rattle.stores_run.specs.Owner.{kept_by, Keeps};
 
-use crate::words::{line, one};
+use crate::words::{line, one, place};
 use rings::ring_at;
 use std::io::Stdout;
 use stores::places::Places;
@@ -153,14 +153,12 @@ fn fill(a: Answers) -> Filled {
     let mut r = a;
     let mut n: usize = 0;
     let mut last: u8 = 0;
-    let mut i: u16 = 0;
-    while i < 257 {
+    for i in 0..257 {
         let t = i % 4;
         let k = keep(r, t as u8, answer(i, 0, false));
         n = n + is_new(k.what);
         last = k.what;
         r = k.answers;
-        i = i + 1;
     }
     Filled {
         count: n,
@@ -178,6 +176,14 @@ pub(crate) fn limit(to: Stdout) {
     let next = p.next;
     let tail = p.tail;
     let len = p.len;
-    line(to, b"the fifth at place", ring_at(&next, &tail, &len, 3, 4));
-    line(to, b"past the end", ring_at(&next, &tail, &len, 3, 64));
+    line(
+        to,
+        b"the fifth at place",
+        place(ring_at(&next, &tail, &len, 3, 4)),
+    );
+    line(
+        to,
+        b"past the end",
+        place(ring_at(&next, &tail, &len, 3, 64)),
+    );
 }

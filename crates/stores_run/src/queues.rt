@@ -3,7 +3,7 @@ ghost use Rattle.std.specs.Prelude.{◌≡◌};
 ghost use Rattle.stores.specs.Queue.{written, enqueued_strand, clauses_from, fresh_each};
 ghost use Rattle.stores_run.specs.Owner.{Puts, Takes, Clears};
 
-use crate::words::{line, number, one};
+use crate::words::{line, number, one, place};
 use rings::{ring_at, ring_enqueue, ring_move};
 use sizes::{MOST_CLAUSES, PLACES};
 use std::io::Stdout;
@@ -20,7 +20,7 @@ pub(crate) struct Placed {
 
 #[derive(Clone, Copy)]
 pub(crate) struct Took {
-    pub place: usize,
+    pub place: Option<u8>,
     pub strands: Strands,
 }
 
@@ -66,15 +66,14 @@ pub(crate) fn put(s: Strands, t: u8, at: u64, x: Strand) -> Placed
     let mut tail = p.tail;
     let mut len = p.len;
     let mut top = p.top;
-    let q = take_place(&mut next, &tail, &mut len, &mut top);
-    if q >= 256 {
+    let Some(q) = take_place(&mut next, &tail, &mut len, &mut top) else {
         return Placed {
             done: false,
             strands: s,
         };
-    }
-    ring_enqueue(&mut next, &mut tail, &mut len, t, q as u8);
-    let mut r = write(s, q as u8, at, x);
+    };
+    ring_enqueue(&mut next, &mut tail, &mut len, t, q);
+    let mut r = write(s, q, at, x);
     let places = Places {
         next,
         tail,
@@ -155,14 +154,11 @@ fn along(to: Stdout, s: Strands, t: u8) {
     let tail = p.tail;
     let len = p.len;
     let strands = s.strands;
-    let mut i: u16 = 0;
-    while i < 8 {
-        let q = ring_at(&next, &tail, &len, t, i);
-        if q < 256 {
-            let x = strands[q];
+    for i in 0..8 {
+        if let Some(q) = ring_at(&next, &tail, &len, t, i) {
+            let x = strands[q as usize];
             number(to, x.variant);
         }
-        i = i + 1;
     }
 }
 
@@ -179,10 +175,10 @@ pub(crate) fn rotation(to: Stdout) {
     let c = put(b.strands, 5, 9, strand(3));
     show(to, c.strands, 5);
     let d = take(c.strands, 5, 2);
-    line(to, b"taken at place", d.place);
+    line(to, b"taken at place", place(d.place));
     show(to, d.strands, 5);
     let e = take(d.strands, 5, 2);
-    line(to, b"none: place", e.place);
+    line(to, b"none: place", place(e.place));
     line(to, b"in use", used(e.strands));
 }
 
@@ -196,13 +192,11 @@ struct Filled {
 fn fill(s: Strands) -> Filled {
     let mut r = s;
     let mut n: usize = 0;
-    let mut i: u16 = 0;
-    while i < 300 {
+    for i in 0..300 {
         let t = i % 3;
         let p = put(r, t as u8, 0, strand(i));
         n = n + one(p.done);
         r = p.strands;
-        i = i + 1;
     }
     Filled {
         count: n,
@@ -303,14 +297,13 @@ fn enqueue(s: Strands, t: u8, q: u8) -> Strands
 // for the first time, with its clause's variant, which stands beside it.
 fn pursue(s: Strands, t: u8, clock: u64) -> Strands {
     let d = take(s, t, clock);
-    let q = d.place;
     let r = d.strands;
-    if q >= 256 {
+    let Some(q) = d.place else {
         return r;
-    }
+    };
     let variant = r.variant;
-    let w = write(r, q as u8, clock, strand(variant[q]));
-    enqueue(w, t, q as u8)
+    let w = write(r, q, clock, strand(variant[q as usize]));
+    enqueue(w, t, q)
 }
 
 // What the places along a queue wait on and want, and their variants: of at most four.
@@ -322,15 +315,13 @@ fn beside(to: Stdout, s: Strands, t: u8) {
     let waits = s.waits;
     let wants = s.wants;
     let variant = s.variant;
-    let mut i: u16 = 0;
-    while i < 4 {
-        let q = ring_at(&next, &tail, &len, t, i);
-        if q < 256 {
+    for i in 0..4 {
+        if let Some(place) = ring_at(&next, &tail, &len, t, i) {
+            let q = place as usize;
             number(to, waits[q] as u16);
             number(to, wants[q]);
             number(to, variant[q]);
         }
-        i = i + 1;
     }
 }
 

@@ -1,7 +1,7 @@
 // Order 6: a strand is taken within its queue. What the queue shows then, and how many links, ends and lengths of all the rings are other
 // than they were. A strand is told by its variant; one that was pursued at time 1 may be taken, one at 9 may not.
 use crate::queues::{put, show, strand, take};
-use crate::words::{line, number, one};
+use crate::words::{line, number, one, place};
 use rings::ring_at;
 use std::io::Stdout;
 use stores::places::Places;
@@ -18,9 +18,7 @@ fn table_for(by_turns: bool, i: u16) -> u8 {
 // Strands 1 to `count`, of which only number `which` may be taken: in the queue of table 5, or by turns in those of tables 5 and 6.
 fn filled(count: u16, by_turns: bool, which: u16) -> Strands {
     let mut r = blank_strands();
-    let mut i: u16 = 0;
-    while i < count {
-        i = i + 1;
+    for i in 1..=count {
         let p = put(r, table_for(by_turns, i), pursued(i == which), strand(i));
         r = p.strands;
     }
@@ -38,12 +36,10 @@ fn compare(to: Stdout, p: Places, r: Places) {
     let mut links: usize = 0;
     let mut ends: usize = 0;
     let mut lengths: usize = 0;
-    let mut i: usize = 0;
-    while i < 256 {
+    for i in 0..256 {
         links = links + one(next[i] != next_then[i]);
         ends = ends + one(tail[i] != tail_then[i]);
         lengths = lengths + one(len[i] != len_then[i]);
-        i = i + 1;
     }
     line(to, b"links changed", links);
     line(to, b"ends changed", ends);
@@ -59,7 +55,7 @@ fn waiting(to: Stdout, p: Places, t: u8) {
 fn take_from(to: Stdout, s: Strands) -> Strands {
     show(to, s, 5);
     let d = take(s, 5, 2);
-    line(to, b"taken at place", d.place);
+    line(to, b"taken at place", place(d.place));
     let r = d.strands;
     show(to, r, 5);
     waiting(to, r.places, 5);
@@ -90,14 +86,11 @@ fn links(to: Stdout, s: Strands, t: u8) {
     let next = p.next;
     let tail = p.tail;
     let len = p.len;
-    let mut i: u16 = 0;
-    while i < 8 {
-        let q = ring_at(&next, &tail, &len, t, i);
-        if q < 256 {
+    for i in 0..8 {
+        if let Some(q) = ring_at(&next, &tail, &len, t, i) {
             number(to, q as u16);
-            number(to, next[q] as u16);
+            number(to, next[q as usize] as u16);
         }
-        i = i + 1;
     }
 }
 

@@ -1,7 +1,9 @@
 // Lines of words and numbers.
 ghost use Rattle.std.specs.Prelude.{◌≡◌, ◌≤◌};
+ghost use Rattle.rings.specs.Rings.{place_number};
 ghost use Rattle.stores.specs.Numbers.{flag_number};
 
+use sizes::PLACES;
 use std::io::Stdout;
 
 pub(crate) fn line(to: Stdout, words: &[u8], n: usize) {
@@ -11,6 +13,16 @@ pub(crate) fn line(to: Stdout, words: &[u8], n: usize) {
 
 pub(crate) fn number(to: Stdout, n: u16) {
     let _ = print!(to; "{n} ");
+}
+
+// A place, or 256 for none.
+pub(crate) fn place(p: Option<u8>) -> usize
+    ensures { result ≡ place_number p }
+{
+    match p {
+        Some(q) => q as usize,
+        None => PLACES,
+    }
 }
 
 pub(crate) fn one(b: bool) -> usize

@@ -9,13 +9,14 @@ use lib.Dec.{ltb}
 use lib.ListN.{length}
 use lib.Seq.{length-sets}
 use borrow.Author.Tests.{lt-ltb, le-ltb, ltb-true, ltb-false}
+use Rattle.std.specs.Prelude.{None}
 use Rattle.definitions.specs as said
 use Rattle.definitions.specs.Slg.{delay}
 use Rattle.definitions.specs.Stop.{Stops, stop, go, ◌>>◌, stop_if}
 use Rattle.definitions.specs.Strand.{with_delayed}
 use Rattle.laws.proofs.Takes.{take_min, length_take_min, take_sets}
 use Rattle.strands.specs.declared.Strand.{Strand}
-use Rattle.strands.specs.Delaying.{delayed, held, delay_by, delay_goals}
+use Rattle.strands.specs.Delaying.{delayed, strand_or, held, delay_by, delay_goals}
 use Rattle.strands.specs.View.{Sound, clause, Kept}
 
 -- The definition at each answer of its test.
@@ -49,25 +50,18 @@ module _ (goals : List ℕ) (s : Strand) where
     pub delay_view : delayed (delay_goals goals s) ≡ delay goals (clause s)
     delay_view = delay_by_view (ltb 8 (held s + length goals)) refl
 
-  delay_by_as_it_was : (b : Bool) → b ≡ true → (delay_by b goals s).strand ≡ s
-  delay_by_as_it_was true e = refl
-  delay_by_as_it_was false e = cc
+  -- what is over leaves the strand as it was
+  pub delay_as_it_was : delay_goals goals s ≡ None → strand_or s (delay_goals goals s) ≡ s
+  delay_as_it_was e = ap (strand_or s) e
 
-  over_is : (b : Bool) → (delay_by b goals s).over ≡ b
-  over_is true = refl
-  over_is false = refl
-
-  pub delay_as_it_was : (delay_goals goals s).over ≡ true → (delay_goals goals s).strand ≡ s
-  delay_as_it_was e = delay_by_as_it_was (ltb 8 (held s + length goals)) (sym (over_is (ltb 8 (held s + length goals))) ∙ e)
-
-  delay_by_kept : (b : Bool) → Kept s (delay_by b goals s).strand
+  delay_by_kept : (b : Bool) → Kept s (strand_or s (delay_by b goals s))
   delay_by_kept true = refl
   delay_by_kept false = refl
 
-  pub delay_kept : Kept s (delay_goals goals s).strand
+  pub delay_kept : Kept s (strand_or s (delay_goals goals s))
   delay_kept = delay_by_kept (ltb 8 (held s + length goals))
 
-  delay_by_sound : (b : Bool) → ltb 8 (held s + length goals) ≡ b → Sound s → Sound (delay_by b goals s).strand
+  delay_by_sound : (b : Bool) → ltb 8 (held s + length goals) ≡ b → Sound s → Sound (strand_or s (delay_by b goals s))
   delay_by_sound true e o = o
   delay_by_sound false e o = record {
     literals_long = o.literals_long;
@@ -78,5 +72,5 @@ module _ (goals : List ℕ) (s : Strand) where
     few_delayed = ltb-false 8 (held s + length goals) e;
   }
 
-  pub delay_sound : Sound s → Sound (delay_goals goals s).strand
+  pub delay_sound : Sound s → Sound (strand_or s (delay_goals goals s))
   delay_sound o = delay_by_sound (ltb 8 (held s + length goals)) refl o

@@ -3,12 +3,15 @@
 use Prim.Native.Nat.{ℕ, zero, suc, ◌+◌, ◌-◌, ◌≤◌, ◌<◌, min}
 use native.Mathlib.Nat.{min-eq_left}
 use native.Mathlib.Omega.{arith}
-use mathlib.Core.List.{List, [], ◌∷◌, map, map-append}
+use mathlib.Core.List.{List, [], ◌∷◌, ◌++◌, map, map-append, append_assoc}
 use mathlib.Core.Option.{none, some}
 use mathlib.Core.Path.{◌≡◌, refl, sym, ap, ◌∙◌}
+use borrow.Rule.Slice.PartMut.{put_mid}
 use lib.Dec.{eqb, eqb-suc-zero}
-use lib.ListN.{length, take, set, get_or, get_elem?, length-map, length-take}
-use lib.Seq.{take-take, take-set-lt, get_or-take}
+use lib.ListN.{length, take, drop, set, get_or, get_elem?, length-map, length-take}
+use lib.Seq.{sets, take-take, take-set-lt, get_or-take}
+use Rattle.std.proofs.lemmas.List.{drop-drop}
+use Rattle.std.proofs.lemmas.List.Edits.{sets-eq}
 use Rattle.definitions.specs.Lists.{push, remove, swap_remove, is_empty}
 use Rattle.definitions.proofs.Lists.{remove_last, swap_remove_is}
 use Rattle.laws.proofs.Lists.{past_end}
@@ -60,3 +63,10 @@ module _ {A B : Type 0} (f : A → B) where
       ∙ ap (λ (r : List B). take (n - 1) r)
       (sym (map_set f (take n l) i last) ∙ ap (λ (r : List A). map f r) (sym (take-set-lt n l i last p)))
       ∙ view_front (n - 1) n (set l i last) (omega arith)
+
+-- A part of an array overwritten with as many elements is a run of stores.
+pub copied : (to ys zs : List ℕ) (n k : ℕ) → ys ≡ zs → k ≡ length zs → n + k ≤ length to → put_mid n k to ys ≡ sets to n zs
+copied to ys zs n k same size room =
+    ap (λ (l : List ℕ). put_mid n k to l) same
+    ∙ ap (λ (rest : List ℕ). take n to ++ (zs ++ rest)) (drop-drop k n to ∙ ap (λ (j : ℕ). drop (n + j) to) size)
+    ∙ sym (sets-eq zs to n (omega arith) ∙ append_assoc (take n to) zs (drop (n + length zs) to))

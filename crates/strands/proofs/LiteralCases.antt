@@ -9,13 +9,13 @@ use mathlib.Core.Path.{◌≡◌, refl, sym, ap, ◌∙◌}
 use lib.Dec.{eqb}
 use lib.ListN.{length, take, get_or, get_elem?}
 use borrow.Author.Tests.{lt-ltb, le-ltb, eq-eqb, ne_eqb}
+use Rattle.std.specs.Prelude.{Some, None}
 use Rattle.definitions.specs.Book as books
 use Rattle.definitions.specs.Lists.{is_empty}
 use Rattle.definitions.specs.Slg.{next_subgoal_index}
 use Rattle.book.specs.View.{meant}
 use Rattle.book.specs.declared.Literal.{Literal}
 use Rattle.strands.specs.declared.Strand.{Strand}
-use Rattle.strands.specs.declared.literals.Found.TheVariants.{Nothing, There}
 use Rattle.strands.specs.Fields.{no_literal, with_literals, with_answer_time}
 use Rattle.strands.specs.Literals.{without_last, answered, subgoal_at}
 use Rattle.strands.specs.View.{clause, is_negative}
@@ -73,8 +73,8 @@ module _ (s : Strand) where
   answered_last p q r = rw (ne_eqb s.literal_count 0 p, le-ltb 8 s.literal_count q, ne_eqb s.answer_time 255 r)
 
   -- The ways out of `subgoal_at`.
-  pub found_there : (i : ℕ) → i < min s.literal_count 8 → subgoal_at s i ≡ There (get_or s.literals i no_literal)
+  pub found_there : (i : ℕ) → i < min s.literal_count 8 → subgoal_at s i ≡ Some (get_or s.literals i no_literal)
   found_there i p = rw (lt-ltb i (min s.literal_count 8) p)
 
-  pub found_nothing : (i : ℕ) → min s.literal_count 8 ≤ i → subgoal_at s i ≡ Nothing
+  pub found_nothing : (i : ℕ) → min s.literal_count 8 ≤ i → subgoal_at s i ≡ None
   found_nothing i p = rw (le-ltb i (min s.literal_count 8) p)

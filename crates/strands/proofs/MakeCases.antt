@@ -1,12 +1,13 @@
 -- The turn of the loop of making.rt, and the ways out of `initial_strand` and `create_refinement_strand`.
 use Prim.Native.Nat.{ℕ, ◌+◌, ◌<◌, min}
 use native.Mathlib.Omega.{arith}
-use mathlib.Core.Bool.{true, false}
+use mathlib.Core.Bool.{false}
 use mathlib.Core.List.{List, [], ◌∷◌, map, map-append}
 use mathlib.Core.Path.{◌≡◌, sym, ap, ap₂, ◌∙◌}
 use lib.ListN.{length, take, set, get_or, replicate, length-map}
 use lib.Seq.{sets, length-take-le}
 use borrow.Author.Tests.{eq-eqb, ne_eqb}
+use Rattle.std.specs.Prelude.{Some, None}
 use Rattle.definitions.specs.Book.{bit0, bit1}
 use Rattle.laws.proofs.Takes.{take_min, take_next, sets_one_more}
 use Rattle.book.specs.declared.Literal.{Literal}
@@ -26,7 +27,7 @@ positives_next goals i made i_in e =
     ∙ ap (sets (replicate 8 no_literal) 0)
     (sym (ap (map wants_any) (take_next i goals 0 i_in) ∙ map-append wants_any (take i goals) (get_or goals i 0 ∷ [])))
 
-pub refine_none : (a : Answer) → a.delayed_count ≡ 0 → refine a ≡ refine_by true a
+pub refine_none : (a : Answer) → a.delayed_count ≡ 0 → refine a ≡ None
 refine_none a p = ap (λ b. refine_by b a) (eq-eqb a.delayed_count 0 p)
 
 pub refine_some : (a : Answer) → (a.delayed_count ≡ 0 → ⊥) → refine a ≡ refine_by false a
@@ -41,9 +42,9 @@ says_initial variant flags literals count n r n_is e = e ∙ ap (λ (k : ℕ). n
 pub says_refined : (a : Answer) (n : ℕ) (literals : List Literal) (r : Strand) → length a.delayed ≡ 8 → n ≡ min a.delayed_count 8
     → (a.delayed_count ≡ 0 → ⊥) → literals ≡ positives (take n a.delayed)
     → r ≡ new_strand a.variant false a.ambiguous literals n
-    → record { made = true; strand = r } ≡ refine a
+    → Some r ≡ refine a
 says_refined a n literals r long n_is some-delayed made e =
-    ap (λ (s : Strand). record { made = true; strand = s })
+    ap (λ (s : Strand). Some s)
     (e
     ∙ ap₂ (λ (ls : List Literal) (k : ℕ). new_strand a.variant false a.ambiguous ls k)
     (made ∙ ap positives (take_min 8 a.delayed_count n a.delayed long n_is)) n_is)

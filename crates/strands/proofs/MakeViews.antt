@@ -18,6 +18,8 @@ use Rattle.laws.proofs.Takes.{take_min, length_take_min, take_sets}
 use Rattle.book.specs.View.{meant}
 use Rattle.book.specs.declared.Literal.{Literal}
 use Rattle.strands.specs.declared.Answer.{Answer}
+use Rattle.strands.specs.declared.Strand.{Strand}
+use Rattle.strands.specs.Delaying.{strand_or}
 use Rattle.strands.specs.Fields.{no_literal}
 use Rattle.strands.specs.Making.{new_strand, blank_strand, nothing, clause_of, strand_of}
 use Rattle.strands.specs.Making.{wants_any, positive, positives, refine_by, refine, refinement}
@@ -70,12 +72,13 @@ module _ (a : Answer) where
   positives_long : length (positives goals) ≡ 8
   positives_long = length-sets (replicate 8 no_literal) 0 (map wants_any goals) ∙ length-replicate 8 no_literal
 
-  refine_by_sound : (b : Bool) → Sound (refine_by b a).strand
-  refine_by_sound true = blank_sound
-  refine_by_sound false =
+  -- for whatever sound strand stands where there is none
+  refine_by_sound : (b : Bool) (s : Strand) → Sound s → Sound (strand_or s (refine_by b a))
+  refine_by_sound true s o = o
+  refine_by_sound false s o =
       new_sound a.variant false a.ambiguous (positives goals) (min a.delayed_count 8) positives_long (omega arith)
 
-  pub refine_sound : Sound (refine a).strand
+  pub refine_sound : (s : Strand) → Sound s → Sound (strand_or s (refine a))
   refine_sound = refine_by_sound (eqb a.delayed_count 0)
 
   module _ (long : length a.delayed ≡ 8) where

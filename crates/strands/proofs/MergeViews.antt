@@ -9,6 +9,7 @@ use mathlib.Core.Path.{◌≡◌, refl, ap, ◌∙◌, sym}
 use lib.Dec.{eqb, ltb}
 use lib.ListN.{length}
 use borrow.Author.Tests.{ne_eqb}
+use Rattle.std.specs.Prelude as code
 use Rattle.definitions.specs as said
 use Rattle.definitions.specs.Book as books
 use Rattle.definitions.specs.Fitting.{answer_fits}
@@ -18,7 +19,7 @@ use Rattle.definitions.specs.Stop.{Stops, stop, go, ◌>>=◌, ◌>>◌, stop_if
 use Rattle.definitions.specs.Strand as held
 use Rattle.strands.specs.declared.Answer.{Answer}
 use Rattle.strands.specs.declared.Strand.{Strand}
-use Rattle.strands.specs.Delaying.{delayed_by, delayed}
+use Rattle.strands.specs.Delaying.{delayed, strand_or}
 use Rattle.strands.specs.Fields.{with_ambiguous}
 use Rattle.strands.specs.Literals.{without_last, answered}
 use Rattle.strands.specs.Merging.{taking, ambiguous_too, take_by, goals_taken, take_answer}
@@ -38,10 +39,10 @@ ambiguous_too_view true t = ap (held.with_ambiguous (clause t)) (sym (or-true t.
 ambiguous_too_view false t = ap (held.with_ambiguous (clause t)) (sym (or-false t.ambiguous))
 
 -- the ways out, as one change of the clause that delaying leaves
-take_by_view : (over b : Bool) (s t : Strand)
-    → delayed (take_by false over s (ambiguous_too b t)) ≡ then (ambiguous_clause b) (delayed_by over (clause t))
-take_by_view true b s t = refl
-take_by_view false b s t = ap go (ambiguous_too_view b t)
+take_by_view : (b : Bool) (s : Strand) (d : code.Option Strand)
+    → delayed (take_by false b s d) ≡ then (ambiguous_clause b) (delayed d)
+take_by_view b s code.None = refl
+take_by_view b s (code.Some t) = ap go (ambiguous_too_view b t)
 
 by_test : (b over : Bool) (goals : List ℕ) (x : said.ExClause)
     → then (ambiguous_clause b)
@@ -54,56 +55,52 @@ module _ (a : Answer) (s : Strand) where
   abbrev goals : List ℕ
   goals = (answer a).delayed_subgoals
 
-  abbrev with_answer : Strand
-  with_answer = ambiguous_too a.ambiguous (goals_taken a s).strand
-
   pub take_view : Sound s → 0 < s.literal_count
       → delayed (take_answer a s) ≡ (delay goals (without_last (clause s)) >>= λ x. go (taking a.ambiguous x))
   take_view o some_left =
       let x : said.ExClause = without_last (clause s) in
-      ap (λ (b : Bool). delayed (take_by b (goals_taken a s).over s with_answer)) (ne_eqb s.literal_count 0 (λ z. omega arith))
-      ∙ take_by_view (goals_taken a s).over a.ambiguous s (goals_taken a s).strand
+      ap (λ (b : Bool). delayed (take_by b a.ambiguous s (goals_taken a s))) (ne_eqb s.literal_count 0 (λ z. omega arith))
+      ∙ take_by_view a.ambiguous s (goals_taken a s)
       ∙ ap (then (ambiguous_clause a.ambiguous))
       (delay_view goals (answered s) (answered_sound s o).delayed_long
       ∙ ap (λ (v : held.Strand). delay goals v.ex_clause) (answered_view 0 s o some_left))
       ∙ by_test a.ambiguous (ltb 8 (length x.delayed_subgoals + length goals)) goals x
 
-  as_it_was_by : (none_left over : Bool) (t : Strand) → (take_by none_left over s t).over ≡ true → (take_by none_left over s t).strand ≡ s
-  as_it_was_by true over t e = refl
-  as_it_was_by false true t e = refl
-  as_it_was_by false false t e = cc
-
-  pub take_as_it_was : (take_answer a s).over ≡ true → (take_answer a s).strand ≡ s
-  take_as_it_was e = as_it_was_by (eqb s.literal_count 0) (goals_taken a s).over with_answer e
-
-  kept_by : (none_left over : Bool) (t : Strand) → Kept s t → Kept s (take_by none_left over s t).strand
-  kept_by true over t k = refl
-  kept_by false true t k = refl
-  kept_by false false t k = k
+  -- what is over leaves the strand as it was
+  pub take_as_it_was : take_answer a s ≡ code.None → strand_or s (take_answer a s) ≡ s
+  take_as_it_was e = ap (strand_or s) e
 
   ambiguous_too_kept : (b : Bool) (t : Strand) → Kept s t → Kept s (ambiguous_too b t)
   ambiguous_too_kept true t k = kept_on s t (with_ambiguous t true) k refl
   ambiguous_too_kept false t k = k
 
-  pub take_kept : Kept s (take_answer a s).strand
-  take_kept =
-      kept_by (eqb s.literal_count 0) (goals_taken a s).over with_answer
-      (ambiguous_too_kept a.ambiguous (goals_taken a s).strand
-      (kept_on s (answered s) (goals_taken a s).strand (answered_kept s) (delay_kept goals (answered s))))
+  kept_by : (none_left b : Bool) (d : code.Option Strand) → Kept s (strand_or s d) → Kept s (strand_or s (take_by none_left b s d))
+  kept_by true b d k = refl
+  kept_by false b code.None k = refl
+  kept_by false b (code.Some t) k = ambiguous_too_kept b t k
 
-  sound_by : (none_left over : Bool) (t : Strand) → Sound s → Sound t → Sound (take_by none_left over s t).strand
-  sound_by true over t o p = o
-  sound_by false true t o p = o
-  sound_by false false t o p = p
+  goals_kept : (d : code.Option Strand) → Kept (answered s) (strand_or (answered s) d) → Kept s (strand_or s d)
+  goals_kept code.None k = refl
+  goals_kept (code.Some t) k = kept_on s (answered s) t (answered_kept s) k
+
+  pub take_kept : Kept s (strand_or s (take_answer a s))
+  take_kept =
+      kept_by (eqb s.literal_count 0) a.ambiguous (goals_taken a s)
+      (goals_kept (goals_taken a s) (delay_kept goals (answered s)))
 
   ambiguous_too_sound : (b : Bool) (t : Strand) → Sound t → Sound (ambiguous_too b t)
   ambiguous_too_sound true t o = ambiguous_sound t true o
   ambiguous_too_sound false t o = o
 
-  pub take_sound : Sound s → Sound (take_answer a s).strand
+  sound_by : (none_left b : Bool) (d : code.Option Strand) → Sound s → Sound (strand_or (answered s) d)
+      → Sound (strand_or s (take_by none_left b s d))
+  sound_by true b d o p = o
+  sound_by false b code.None o p = o
+  sound_by false b (code.Some t) o p = ambiguous_too_sound b t p
+
+  pub take_sound : Sound s → Sound (strand_or s (take_answer a s))
   take_sound o =
-      sound_by (eqb s.literal_count 0) (goals_taken a s).over with_answer o
-      (ambiguous_too_sound a.ambiguous (goals_taken a s).strand (delay_sound goals (answered s) (answered_sound s o)))
+      sound_by (eqb s.literal_count 0) a.ambiguous (goals_taken a s) o (delay_sound goals (answered s) (answered_sound s o))
 
 -- The definitions' `merge_into` for a positive literal whose answer fits, by what `take_view` says: it takes the answer, or stops.
 abbrev applied_by : List ℕ → said.ExClause → (fits : Bool) → Stops (Option said.ExClause)

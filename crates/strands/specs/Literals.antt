@@ -1,6 +1,6 @@
 -- What the operations on a strand's literals do.
-use Rattle.std.specs.Prelude.{ℕ, ◌+◌, ◌-◌, min, Bool, true, false, eqb, ltb, get_or}
-use Rattle.std.proofs.Math.Option.{Option, none, some}
+use Rattle.std.specs.Prelude.{ℕ, ◌+◌, ◌-◌, min, Bool, true, false, eqb, ltb, get_or, Option, Some, None}
+use Rattle.std.proofs.Math.Option as maybe
 use Rattle.definitions.specs as said
 use Rattle.definitions.specs.Book as books
 use Rattle.definitions.specs.Lists.{remove}
@@ -9,19 +9,17 @@ use Rattle.definitions.specs.Strand.{with_subgoals}
 use Rattle.book.specs.View.{meant}
 use Rattle.book.specs.declared.Literal.{Literal}
 use Rattle.strands.specs.declared.Strand.{Strand}
-use Rattle.strands.specs.declared.literals.Found.TheVariants.{Nothing, There}
-use Rattle.strands.specs.declared.literals.Found.{Found}
 use Rattle.strands.specs.Fields.{no_literal, with_literals, with_answer_time}
 
-abbrev pub literal_of : Found → Option books.Literal
-literal_of Nothing = none
-literal_of (There l) = some (meant l)
+abbrev pub literal_of : Option Literal → maybe.Option books.Literal
+literal_of None = maybe.none
+literal_of (Some l) = maybe.some (meant l)
 
-abbrev pub found_by : (there : Bool) → Literal → Found
-found_by true l = There l
-found_by false l = Nothing
+abbrev pub found_by : (there : Bool) → Literal → Option Literal
+found_by true l = Some l
+found_by false l = None
 
-abbrev pub subgoal_at : Strand → ℕ → Found
+abbrev pub subgoal_at : Strand → ℕ → Option Literal
 subgoal_at s i = found_by (ltb i (min s.literal_count 8)) (get_or s.literals i no_literal)
 
 -- a clause without its last literal, the one that is chosen

@@ -1,6 +1,6 @@
 -- Strands made anew: a blank one, a clause's, and the refinement strand of an answer.
-use Rattle.std.specs.Prelude.{ℕ, min, Bool, true, false, List, [], map, eqb, take, replicate}
-use Rattle.std.proofs.Math.Option.{Option, none, some}
+use Rattle.std.specs.Prelude.{ℕ, min, Bool, true, false, List, [], map, eqb, take, replicate, Option, Some, None}
+use Rattle.std.proofs.Math.Option as maybe
 use Rattle.std.proofs.lemmas.List.Edits.{sets}
 use Rattle.definitions.specs.Book as books
 use Rattle.definitions.specs.Strand as held
@@ -9,7 +9,6 @@ use Rattle.book.specs.declared.Literal.{Literal}
 use Rattle.strands.specs.declared.Answer.{Answer}
 use Rattle.strands.specs.declared.Selected.TheVariants.{Nothing}
 use Rattle.strands.specs.declared.Strand.{Strand}
-use Rattle.strands.specs.declared.making.Refinement.{Refinement}
 use Rattle.strands.specs.Fields.{no_literal}
 use Rattle.strands.specs.View.{seen}
 
@@ -60,21 +59,16 @@ positive goal = books.Positive goal books.any false
 abbrev pub positives : List ℕ → List Literal
 positives goals = sets (replicate 8 no_literal) 0 (map wants_any goals)
 
--- `create_refinement_strand`, by whether no goal is delayed; where none is made the strand is blank
-abbrev pub refine_by : (none_delayed : Bool) → Answer → Refinement
-refine_by true a = record { made = false; strand = blank_strand }
-refine_by false a = record {
-  made = true;
-  strand = new_strand a.variant false a.ambiguous (positives (take a.delayed_count a.delayed)) (min a.delayed_count 8);
-}
+-- `create_refinement_strand`, by whether no goal is delayed
+abbrev pub refine_by : (none_delayed : Bool) → Answer → Option Strand
+refine_by true a = None
+refine_by false a =
+    Some (new_strand a.variant false a.ambiguous (positives (take a.delayed_count a.delayed)) (min a.delayed_count 8))
 
-abbrev pub refine : Answer → Refinement
+abbrev pub refine : Answer → Option Strand
 refine a = refine_by (eqb a.delayed_count 0) a
 
--- what a `Refinement` means: nobody has pursued it
-abbrev pub refinement_by : (made : Bool) → held.Strand → Option held.Strand
-refinement_by true s = some s
-refinement_by false s = none
-
-abbrev pub refinement : Refinement → Option held.Strand
-refinement r = refinement_by r.made (seen 0 r.strand)
+-- what a refinement strand means: nobody has pursued it
+abbrev pub refinement : Option Strand → maybe.Option held.Strand
+refinement None = maybe.none
+refinement (Some t) = maybe.some (seen 0 t)

@@ -70,11 +70,8 @@ pub fn reconsider_floundered_subgoals(s: Strand) -> Strand
 {
     let n = within(s.floundered_count);
     let mut t = s;
-    let mut left = n;
-    while left > 0 {
-        let i = left - 1;
+    for i in (0..n).rev() {
         t = reconsider_at(t, i);
-        left = left - 1;
     }
     t
 }

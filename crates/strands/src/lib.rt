@@ -57,5 +57,5 @@ pub struct Answer {
 pub fn within(count: u8) -> usize
     ensures { result ≡ min count 8 }
 {
-    if count > 8 { 8 } else { count as usize }
+    usize::from(count).min(MOST_LITERALS)
 }

@@ -11,12 +11,13 @@ ghost use Rattle.strands.specs.Literals.{subgoal_at, last_removed, answered};
 use crate::{Strand, within};
 use book::Literal;
 
-// What stands at an index.
-#[derive(Clone, Copy)]
-pub enum Found {
-    Nothing,
-    There(Literal),
-}
+// What stands behind the literals that count.
+pub const NO_LITERAL: Literal = Literal {
+    goal: 0,
+    kind: 0,
+    want: 0,
+    high: 0,
+};
 
 // A "not", and no positive literal.
 pub fn is_negative(l: Literal) -> bool
@@ -57,18 +58,15 @@ pub fn next_subgoal_index(s: Strand) -> usize
     if n == 0 { 0 } else { n - 1 }
 }
 
-pub fn subgoal_at(s: Strand, i: usize) -> Found
+// What stands at an index, if anything does.
+pub fn subgoal_at(s: Strand, i: usize) -> Option<Literal>
     ensures { result ≡ subgoal_at s i }
 {
     let n = within(s.literal_count);
-    if i < n {
-        Found::There(s.literals[i])
-    } else {
-        Found::Nothing
-    }
+    if i < n { Some(s.literals[i]) } else { None }
 }
 
-pub fn last_subgoal(s: Strand) -> Found
+pub fn last_subgoal(s: Strand) -> Option<Literal>
     ensures { result ≡ subgoal_at s (next_subgoal_index (clause s)) }
 {
     let i = next_subgoal_index(s);

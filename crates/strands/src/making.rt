@@ -2,16 +2,10 @@
 ghost use Rattle.std.specs.Prelude.{◌≡◌, ◌≤◌, take};
 ghost use Rattle.strands.specs.Making.{new_strand, blank_strand, strand_of, positives, refine};
 
+use crate::literals::NO_LITERAL;
 use crate::{Answer, Selected, Strand, within};
 use book::Literal;
 use sizes::MOST_LITERALS;
-
-// The refinement strand of an answer, if it has one.
-#[derive(Clone, Copy)]
-pub struct Refinement {
-    pub made: bool,
-    pub strand: Strand,
-}
 
 // A strand that nobody has pursued: nothing is floundered, delayed or selected.
 fn new_strand(
@@ -23,12 +17,6 @@ fn new_strand(
 ) -> Strand
     ensures { result ≡ new_strand variant outsized ambiguous literals count }
 {
-    let l = Literal {
-        goal: 0,
-        kind: 0,
-        want: 0,
-        high: 0,
-    };
     Strand {
         variant,
         outsized,
@@ -38,7 +26,7 @@ fn new_strand(
         floundered_count: 0,
         delayed_count: 0,
         literals,
-        floundered: [l; MOST_LITERALS],
+        floundered: [NO_LITERAL; MOST_LITERALS],
         floundered_time: [0; MOST_LITERALS],
         delayed: [0; MOST_LITERALS],
         selected: Selected::Nothing,
@@ -49,13 +37,7 @@ fn new_strand(
 pub fn blank() -> Strand
     ensures { result ≡ blank_strand }
 {
-    let l = Literal {
-        goal: 0,
-        kind: 0,
-        want: 0,
-        high: 0,
-    };
-    new_strand(0, false, false, [l; MOST_LITERALS], 0)
+    new_strand(0, false, false, [NO_LITERAL; MOST_LITERALS], 0)
 }
 
 // A clause's strand: its variant, its flags (bit 0 "cannot prove", bit 1 outsized) and its literals.
@@ -78,44 +60,26 @@ fn positives(goals: [u8; MOST_LITERALS], n: usize) -> [Literal; MOST_LITERALS]
     requires { n ≤ 8 }
     ensures { result ≡ positives (take n goals) }
 {
-    let l = Literal {
-        goal: 0,
-        kind: 0,
-        want: 0,
-        high: 0,
-    };
-    let mut made = [l; MOST_LITERALS];
-    let mut i = 0;
-    while i < n {
-        let p = Literal {
+    let mut made = [NO_LITERAL; MOST_LITERALS];
+    for i in 0..n {
+        made[i] = Literal {
             goal: goals[i],
-            kind: 0,
-            want: 0,
-            high: 0,
+            ..NO_LITERAL
         };
-        made[i] = p;
-        i += 1;
     }
     made
 }
 
-// `create_refinement_strand`: the answer's delayed goals are the literals. Where none is made the strand is blank.
-pub fn create_refinement_strand(a: Answer) -> Refinement
+// `create_refinement_strand`: the answer's delayed goals are the literals. An answer without any has none.
+pub fn create_refinement_strand(a: Answer) -> Option<Strand>
     ensures { result ≡ refine a }
 {
     if a.delayed_count == 0 {
-        let b = blank();
-        return Refinement {
-            made: false,
-            strand: b,
-        };
+        return None;
     }
     let n = within(a.delayed_count);
     let goals = a.delayed;
     let ls = positives(goals, n);
     let t = new_strand(a.variant, false, a.ambiguous, ls, n as u8);
-    Refinement {
-        made: true,
-        strand: t,
-    }
+    Some(t)
 }

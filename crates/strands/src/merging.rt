@@ -3,7 +3,7 @@
 ghost use Rattle.std.specs.Prelude.{◌≡◌};
 ghost use Rattle.strands.specs.Merging.{ambiguous_too, take_answer};
 
-use crate::delaying::{Delayed, delay_answer};
+use crate::delaying::delay_answer;
 use crate::fields::made_ambiguous;
 use crate::literals::answered;
 use crate::{Answer, Strand};
@@ -15,29 +15,14 @@ fn ambiguous_too(s: Strand, ambiguous: bool) -> Strand
     if ambiguous { made_ambiguous(s) } else { s }
 }
 
-// The last literal is removed and answer time rises; the answer's delayed goals are the strand's, and its ambiguity too. Over, or with
-// no literal to take it for, the strand is as it was.
-pub fn take_answer(s: Strand, a: Answer) -> Delayed
+// The last literal is removed and answer time rises; the answer's delayed goals are the strand's, and its ambiguity too. With no literal
+// to take it for, the strand is as it was. None past eight delayed goals, which is stopped by 24: the caller's strand is as it was.
+pub fn take_answer(s: Strand, a: Answer) -> Option<Strand>
     ensures { result ≡ take_answer a s }
 {
     if s.literal_count == 0 {
-        return Delayed {
-            over: false,
-            strand: s,
-        };
+        return Some(s);
     }
-    let t = answered(s);
-    let d = delay_answer(t, a);
-    if d.over {
-        return Delayed {
-            over: true,
-            strand: s,
-        };
-    }
-    let u = d.strand;
-    let v = ambiguous_too(u, a.ambiguous);
-    Delayed {
-        over: false,
-        strand: v,
-    }
+    let t = delay_answer(answered(s), a)?;
+    Some(ambiguous_too(t, a.ambiguous))
 }

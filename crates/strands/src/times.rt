@@ -3,7 +3,7 @@ ghost use Rattle.std.specs.Prelude.{◌≡◌, min};
 ghost use Rattle.definitions.specs.{minimums_MAX, take_minimums, minimum_of_pos_and_neg, is_complete};
 ghost use Rattle.strands.specs.Times.{incremented, minimums, mode};
 
-#[derive(Clone, Copy)]
+#[derive(Clone, Copy, PartialEq, Eq, PartialOrd, Ord)]
 pub struct TimeStamp {
     pub clock: u64,
 }
@@ -14,7 +14,7 @@ pub struct Minimums {
     pub negative: TimeStamp,
 }
 
-#[derive(Clone, Copy)]
+#[derive(Clone, Copy, PartialEq, Eq)]
 pub enum AnswerMode {
     Complete,
     Ambiguous,
@@ -29,12 +29,8 @@ impl TimeStamp {
     pub fn increment(self) -> TimeStamp
         ensures { result.clock ≡ incremented self.clock }
     {
-        if self.clock == TimeStamp::MAX.clock {
-            self
-        } else {
-            TimeStamp {
-                clock: self.clock + 1,
-            }
+        TimeStamp {
+            clock: self.clock.saturating_add(1),
         }
     }
 
@@ -42,11 +38,7 @@ impl TimeStamp {
     pub fn earlier(self, other: TimeStamp) -> TimeStamp
         ensures { result.clock ≡ min self.clock other.clock }
     {
-        if other.clock < self.clock {
-            other
-        } else {
-            self
-        }
+        self.min(other)
     }
 }
 
@@ -84,8 +76,5 @@ impl Minimums {
 pub fn is_complete(m: AnswerMode) -> bool
     ensures { result ≡ is_complete (mode m) }
 {
-    match m {
-        AnswerMode::Complete => true,
-        AnswerMode::Ambiguous => false,
-    }
+    m == AnswerMode::Complete
 }

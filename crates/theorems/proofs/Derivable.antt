@@ -1,10 +1,14 @@
 -- What the code finds can be derived, since what the definitions find can be.
-use Prim.Native.Nat.{ℕ}
+use Prim.Native.Nat.{ℕ, zero, suc}
+use native.Mathlib.Omega.{arith}
 use mathlib.Core.Bool.{false}
 use mathlib.Core.List.{List, [], ◌∷◌, map}
 use mathlib.Core.Logic.{inr}
-use mathlib.Core.Option.{none, some}
-use mathlib.Core.Path.{◌≡◌, sym, ap, subst, ◌∙◌}
+use mathlib.Core.Option.{Option, none, some}
+use mathlib.Core.Path.{◌≡◌, refl, sym, ap, subst, ◌∙◌}
+use Rattle.std.specs.declared.option.Option as found
+use Rattle.std.proofs.Common.{Some, None}
+use Rattle.laws.proofs.Options.{no_such}
 use lib.ListN.{length, get_or}
 use Rattle.definitions.specs.Book as books
 use Rattle.definitions.specs.Calls as said
@@ -17,10 +21,13 @@ use Rattle.papers.specs.Spoilt.{spoiler_in, spoilers}
 use Rattle.definitions.specs.Tables as tables
 use Rattle.definitions.specs.Turn as turns
 use Rattle.definitions.proofs.Desk.{desk_reads}
-use Rattle.definitions.proofs.ReadLimits.{book_good}
+use Rattle.definitions.proofs.Refusal.{same_accepted}
+use Rattle.papers.proofs.Spoilt.{length_after}
 use Rattle.paper_checks.specs.declared.Spoilers.{Spoilers}
-use Rattle.paper_checks.specs.Spoilers.{by_number, filled, goal_told, spoilers_told}
-use Rattle.paper_checks.proofs.Spreading.{by_at, few_after}
+use Rattle.paper_checks.specs.declared.Spoiler.{Spoiler}
+use Rattle.paper_checks.specs.Spoilers.{by_seen, nothing, each_told, told_after, spoilers_told}
+use Rattle.paper_checks.proofs.Firsts.{get_or_filled}
+use Rattle.paper_checks.proofs.Spreading.{seen_back}
 use Rattle.derivable.proofs.Spoilt.{unspoilt_clean, checked_clean}
 use Rattle.derivable.proofs.Theorem as derived
 use Rattle.forest.specs.declared.Forest.{Forest}
@@ -109,15 +116,30 @@ unspoilt_steps bytes spoilers checked limit m made is book took =
     (checked_clean bytes book took spoilers checked)
 
 -- as the code tells them
+
+each_by : (os : List (Option ℕ)) (gs : books.Book) (goal : ℕ) → length os ≡ length gs
+    → by_seen (get_or (each_told os gs) goal nothing).by ≡ spoiler_in os goal
+each_by [] [] goal e = refl
+each_by [] (g ∷ gs) goal e = absurd (omega arith)
+each_by (o ∷ os) [] goal e = absurd (omega arith)
+each_by (o ∷ os) (g ∷ gs) zero e = seen_back o
+each_by (o ∷ os) (g ∷ gs) (suc goal) e = each_by os gs goal (omega arith)
+
+seen_none : (o : found.Option ℕ) → by_seen o ≡ none → o ≡ None
+seen_none None e = refl
+seen_none (Some by) e = absurd (no_such (sym e))
+
+told_by : (book : books.Book) (p : Spoilers) → p ≡ told_after (length book) book
+    → (goal : ℕ) → by_seen (get_or p.told goal nothing).by ≡ spoiler_in (spoilers book) goal
+told_by book p is goal =
+    ap (λ (z : Spoilers). by_seen (get_or z.told goal nothing).by) is
+    ∙ ap (λ (s : Spoiler). by_seen s.by) (get_or_filled nothing (each_told (spoilers book) book) goal)
+    ∙ each_by (spoilers book) book goal (length_after (length book) book)
+
 pub clean_steps : CleanTells
 clean_steps bytes p says limit m made is book took =
-    let read = (desk_reads bytes book took).0 in
-    let by_is : p.by ≡ filled 64 (map by_number (spoilers book)) =
-    ap (λ (z : Spoilers). z.by) (says ∙ ap spoilers_told took) in
-    let told : (goal : ℕ) → get_or p.by goal 64 ≡ by_number (spoiler_in (spoilers book) goal) =
-    λ goal. ap (λ (l : List ℕ). get_or l goal 64) by_is ∙ by_at (spoilers book) goal in
-    steps_derivable bytes limit m (inr made) is book read (λ goal. get_or p.by goal 64 ≡ 64)
-    (derived.clean_same book {C = λ goal. spoiler_in (spoilers book) goal ≡ none} {D = λ goal. get_or p.by goal 64 ≡ 64}
-    (λ goal e. told goal ∙ ap by_number e)
-    (λ goal e. sym (few_after (length book) book (book_good bytes book read).small.few_goals goal) ∙ ap goal_told (sym (told goal) ∙ e))
+    let told = told_by book p (same_accepted (says ∙ ap spoilers_told took)) in
+    steps_derivable bytes limit m (inr made) is book (desk_reads bytes book took).0 (λ goal. (get_or p.told goal nothing).by ≡ None)
+    (derived.clean_same book {C = λ goal. spoiler_in (spoilers book) goal ≡ none} {D = λ goal. (get_or p.told goal nothing).by ≡ None}
+    (λ goal e. seen_none (get_or p.told goal nothing).by (told goal ∙ e)) (λ goal e. sym (told goal) ∙ ap by_seen e)
     (unspoilt_clean book))

@@ -3,7 +3,7 @@
 -- of every forest that anybody can have, and of every way of calling: by value, of a forest that is lent by `&mut`, and of calls handed
 -- over together (`Steps`). Of a function itself only its contract is known: `MakeSays`, `OpenSays`, `SearchSays`, `PeekSays` and
 -- `FutureSays` (crate `forest`), which docs/API.md explains. docs/TRUST.md tells what is assumed and what is only tested.
-use Rattle.std.specs.Prelude.{ℕ, suc, ◌+◌, ◌≤◌, ◌<◌, Bool, true, false, List, [], map, ◌⊎◌, ◌≡◌, length, get_or, take}
+use Rattle.std.specs.Prelude.{ℕ, suc, ◌+◌, ◌≤◌, ◌<◌, Bool, true, false, List, [], map, ◌⊎◌, ◌≡◌, length, get_or, take, Ok, None}
 use Rattle.std.proofs.Math.Option.{Option, none, some}
 use Rattle.std.proofs.Math.ListN.{get_elem?}
 use Rattle.sizes.specs.Limits.{read_ahead}
@@ -32,10 +32,10 @@ use Rattle.promises.specs.Skips.{UnsettledWord, Counted, IndexRisesBySkips}
 use Rattle.promises.specs.Total.{making_numbers, desk_numbers}
 use Rattle.derivable.specs.Listing.{LineDerivable}
 use Rattle.derivable.specs.Spoilt.{LargestClean, SpoiltBy}
-use Rattle.paper_checks.specs.declared.Profile.{Profile}
+use Rattle.paper_checks.specs.declared.LeastLevels.{LeastLevels}
 use Rattle.paper_checks.specs.declared.Spoilers.{Spoilers}
 use Rattle.paper_checks.specs.Profile.{Profiles}
-use Rattle.paper_checks.specs.Spoilers.{spoilers_told}
+use Rattle.paper_checks.specs.Spoilers.{nothing, spoilers_told}
 use Rattle.control.specs.declared.performed.Flow.TheVariants as ways
 use Rattle.control.specs.InHand.{flows}
 use Rattle.control.specs.QueueInPlace.{TakesInPlace}
@@ -124,10 +124,10 @@ AnswersRight =
     AllTell (In book level) clock_limit false ts × (exceeded ts ≤ length book + clause_count book))
 
 -- 02, order 12: "Teachers want to know beforehand whether a paper is within demand 3." The same of a paper for which the check of the code
--- gives number 0, by the levels that it gives.
+-- gives levels, by these levels.
 abbrev pub AcceptedTells : Type 0
 AcceptedTells =
-    (bytes : List ℕ) (p : Profile) → Profiles bytes p → p.number ≡ 0 →
+    (bytes : List ℕ) (p : LeastLevels) → Profiles bytes (Ok p) →
     (clock_limit : ℕ) (m : Made) → MakeAtDeskSays bytes clock_limit m → m.making ≡ makings.Made →
     (book : Book) → desk bytes ≡ accepted book →
     (ss : List Step) → Runs m.forest ss →
@@ -159,7 +159,7 @@ BookDerivable =
     (ss : List Step) → Runs m.forest ss → TellSo m.forest ss (AllDerivable book (λ goal. Unit {0}) m.forest)
 
 -- beforehand: of the goals that nothing spoils, as the check of the paper gives them; and as the code returns them (crate `paper_checks`,
--- `spoilers`), where 64 stands for a goal that nothing spoils
+-- `spoilers`), where `by` is None of a goal that nothing spoils
 abbrev pub UnspoiltTells : Type 0
 UnspoiltTells =
     (bytes : List ℕ) (by : List (Option ℕ)) → check_spoilers bytes ≡ accepted by →
@@ -170,11 +170,11 @@ UnspoiltTells =
 
 abbrev pub CleanTells : Type 0
 CleanTells =
-    (bytes : List ℕ) (p : Spoilers) → p ≡ spoilers_told (desk bytes) →
+    (bytes : List ℕ) (p : Spoilers) → accepted p ≡ spoilers_told (desk bytes) →
     (clock_limit : ℕ) (m : Made) → MakeAtDeskSays bytes clock_limit m → m.making ≡ makings.Made →
     (book : Book) → desk bytes ≡ accepted book →
     (ss : List Step) → Runs m.forest ss →
-    TellSo m.forest ss (AllDerivable book (λ goal. get_or p.by goal 64 ≡ 64) m.forest)
+    TellSo m.forest ss (AllDerivable book (λ goal. (get_or p.told goal nothing).by ≡ None) m.forest)
 
 -- the goals that nothing spoils are the largest clean set, and the goal that is named does spoil
 pub record SpoilersRight : Type 1 where

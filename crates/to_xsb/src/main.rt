@@ -5,7 +5,7 @@
 #![tactic(auto)]
 
 use intake::input;
-use pen::Streams;
+use pen::{Pen, Streams};
 use sizes::READ_AHEAD;
 use xsb_export::export::export;
 
@@ -15,9 +15,11 @@ use xsb_export::export::export;
 fn answer(to: Streams, bytes: &[u8]) {
     let mut out = [0u8; 32768];
     let mut lines = [0u8; 128];
-    let exported = export(to, &mut out, &mut lines, bytes);
-    pen::tell(to, &lines, exported.told);
-    if !pen::flush(to, &out, exported.used) {
+    let mut text = Pen::new(to, &mut out);
+    let mut told = Pen::new(to, &mut lines);
+    let _ = export(&mut text, &mut told, bytes);
+    told.tell();
+    if !text.flush() {
         let _ = eprintln!(to.errors; "to_xsb: the text can't be written");
     }
 }
@@ -28,12 +30,11 @@ fn main(rt: HostRuntime) {
         errors: rt.stderr(),
     };
     let mut bytes = [0u8; READ_AHEAD];
-    let got = input(&mut rt.stdin(), &mut bytes);
     // Where the input can't be read, that is said, and nothing is taken for a book.
-    if !got.whole {
-        let _ = eprintln!(to.errors; "to_xsb: the input can't be read");
-        return;
+    match input(&mut rt.stdin(), &mut bytes) {
+        Ok(count) => answer(to, &bytes[..count]),
+        Err(_) => {
+            let _ = eprintln!(to.errors; "to_xsb: the input can't be read");
+        }
     }
-    let n = got.count;
-    answer(to, &bytes[..n]);
 }

@@ -1,5 +1,7 @@
 -- What the proofs of the export cite: texts put down one after the other are the book's lines, a lemma for each way out of each function
 -- and each turn of a loop. Assumes nothing.
+use Rattle.std.specs.Prelude.{Ok, Err}
+use Rattle.std.specs.declared.option.Option as found
 use Prim.Native.Nat.{ℕ, zero, suc, ◌+◌, ◌-◌, ◌<◌, ◌≤◌}
 use native.Mathlib.Omega.{arith}
 use mathlib.Core.Bool.{Bool, true, false}
@@ -7,35 +9,33 @@ use mathlib.Core.Path.{◌≡◌, refl, sym, ap, ap₂, ◌∙◌}
 use mathlib.Core.Option.{Option}
 use mathlib.Core.List.{List, [], ◌∷◌, ◌++◌, append_assoc}
 use lib.ListN.{take}
-use lib.Dec.{eqb}
-use borrow.Author.Tests.{eq-eqb, ne_eqb}
 use Rattle.laws.specs.Spans.{span}
 use Rattle.laws.proofs.Spans.{length_span, span_left, span_done}
 use Rattle.definitions.specs.Text.{ascii, decimal}
-use Rattle.definitions.specs.Refusal.{Refusable, refused}
+use Rattle.definitions.specs.Refusal.{Refusable}
 use Rattle.definitions.specs.Book as said
 use Rattle.sizes.specs.Limits.{read_ahead}
 use Rattle.definitions.specs.Book.{bit0, bit1}
 use Rattle.papers.specs.Xsb.{Rule, rules_of_goal, rules_from, literal_text, more_text, body_text, rule_line, rule_lines, table_line}
 use Rattle.papers.specs.Xsb.{table_lines, export, export_at_desk, check_export}
-use Rattle.papers.specs.NotPlain.{Place, place_of}
+use Rattle.papers.specs.NotPlain.{Place}
 use Rattle.definitions.proofs.Desk.{desk_take}
 use Rattle.pen.specs.Pen.{Pen, put_all}
 use Rattle.pen.specs.Refusals.{refusal_lines}
 use Rattle.places.specs.Words.{place_line}
-use Rattle.pen.proofs.Putting.{put_two, put_nothing, put_left, put_ended}
+use Rattle.pen.proofs.Putting.{put_all_append, put_two, put_nothing, put_left, put_ended}
 use Rattle.book.specs.declared.Book.{Book}
 use Rattle.book.specs.declared.Literal.{Literal}
-use Rattle.book.specs.declared.Reading.{Reading}
+use Rattle.book.specs.declared.refusal.Refusal.{Refusal}
+use Rattle.book.specs.Refusals.{number}
 use Rattle.book.specs.Access.{entry, literal_read}
-use Rattle.book.specs.View.{meant, signed, wanted, bit2, goal_viewed, view, seen_by, Sound, Gives}
-use Rattle.book.specs.Repeats.{Lent, literals_read, clause_read}
-use Rattle.book.proofs.Shown.{lent_by}
+use Rattle.book.specs.View.{meant, signed, wanted, bit2, goal_viewed, view, Sound, Gives}
+use Rattle.book.specs.Repeats.{lent_by, clause_read}
 use Rattle.book.proofs.TwiceInBook.{goal_shown}
 use Rattle.paper_checks.specs.declared.NotPlain.{NotPlain}
 use Rattle.paper_checks.specs.Paper.{plain_paper}
-use Rattle.paper_checks.specs.Places.{numbers}
-use Rattle.paper_checks.proofs.Papers.{of_paper, export_in, export_of_paper, gave}
+use Rattle.paper_checks.specs.Places.{numbers, place_seen}
+use Rattle.paper_checks.proofs.Papers.{of_paper, export_in, export_of_paper}
 use Rattle.paper_checks.proofs.Tested.{place_by}
 use Rattle.xsb_export.specs.Exporting.{lines_of, exported, literal_said, rule_read}
 
@@ -45,17 +45,10 @@ pub table_said : (g : ℕ) (p q r : Pen) → q ≡ put_all (ascii ":- table g" +
     → r ≡ put_all (table_line g) p
 table_said g p q r e f = put_two (ascii ":- table g" ++ decimal g) (ascii "/0.\n") p q r e f
 
-pub tables_begin : (p : Pen) → p ≡ put_all (table_lines 0) p
-tables_begin p = sym (put_nothing p)
-
-pub tables_step : (g : ℕ) (p q start : Pen) → p ≡ put_all (table_lines g) start → q ≡ put_all (table_line g) p
-    → q ≡ put_all (table_lines (g + 1)) start
-tables_step g p q start e f =
-    let one : suc g ≡ g + 1 = omega arith in
-    put_two (table_lines g) (table_line g) start p q e f ∙ ap (λ (n : ℕ). put_all (table_lines n) start) one
-
-pub tables_said : (g n : ℕ) (p q : Pen) → g ≤ n → n ≤ g → q ≡ put_all (table_lines g) p → q ≡ put_all (table_lines n) p
-tables_said g n p q h k e = let all : g ≡ n = omega arith in e ∙ ap (λ (m : ℕ). put_all (table_lines m) p) all
+pub tables_next : (g : ℕ) (p : Pen) → put_all (table_lines (g + 1)) p ≡ put_all (table_line g) (put_all (table_lines g) p)
+tables_next g p =
+    let one : g + 1 ≡ suc g = omega arith in
+    ap (λ (n : ℕ). put_all (table_lines n) p) one ∙ put_all_append (table_lines g) (table_line g) p
 
 -- A literal.
 
@@ -74,38 +67,40 @@ module _ (l : Literal) where
 
 -- The literals of a clause.
 
-module _ (kind goal want : List ℕ) (c : ℕ) where
+module _ (b : Book) (c : ℕ) where
   -- what is left to say at place j of n, behind the first
   abbrev pub more_left : (n j : ℕ) → List ℕ
-  more_left n j = more_text (span (literal_said kind goal want c) j (n - j))
+  more_left n j = more_text (span (literal_said b c) j (n - j))
 
   pub more_step : (n j : ℕ) (l : Literal) (p q r start : Pen) → j < n → put_all (more_left n j) p ≡ put_all (more_left n 1) start
-      → q ≡ put_all (ascii ", ") p → l ≡ literal_read kind goal want c j → r ≡ put_all (literal_text (meant l)) q
+      → q ≡ put_all (ascii ", ") p → l ≡ literal_read b.literal_kind b.literal_goal b.literal_want c j
+      → r ≡ put_all (literal_text (meant l)) q
       → put_all (more_left n (j + 1)) r ≡ put_all (more_left n 1) start
   more_step n j l p q r start h i e m f =
-      let here = literal_text (literal_said kind goal want c j) in
+      let here = literal_text (literal_said b c j) in
       let rest = more_left n (j + 1) in
       put_left here rest q r (f ∙ ap (λ (x : Literal). put_all (literal_text (meant x)) q) m) ∙ put_left (ascii ", ") (here ++ rest) p q e
-      ∙ ap (λ (ls : List said.Literal). put_all (more_text ls) p) (sym (span_left (literal_said kind goal want c) j n j h)) ∙ i
+      ∙ ap (λ (ls : List said.Literal). put_all (more_text ls) p) (sym (span_left (literal_said b c) j n j h)) ∙ i
 
   pub more_said : (n j : ℕ) (p q : Pen) → n ≤ j → put_all (more_left n j) q ≡ put_all (more_left n 1) p
-      → q ≡ put_all (more_text (span (literal_said kind goal want c) 1 (n - 1))) p
+      → q ≡ put_all (more_text (span (literal_said b c) 1 (n - 1))) p
   more_said n j p q h i =
-      put_ended (more_left n j) (more_left n 1) p q (ap more_text (span_done (literal_said kind goal want c) j n j h)) i
+      put_ended (more_left n j) (more_left n 1) p q (ap more_text (span_done (literal_said b c) j n j h)) i
 
-module _ (len kind goal want : List ℕ) (c count : ℕ) (counted : count ≡ entry 256 len c) where
+module _ (b : Book) (c count : ℕ) (counted : count ≡ entry 256 b.clause_len c) where
   abbrev text_of_first : ℕ → List ℕ
-  text_of_first n = body_text (span (literal_said kind goal want c) 0 n)
+  text_of_first n = body_text (span (literal_said b c) 0 n)
 
-  pub fact_said : (p : Pen) → count ≡ 0 → p ≡ put_all (body_text (literals_read len kind goal want c)) p
+  pub fact_said : (p : Pen) → count ≡ 0 → p ≡ put_all (body_text (clause_read (lent_by b) c).literals) p
   fact_said p z = sym (put_nothing p) ∙ ap (λ (n : ℕ). put_all (text_of_first n) p) (sym z ∙ counted)
 
-  pub body_said : (l : Literal) (p q r s : Pen) → (count ≡ 0 → ⊥) → q ≡ put_all (ascii " :- ") p → l ≡ literal_read kind goal want c 0
-      → r ≡ put_all (literal_text (meant l)) q → s ≡ put_all (more_text (span (literal_said kind goal want c) 1 (count - 1))) r
-      → s ≡ put_all (body_text (literals_read len kind goal want c)) p
+  pub body_said : (l : Literal) (p q r s : Pen) → (count ≡ 0 → ⊥) → q ≡ put_all (ascii " :- ") p
+      → l ≡ literal_read b.literal_kind b.literal_goal b.literal_want c 0
+      → r ≡ put_all (literal_text (meant l)) q → s ≡ put_all (more_text (span (literal_said b c) 1 (count - 1))) r
+      → s ≡ put_all (body_text (clause_read (lent_by b) c).literals) p
   body_said l p q r s some e m f g =
-      let first = literal_text (literal_said kind goal want c 0) in
-      let rest = more_text (span (literal_said kind goal want c) 1 (count - 1)) in
+      let first = literal_text (literal_said b c 0) in
+      let rest = more_text (span (literal_said b c) 1 (count - 1)) in
       let all : suc (count - 1) ≡ count = omega arith in
       put_two (ascii " :- ") (first ++ rest) p q s e
       (put_two first rest q r s (f ∙ ap (λ (x : Literal). put_all (literal_text (meant x)) q) m) g)
@@ -149,11 +144,9 @@ lines_append (r ∷ a) b =
     ap (λ (l : List ℕ). rule_line r ++ l) (lines_append a b) ∙ sym (append_assoc (rule_line r) (rule_lines a) (rule_lines b))
 
 -- the rules of a goal, by the arrays
-read_rules : (a : Lent) (g s n : ℕ)
-    → rules_of_goal g (span (clause_read a) s n) ≡ span (rule_read a.lens a.kinds a.goals a.wants g) s n
-read_rules a g s zero = refl
-read_rules a g s (suc n) =
-    ap (λ (rs : List Rule). rule_read a.lens a.kinds a.goals a.wants g s ∷ rs) (read_rules a g (suc s) n)
+read_rules : (b : Book) (g s n : ℕ) → rules_of_goal g (span (clause_read (lent_by b)) s n) ≡ span (rule_read b g) s n
+read_rules b g s zero = refl
+read_rules b g s (suc n) = ap (λ (rs : List Rule). rule_read b g s ∷ rs) (read_rules b g (suc s) n)
 
 module _ (b : Book) where
   -- what is left to say at goal g
@@ -161,7 +154,7 @@ module _ (b : Book) where
   goals_left g = rule_lines (rules_from g (span (goal_viewed b) g (b.goals - g)))
 
   abbrev rules_at : (g s n : ℕ) → List Rule
-  rules_at g s n = span (rule_read b.clause_len b.literal_kind b.literal_goal b.literal_want g) s n
+  rules_at g s n = span (rule_read b g) s n
 
   goals_next : Sound b → (g first count : ℕ) → g < b.goals → first ≡ entry 64 b.goal_first g → count ≡ entry 64 b.goal_len g
       → goals_left g ≡ rule_lines (rules_at g first count) ++ goals_left (g + 1)
@@ -171,7 +164,7 @@ module _ (b : Book) where
       ap (λ (gs : List said.Goal). rule_lines (rules_from g gs)) (span_left (goal_viewed b) g b.goals g h)
       ∙ lines_append (rules_of_goal g (goal_viewed b g).clauses) rest
       ∙ ap (λ (cs : List said.Clause). rule_lines (rules_of_goal g cs) ++ rule_lines rest) (sym (goal_shown b s g first count h hf hc))
-      ∙ ap (λ (rs : List Rule). rule_lines rs ++ rule_lines rest) (read_rules (lent_by b) g first count)
+      ∙ ap (λ (rs : List Rule). rule_lines rs ++ rule_lines rest) (read_rules b g first count)
       ∙ ap (λ (m : ℕ). rule_lines (rules_at g first count) ++ rule_lines
       (rules_from m (span (goal_viewed b) (g + 1) (b.goals - (g + 1))))) one
 
@@ -198,31 +191,28 @@ module _ (b : Book) where
 
 -- The lines of a refusal.
 
-pub refusal_said : (n : ℕ) (o : Option Place) (at : NotPlain) (p q r : Pen) → q ≡ put_all (refusal_lines n) p → at ≡ numbers o
-    → r ≡ put_all (place_line (place_of at.what at.in_clause at.in_literal at.goal at.clause at.literal)) q
-    → r ≡ put_all (lines_of n o) p
-refusal_said n o at p q r e f g =
-    put_two (refusal_lines n) (place_line o) p q r e (g ∙ ap (λ (x : Option Place). put_all (place_line x) q) (place_by o at f))
+pub refusal_said : (n k : ℕ) (o : Option Place) (at : found.Option NotPlain) (p q r : Pen) → k ≡ n → q ≡ put_all (refusal_lines k) p
+    → at ≡ numbers o → r ≡ put_all (place_line (place_seen at)) q → r ≡ put_all (lines_of n o) p
+refusal_said n k o at p q r is e f g =
+    put_two (refusal_lines k) (place_line o) p q r e (g ∙ ap (λ (x : Option Place). put_all (place_line x) q) (place_by o at f))
+    ∙ ap (λ (m : ℕ). put_all (lines_of m o) p) is
 
 -- The export.
 
-module _ (bytes : List ℕ) (paper : Reading) (given : Gives (plain_paper bytes) paper) where
-  by_number : (t : Bool) → eqb paper.number 0 ≡ t → check_export bytes ≡ of_paper export_in (seen_by t paper)
-  by_number t e =
-      export_of_paper bytes ∙ ap (of_paper export_in) (gave (plain_paper bytes) paper given t e)
+module _ (bytes : List ℕ) (place : Option Place) (out told : Pen) where
+  pub refused_exported : (e : Refusal) (q : Pen) → Gives (plain_paper bytes) (Err e) → q ≡ put_all (lines_of (number e) place) told
+      → ◌≡◌ {A = ℕ × Pen × Pen} (number e, out, q) (exported (check_export bytes) place out told)
+  refused_exported e q given f =
+      ap (λ (x : Pen). (number e, out, x)) f
+      ∙ ap (λ (x : Refusable (List ℕ)). exported x place out told)
+      (sym (export_of_paper bytes ∙ ap (of_paper export_in) (sym given.means)))
 
-  pub refused_exported : (n : ℕ) (place : Option Place) (out p q : Pen) → n ≡ paper.number → (paper.number ≡ 0 → ⊥)
-      → q ≡ put_all (lines_of n place) p → ◌≡◌ {A = ℕ × Pen × Pen} (n, out, q) (exported (check_export bytes) place out p)
-  refused_exported n place out p q e some f =
-      ap (λ (x : Pen). (n, out, x)) f
-      ∙ ap (λ (m : ℕ). exported (refused m) place out p) e
-      ∙ ap (λ (x : Refusable (List ℕ)). exported x place out p) (sym (by_number false (ne_eqb paper.number 0 some)))
-
-  pub book_exported : (place : Option Place) (p q told : Pen) → paper.number ≡ 0 → q ≡ put_all (export (view paper.book)) p
-      → ◌≡◌ {A = ℕ × Pen × Pen} (0, q, told) (exported (check_export bytes) place p told)
-  book_exported place p q told z e =
+  pub book_exported : (b : Book) (q : Pen) → Gives (plain_paper bytes) (Ok b) → q ≡ put_all (export (view b)) out
+      → ◌≡◌ {A = ℕ × Pen × Pen} (0, q, told) (exported (check_export bytes) place out told)
+  book_exported b q given e =
       ap (λ (x : Pen). (0, x, told)) e
-      ∙ ap (λ (x : Refusable (List ℕ)). exported x place p told) (sym (by_number true (eq-eqb paper.number 0 z)))
+      ∙ ap (λ (x : Refusable (List ℕ)). exported x place out told)
+      (sym (export_of_paper bytes ∙ ap (of_paper export_in) (sym given.means)))
 
 -- what an input comes to is settled by its first bytes
 pub export_take : (bytes : List ℕ) → check_export (take read_ahead bytes) ≡ check_export bytes

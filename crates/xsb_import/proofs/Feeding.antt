@@ -1,19 +1,23 @@
 -- A reader of a text, fed with more of it.
+use Rattle.std.specs.Prelude.{Some, None}
+use Rattle.std.specs.declared.option.Option as found
 use Prim.Native.Nat.{ℕ, ◌+◌, ◌≤◌, ◌<◌}
 use native.Mathlib.Omega.{arith}
 use mathlib.Core.Path.{◌≡◌, refl, sym, ap, subst, ◌∙◌}
-use mathlib.Core.Bool.{true, false, false≢true}
+use mathlib.Core.Bool.{false}
 use mathlib.Core.Option.{Option, none, some}
 use mathlib.Core.List.{List, [], ◌∷◌, ◌++◌, append-nil, append_assoc}
 use lib.ListN.{length, take, set, get_or, replicate, length-replicate}
 use lib.Seq.{take_all}
 use Rattle.laws.proofs.Takes.{take_next, take_set_next}
 use Rattle.papers.specs.Xsb.{State, start, step, run}
+use Rattle.xsb_import.specs.declared.Place.TheVariants.{Line}
+use Rattle.xsb_import.specs.declared.Ended.{Ended}
 use Rattle.xsb_import.specs.declared.Spot.{Spot}
 use Rattle.xsb_import.specs.declared.Kept.{Kept}
 use Rattle.xsb_import.specs.Keeping.{KeepsOn}
-use Rattle.xsb_import.specs.Reading.{begun_rules, After, Steps}
-use Rattle.xsb_import.specs.Importing.{Held, HoldsState, Holds, Reads}
+use Rattle.xsb_import.specs.Reading.{begun_rules, After, StepsFrom}
+use Rattle.xsb_import.specs.Importing.{Held, HoldsState, Holds, Reads, ended_by}
 
 -- One byte more.
 
@@ -35,21 +39,24 @@ run_push (a ∷ l) b s = on (step s a) (run_push l b)
     on none f = refl
     on (some t) f = f t
 
-holds_step : (o : Option State) (b : ℕ) (s n : Spot) (k j : Kept) (bytes out : List ℕ)
-    → Steps s b n × (s.broken ≡ true → n.broken ≡ true) → KeepsOn n.told n.value k bytes j out
-    → HoldsState o s k bytes → HoldsState (stepped o b) n j out
-holds_step none b s n k j bytes out f g h = f.1 h
-holds_step (some st) b s n k j bytes out f g h = on (step st b) (f.0 st h.follows)
+holds_step : (o : Option State) (b : ℕ) (s n : found.Option Spot) (k j : found.Option Kept) (bytes out : List ℕ)
+    → StepsFrom s b n → KeepsOn (ended_by n) k bytes j out → HoldsState o s k bytes → HoldsState (stepped o b) n j out
+holds_step none b None n k j bytes out f g h = subst (λ (x : found.Option Spot). HoldsState none x j out) (sym f) tt
+holds_step none b (Some s) n k j bytes out f g h = absurd h
+holds_step (some st) b None n k j bytes out f g h = absurd h
+holds_step (some st) b (Some s) n k j bytes out f g h = on (step st b) n (f st h.follows) g
   where
-    on : (o : Option State) → After st o n → HoldsState o n j out
-    on none x = x
-    on (some t) x = record {
-      follows = x.follows;
-      keeps = g st.tables t.tables (begun_rules st) (begun_rules t) x.more_tables x.happens h.keeps;
+    on : (o : Option State) (x : found.Option Spot) → After st o x → KeepsOn (ended_by x) k bytes j out → HoldsState o x j out
+    on none None a g = tt
+    on none (Some x) a g = absurd a
+    on (some t) None a g = absurd a
+    on (some t) (Some x) a g = record {
+      follows = a.follows;
+      keeps = g st.tables t.tables (begun_rules st) (begun_rules t) a.more_tables a.happens h.keeps;
     }
 
-pub holds_next : (text piece : List ℕ) (i : ℕ) (s n : Spot) (k j : Kept) (bytes out : List ℕ) → i < length piece
-    → Steps s (get_or piece i 0) n × (s.broken ≡ true → n.broken ≡ true) → KeepsOn n.told n.value k bytes j out
+pub holds_next : (text piece : List ℕ) (i : ℕ) (s n : found.Option Spot) (k j : found.Option Kept) (bytes out : List ℕ) → i < length piece
+    → StepsFrom s (get_or piece i 0) n → KeepsOn (ended_by n) k bytes j out
     → Holds (text ++ take i piece) s k bytes → Holds (text ++ take (i + 1) piece) n j out
 holds_next text piece i s n k j bytes out lt f g h =
     let b = get_or piece i 0 in
@@ -59,35 +66,38 @@ holds_next text piece i s n k j bytes out lt f g h =
     (sym (ap (λ (t : List ℕ). run t start) more ∙ run_push (text ++ take i piece) b start))
     (holds_step (run (text ++ take i piece) start) b s n k j bytes out f g h)
 
-pub holds_first : (text piece : List ℕ) (s : Spot) (k : Kept) (bytes : List ℕ) → Holds text s k bytes
+pub holds_first : (text piece : List ℕ) (s : found.Option Spot) (k : found.Option Kept) (bytes : List ℕ) → Holds text s k bytes
     → Holds (text ++ take 0 piece) s k bytes
 holds_first text piece s k bytes h = subst (λ (t : List ℕ). Holds t s k bytes) (sym (append-nil text)) h
 
-pub holds_all : (text piece : List ℕ) (i : ℕ) (s : Spot) (k : Kept) (bytes : List ℕ) → length piece ≤ i
+pub holds_all : (text piece : List ℕ) (i : ℕ) (s : found.Option Spot) (k : found.Option Kept) (bytes : List ℕ) → length piece ≤ i
     → Holds (text ++ take i piece) s k bytes → Holds (text ++ piece) s k bytes
 holds_all text piece i s k bytes h x = subst (λ (t : List ℕ). Holds (text ++ t) s k bytes) (take_all i piece h) x
 
 -- Of a text, the bytes are as many as they should be.
 
-room_of : (o : Option State) (s : Spot) (k : Kept) (bytes own : List ℕ) → (length bytes ≡ 13441 → own ≡ bytes) → HoldsState o s k bytes
-    → HoldsState o s k own
-room_of none s k bytes own e h = h
-room_of (some st) s k bytes own e h = subst (Held st s k) (sym (e h.keeps.room)) h
+room_of : (o : Option State) (s : found.Option Spot) (k : found.Option Kept) (bytes own : List ℕ) → (length bytes ≡ 13441 → own ≡ bytes)
+    → HoldsState o s k bytes → HoldsState o s k own
+room_of none None k bytes own e h = tt
+room_of none (Some s) k bytes own e h = h
+room_of (some st) None k bytes own e h = h
+room_of (some st) (Some s) k bytes own e h = subst (Held st s k) (sym (e h.keeps.room)) h
 
-pub own_holds : (text : List ℕ) (s : Spot) (k : Kept) (bytes own : List ℕ) → (length own ≡ 13441) × (length bytes ≡ 13441 → own ≡ bytes)
-    → Holds text s k bytes → Holds text s k own
+pub own_holds : (text : List ℕ) (s : found.Option Spot) (k : found.Option Kept) (bytes own : List ℕ)
+    → (length own ≡ 13441) × (length bytes ≡ 13441 → own ≡ bytes) → Holds text s k bytes → Holds text s k own
 own_holds text s k bytes own e h = room_of (run text start) s k bytes own e.1 h
 
 -- For every text.
 
-pub fed_next : (s₀ s n : Spot) (k₀ k j : Kept) (bytes₀ bytes out piece : List ℕ) (i : ℕ) → i < length piece
-    → Steps s (get_or piece i 0) n × (s.broken ≡ true → n.broken ≡ true) → KeepsOn n.told n.value k bytes j out
+pub fed_next : (s₀ s n : found.Option Spot) (e : found.Option Ended) (k₀ k j : found.Option Kept) (bytes₀ bytes out piece : List ℕ)
+    (i b : ℕ) → i < length piece → StepsFrom s b n → b ≡ get_or piece i 0 → e ≡ ended_by n → KeepsOn e k bytes j out
     → ((text : List ℕ) → Holds text s₀ k₀ bytes₀ → Holds (text ++ take i piece) s k bytes)
     → (text : List ℕ) → Holds text s₀ k₀ bytes₀ → Holds (text ++ take (i + 1) piece) n j out
-fed_next s₀ s n k₀ k j bytes₀ bytes out piece i lt f g so_far text h =
-    holds_next text piece i s n k j bytes out lt f g (so_far text h)
+fed_next s₀ s n e k₀ k j bytes₀ bytes out piece i b lt f at is g so_far text h =
+    holds_next text piece i s n k j bytes out lt (subst (λ (x : ℕ). StepsFrom s x n) at f)
+    (subst (λ (x : found.Option Ended). KeepsOn x k bytes j out) is g) (so_far text h)
 
-pub fed : (s₀ s : Spot) (k₀ k : Kept) (held own bytes piece : List ℕ) (i : ℕ) → length piece ≤ i
+pub fed : (s₀ s : found.Option Spot) (k₀ k : found.Option Kept) (held own bytes piece : List ℕ) (i : ℕ) → length piece ≤ i
     → (length own ≡ 13441) × (length held ≡ 13441 → own ≡ held)
     → ((text : List ℕ) → Holds text s₀ k₀ own → Holds (text ++ take i piece) s k bytes)
     → (text : List ℕ) → Holds text s₀ k₀ held → Holds (text ++ piece) s k bytes
@@ -109,35 +119,24 @@ copied bytes r i e h f m = sym (take_all i r (omega arith)) ∙ f m ∙ take_all
 -- The start.
 
 abbrev first_spot : Spot
-first_spot = record {
-  place = 0;
-  digits = false;
-  value = 0;
-  tables = 0;
-  head = 0;
-  begun = false;
-  told = 0;
-  broken = false;
-}
+first_spot = record { place = Line; tables = 0; head = 0; begun = false; ended = None }
 
 abbrev first_kept : Kept
-first_kept = record { goals = 0; clauses = 0; literals = 8; used = 0; over = false }
+first_kept = record { goals = 0; clauses = 0; literals = 8; used = 0 }
 
-pub started : Reads [] (record { spot = first_spot; kept = first_kept; bytes = replicate 13441 0 })
+pub started : Reads [] (record { spot = Some first_spot; kept = Some first_kept; bytes = replicate 13441 0 })
 started = record {
   follows = record {
     place_is = refl;
-    known = omega arith;
+    known = tt;
     tables_are = refl;
     head_is = refl;
     none_begun = refl;
-    whole = refl;
     in_order = omega arith;
   };
   keeps = record {
     room = length-replicate {A = ℕ} 13441 0;
-    too_much = λ p. absurd (false≢true p);
-    whole = λ p. record {
+    within = record {
       held = refl;
       goals_are = refl;
       clauses_are = refl;

@@ -2,14 +2,13 @@
 use Prim.Native.Nat.{ℕ, zero, suc, ◌+◌, ◌-◌, ◌%◌, ◌/◌, ◌≤◌, ◌<◌}
 use native.Mathlib.Omega.{arith}
 use mathlib.Core.Path.{◌≡◌, refl, sym, ap, subst, ◌∙◌}
-use mathlib.Core.Bool.{Bool, true, false}
+use mathlib.Core.Bool.{false}
 use mathlib.Core.List.{List, [], ◌∷◌, ◌++◌, append-nil, append_assoc}
 use lib.Seq.{take_all}
 use lib.ListN.{length, take, set, get_or, length-append, length-set}
-use borrow.Author.Tests.{eq-eqb, ne_eqb}
 use Rattle.laws.proofs.Takes.{take_next, take_set_next}
 use Rattle.definitions.specs.Book.{any, Positive, Negative, write_literal}
-use Rattle.xsb_import.specs.Keeping.{goal_bytes, Writes, literal_told}
+use Rattle.xsb_import.specs.Keeping.{capped_to, capped_literal, goal_bytes, Writes}
 
 pub writes_none : (l : List ℕ) (u : ℕ) → Writes l u [] l u
 writes_none l u = record { same = refl; ends = λ h. omega arith; written = λ h. sym (append-nil (take u l)) }
@@ -55,24 +54,19 @@ goals_next a b c u v w g from h f k =
 pub writes_as : (a b xs ys : List ℕ) (u v : ℕ) → xs ≡ ys → Writes a u xs b v → Writes a u ys b v
 writes_as a b xs ys u v e f = subst (λ (t : List ℕ). Writes a u t b v) e f
 
-pub positive_bytes : (told g low high : ℕ) → told ≡ 2 → low ≡ g % 256 → high ≡ g / 256
-    → 0x50 ∷ low ∷ high ∷ 0 ∷ 0 ∷ 0 ∷ [] ≡ write_literal (literal_told told g)
-positive_bytes told g low high e l h =
-    ap (λ (x : ℕ). 0x50 ∷ x ∷ high ∷ 0 ∷ 0 ∷ 0 ∷ []) l ∙ ap (λ (x : ℕ). 0x50 ∷ g % 256 ∷ x ∷ 0 ∷ 0 ∷ 0 ∷ []) h
-    ∙ ap (λ (c : Bool). write_literal (elim c [ true ↦ Positive g any false | false ↦ Negative g false ])) (sym (eq-eqb told 2 e))
+pub positive_bytes : (v g : ℕ) → g ≡ capped_to v
+    → 0x50 ∷ g % 256 ∷ g / 256 ∷ 0 ∷ 0 ∷ 0 ∷ [] ≡ write_literal (capped_literal (Positive v any false))
+positive_bytes v g e = ap (λ (x : ℕ). write_literal (Positive x any false)) e
 
-pub negative_bytes : (told g low high : ℕ) → (told ≡ 2 → ⊥) → low ≡ g % 256 → high ≡ g / 256
-    → 0x4E ∷ low ∷ high ∷ 0 ∷ [] ≡ write_literal (literal_told told g)
-negative_bytes told g low high e l h =
-    ap (λ (x : ℕ). 0x4E ∷ x ∷ high ∷ 0 ∷ []) l ∙ ap (λ (x : ℕ). 0x4E ∷ g % 256 ∷ x ∷ 0 ∷ []) h
-    ∙ ap (λ (c : Bool). write_literal (elim c [ true ↦ Positive g any false | false ↦ Negative g false ])) (sym (ne_eqb told 2 e))
+pub negative_bytes : (v g : ℕ) → g ≡ capped_to v → 0x4E ∷ g % 256 ∷ g / 256 ∷ 0 ∷ [] ≡ write_literal (capped_literal (Negative v false))
+negative_bytes v g e = ap (λ (x : ℕ). write_literal (Negative x false)) e
 
 pub writes_all : (a b more : List ℕ) (u v i : ℕ) → length more ≤ i → Writes a u (take i more) b v → Writes a u more b v
 writes_all a b more u v i h f = writes_as a b (take i more) more u v (take_all i more h) f
 
-pub goals_all : (a b : List ℕ) (u v g from to : ℕ) → from ≤ g → to ≤ g → g - from ≤ to - from → Writes a u (goal_bytes (g - from)) b v
+pub goals_all : (a b : List ℕ) (u v g from to : ℕ) → to ≤ g → g - from ≤ to - from → Writes a u (goal_bytes (g - from)) b v
     → Writes a u (goal_bytes (to - from)) b v
-goals_all a b u v g from to h p q f =
+goals_all a b u v g from to p q f =
     let e : g - from ≡ to - from = omega arith in
     writes_as a b (goal_bytes (g - from)) (goal_bytes (to - from)) u v (ap goal_bytes e) f
 

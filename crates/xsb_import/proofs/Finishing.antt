@@ -1,103 +1,117 @@
 -- What a reader's text comes to at its end.
-use Prim.Native.Nat.{ℕ, zero, suc, ◌<◌}
+use Rattle.std.specs.Prelude.{Err, Some, None, is_some}
+use Rattle.std.specs.declared.option.Option as found
+use Prim.Native.Nat.{ℕ, ◌<◌}
 use native.Mathlib.Omega.{arith}
 use mathlib.Core.Path.{◌≡◌, refl, sym, ap, subst, ◌∙◌}
 use mathlib.Core.Bool.{Bool, true, false, not, false≢true}
 use mathlib.Core.Option.{Option, none, some}
 use mathlib.Core.List.{List, [], ◌∷◌, map}
 use lib.Dec.{ltb, eqb}
-use lib.ListN.{length, get_or, replicate, length-replicate, get_or-replicate, get_or-map}
-use borrow.Author.Tests.{ne_eqb, lt-ltb}
+use lib.ListN.{length, get_or, replicate, get_or-replicate, get_or-map}
+use borrow.Author.Tests.{lt-ltb}
 use Rattle.definitions.specs.Refusal.{Refusable, refused, ◌refuses◌, unless}
 use Rattle.definitions.specs.Lists.{any_passes}
 use Rattle.definitions.specs.Book as said
 use Rattle.definitions.specs.Book.{goals_name}
 use Rattle.definitions.specs.Desk.{at_desk}
-use Rattle.papers.specs.Xsb.{Rule, Place, line, State, start, if_so, run, at_line, ended, parse, is_long, goals_for, book_of, parsed_book}
+use Rattle.papers.specs.Xsb as xsb
+use Rattle.papers.specs.Xsb.{Rule, line, State, start, if_so, run, at_line, ended, parse, is_long, goals_for, book_of, parsed_book}
 use Rattle.papers.specs.Xsb.{bytes_of, check_import}
 use Rattle.papers.specs.XsbForm.{no_state}
 use Rattle.papers.proofs.XsbRefusals.{broken_39}
+use Rattle.xsb_import.specs.declared.Place.{Place}
+use Rattle.xsb_import.specs.declared.Place.TheVariants.{Line, Fixed, Number, Literal, Behind}
 use Rattle.xsb_import.specs.declared.Spot.{Spot}
 use Rattle.xsb_import.specs.declared.Kept.{Kept}
 use Rattle.xsb_import.specs.declared.Reader.{Reader}
-use Rattle.xsb_import.specs.declared.Imported.{Imported}
-use Rattle.xsb_import.specs.Places.{value_of, all_places, place_of}
-use Rattle.xsb_import.specs.Keeping.{TooMuch, goals, clauses, literals}
+use Rattle.book.specs.declared.refusal.Refusal.{Refusal}
+use Rattle.book.specs.declared.refusal.Refusal.TheVariants as why
+use Rattle.book.specs.Refusals.{number}
+use Rattle.xsb_import.specs.Places.{fixed_places, place_seen, Known}
+use Rattle.xsb_import.specs.Keeping.{TooMuch, goals, clauses, literals, Within}
 use Rattle.xsb_import.specs.Reading.{begun_rules}
-use Rattle.xsb_import.specs.Importing.{Held, HoldsState, Reads, Settles, imported_by, refused_by, Sized, Imports}
+use Rattle.xsb_import.specs.Importing.{Held, HoldsState, Reads, by_line, line_of, Settles, Imports}
 use Rattle.xsb_import.proofs.Begun.{begun_here}
 
 -- Whether a text ends where a line may begin.
 
--- at no place but the first
-elsewhere : (p : ℕ) (v : Option ℕ) → p < 27 → (p ≡ 0 → ⊥) → at_line (place_of p v) ≡ false
-elsewhere zero v h n = absurd (n refl)
-elsewhere (suc p) v h n =
-    let m : map at_line (all_places v) ≡ true ∷ replicate 26 false = refl in
-    sym (get_or-map at_line (all_places v) (suc p) line) ∙ ap (λ (l : List Bool). get_or l (suc p) true) m
-    ∙ get_or-replicate 26 p false true (omega arith)
+-- at no place of the form
+nth_inside : (k : ℕ) → k < 20 → at_line (get_or fixed_places k line) ≡ false
+nth_inside k h =
+    let m : map at_line fixed_places ≡ replicate 20 false = refl in
+    sym (get_or-map at_line fixed_places k line) ∙ ap (λ (l : List Bool). get_or l k true) m ∙ get_or-replicate 20 k false true h
 
-broken_ends : (o : Option State) (s : Spot) (k : Kept) (bytes : List ℕ) → s.broken ≡ true → HoldsState o s k bytes → ended o ≡ none
-broken_ends none s k bytes e h = refl
-broken_ends (some st) s k bytes e h = absurd (false≢true (sym h.follows.whole ∙ e))
+-- a spot at whose place no text ends
+elsewhere : (s : Spot) (p : Place) → Known p → by_line s p ≡ None → at_line (place_seen p) ≡ false
+elsewhere s Line h e = cc
+elsewhere s (Fixed k) h e = nth_inside k h
+elsewhere s (Number w v) h e = refl
+elsewhere s Literal h e = refl
+elsewhere s Behind h e = refl
 
-inside_ends : (o : Option State) (s : Spot) (k : Kept) (bytes : List ℕ) → (s.place ≡ 0 → ⊥) → HoldsState o s k bytes → ended o ≡ none
-inside_ends none s k bytes n h = refl
-inside_ends (some st) s k bytes n h =
-    ap (λ (c : Bool). if_so c st)
-    (ap at_line (sym h.follows.place_is) ∙ elsewhere s.place (value_of s.digits s.value) h.follows.known n)
+-- one at whose place it may
+here : (s t : Spot) (p : Place) → by_line s p ≡ Some t → (s ≡ t) × (p ≡ Line)
+here s t Line e = (cc, refl)
+here s t (Fixed k) e = absurd (cc)
+here s t (Number w v) e = absurd (cc)
+here s t Literal e = absurd (cc)
+here s t Behind e = absurd (cc)
+
+none_ends : (o : Option State) (s : found.Option Spot) (k : found.Option Kept) (bytes : List ℕ) → line_of s ≡ None
+    → HoldsState o s k bytes → ended o ≡ none
+none_ends none s k bytes n h = refl
+none_ends (some st) None k bytes n h = absurd h
+none_ends (some st) (Some s) k bytes n h =
+    ap (λ (c : Bool). if_so c st) (ap at_line (sym h.follows.place_is) ∙ elsewhere s s.place h.follows.known n)
 
 -- A text of which no state is left.
 
-mark_is : (o : Option State) (s : Spot) (k : Kept) (bytes : List ℕ) → HoldsState o s k bytes → s.broken ≡ no_state o
-mark_is none s k bytes h = h
-mark_is (some st) s k bytes h = h.follows.whole
+settled_by : (o : Option State) (s : found.Option Spot) (k : found.Option Kept) (bytes : List ℕ) → HoldsState o s k bytes
+    → (r : Bool) → is_some s ≡ not r → r ≡ no_state o
+settled_by none None k bytes h true e = refl
+settled_by none None k bytes h false e = absurd (false≢true e)
+settled_by none (Some s) k bytes h r e = absurd h
+settled_by (some st) None k bytes h r e = absurd h
+settled_by (some st) (Some s) k bytes h true e = e
+settled_by (some st) (Some s) k bytes h false e = refl
 
-pub settled : (reader : Reader) (text : List ℕ) → Reads text reader → Settles text reader.spot.broken
-settled reader text h =
-    let is : reader.spot.broken ≡ no_state (run text start)
-    = mark_is (run text start) reader.spot reader.kept reader.bytes h in
+pub settled : (reader : Reader) (text : List ℕ) (r : Bool) → is_some reader.spot ≡ not r → Reads text reader → Settles text r
+settled reader text r e h =
+    let is : r ≡ no_state (run text start) = settled_by (run text start) reader.spot reader.kept reader.bytes h r e in
     record { is = is; for_good = λ e more. ap bytes_of (broken_39 text more (sym is ∙ e)) }
 
 -- a text that ends at a line
-pub record Parsed (o : Option State) (s : Spot) (k : Kept) (bytes : List ℕ) : Type 0 where
+pub record Parsed (o : Option State) (s : Spot) (k : found.Option Kept) (bytes : List ℕ) : Type 0 where
   pub state : State
   pub ends : ended o ≡ some state
   pub held : Held state s k bytes
   pub at_rest : begun_rules state ≡ state.rules
 
-parsed : (o : Option State) (s : Spot) (k : Kept) (bytes : List ℕ) → s.broken ≡ false → s.place ≡ 0 → HoldsState o s k bytes
-    → Parsed o s k bytes
-parsed none s k bytes e z h = absurd (false≢true (sym e ∙ h))
-parsed (some st) s k bytes e z h =
-    let p : st.place ≡ line
-    = sym h.follows.place_is ∙ ap (λ (q : ℕ). place_of q (value_of s.digits s.value)) z in
-    record { state = st; ends = ap (λ (q : Place). if_so (at_line q) st) p; held = h; at_rest = begun_here st line p }
+parsed : (o : Option State) (from : found.Option Spot) (s : Spot) (k : found.Option Kept) (bytes : List ℕ) → line_of from ≡ Some s
+    → HoldsState o from k bytes → Parsed o s k bytes
+parsed none None s k bytes e h = absurd (cc)
+parsed none (Some r) s k bytes e h = absurd h
+parsed (some st) None s k bytes e h = absurd h
+parsed (some st) (Some r) s k bytes e h =
+    let z = here r s r.place e in
+    let p : st.place ≡ line = sym h.follows.place_is ∙ ap place_seen z.1 in
+    record {
+      state = st;
+      ends = ap (λ (q : xsb.Place). if_so (at_line q) st) p;
+      held = subst (λ (x : Spot). Held st x k bytes) z.0 h;
+      at_rest = begun_here st line p;
+    }
 
 -- Refusals.
 
-pub refused_sized : (n : ℕ) (r : Imported) → r ≡ refused_by n → Sized r
-refused_sized n r e = subst Sized (sym e) (record { room = length-replicate {A = ℕ} 13441 0; inside = omega arith })
+refused_imports : (text : List ℕ) (e : Refusal) → check_import text ≡ refused (number e) → Imports text (Err e)
+refused_imports text e c = record { means = sym c; sized = tt }
 
-pub refused_imports : (text : List ℕ) (n : ℕ) (r : Imported) → (n ≡ 0 → ⊥) → r ≡ refused_by n → check_import text ≡ refused n
-    → Imports text r
-refused_imports text n r z e c = subst (Imports text) (sym e) (record {
-  means = ap (λ (b : Bool). imported_by b (refused_by n)) (ne_eqb n 0 z) ∙ sym c;
-  sized = refused_sized n (refused_by n) refl;
-  bare = λ x. refl;
-})
-
-pub finish_broken : (text : List ℕ) (rd : Reader) (s : Spot) (r : Imported) → s ≡ rd.spot → s.broken ≡ true → r ≡ refused_by 39
-    → Reads text rd → Imports text r
-finish_broken text rd s r m b e h =
-    refused_imports text 39 r (λ z. omega arith) e (ap (λ (o : Option State). bytes_of (parsed_book o))
-    (broken_ends (run text start) rd.spot rd.kept rd.bytes (ap (λ (x : Spot). x.broken) (sym m) ∙ b) h))
-
-pub finish_inside : (text : List ℕ) (rd : Reader) (r : Imported) → (rd.spot.place ≡ 0 → ⊥) → r ≡ refused_by 39 → Reads text rd
-    → Imports text r
-finish_inside text rd r n e h =
-    refused_imports text 39 r (λ z. omega arith) e (ap (λ (o : Option State). bytes_of (parsed_book o))
-    (inside_ends (run text start) rd.spot rd.kept rd.bytes n h))
+pub finish_inside : (text : List ℕ) (rd : Reader) → line_of rd.spot ≡ None → Reads text rd → Imports text (Err why.NotText)
+finish_inside text rd n h =
+    refused_imports text why.NotText (ap (λ (o : Option State). bytes_of (parsed_book o))
+    (none_ends (run text start) rd.spot rd.kept rd.bytes n h))
 
 -- one of the three tests of limits is failed
 second_five : (p q r s t : Bool) (b : said.Book) → q ≡ true
@@ -125,28 +139,27 @@ too_much n rs (literals e) =
     third_five (ltb 64 n) (ltb 256 (length rs)) (any_passes is_long rs) (eqb n 0) (not (goals_name n (goals_for 0 n rs)))
     (goals_for 0 n rs) e
 
-limits : (text : List ℕ) (o : Option State) (s : Spot) (k : Kept) (bytes : List ℕ) → parse text ≡ ended o → (p : Parsed o s k bytes)
-    → TooMuch p.state.tables p.state.rules → check_import text ≡ refused 5
+limits : (text : List ℕ) (o : Option State) (s : Spot) (k : found.Option Kept) (bytes : List ℕ) → parse text ≡ ended o
+    → (p : Parsed o s k bytes) → TooMuch p.state.tables p.state.rules → check_import text ≡ refused 5
 limits text o s k bytes e p t =
     ap (λ (x : Option State). bytes_of (parsed_book x)) (e ∙ p.ends)
     ∙ ap (λ (x : Refusable said.Book). bytes_of (at_desk x)) (too_much p.state.tables p.state.rules t)
 
-pub parsed_of : (text : List ℕ) (rd : Reader) (s : Spot) → s ≡ rd.spot → s.broken ≡ false → s.place ≡ 0 → Reads text rd
+pub parsed_of : (text : List ℕ) (rd : Reader) (s : Spot) → line_of rd.spot ≡ Some s → Reads text rd
     → Parsed (run text start) s rd.kept rd.bytes
-parsed_of text rd s m b z h =
-    parsed (run text start) s rd.kept rd.bytes b z
-    (subst (λ (x : Spot). HoldsState (run text start) x rd.kept rd.bytes) (sym m) h)
+parsed_of text rd s e h = parsed (run text start) rd.spot s rd.kept rd.bytes e h
 
-pub finish_over : (text : List ℕ) (rd : Reader) (s : Spot) (k : Kept) (r : Imported) → s ≡ rd.spot → s.broken ≡ false → s.place ≡ 0
-    → k ≡ rd.kept → k.over ≡ true → r ≡ refused_by 5 → Reads text rd → Imports text r
-finish_over text rd s k r m b z j o e h =
-    let p = parsed_of text rd s m b z h in
-    refused_imports text 5 r (λ x. omega arith) e (limits text (run text start) s rd.kept rd.bytes refl p
-    (subst (TooMuch p.state.tables) p.at_rest (p.held.keeps.too_much (ap (λ (x : Kept). x.over) (sym j) ∙ o))))
+pub finish_over : (text : List ℕ) (rd : Reader) (s : Spot) → line_of rd.spot ≡ Some s → rd.kept ≡ None → Reads text rd
+    → Imports text (Err why.TooMany)
+finish_over text rd s e o h =
+    let p = parsed_of text rd s e h in
+    refused_imports text why.TooMany (limits text (run text start) s rd.kept rd.bytes refl p
+    (subst (TooMuch p.state.tables) p.at_rest
+    (subst (λ (k : found.Option Kept). Within p.state.tables (begun_rules p.state) k rd.bytes) o p.held.keeps.within)))
 
-pub finish_tables : (text : List ℕ) (rd : Reader) (s : Spot) (r : Imported) → s ≡ rd.spot → s.broken ≡ false → s.place ≡ 0
-    → 64 < s.tables → r ≡ refused_by 5 → Reads text rd → Imports text r
-finish_tables text rd s r m b z t e h =
-    let p = parsed_of text rd s m b z h in
-    refused_imports text 5 r (λ x. omega arith) e (limits text (run text start) s rd.kept rd.bytes refl p
+pub finish_tables : (text : List ℕ) (rd : Reader) (s : Spot) → line_of rd.spot ≡ Some s → 64 < s.tables → Reads text rd
+    → Imports text (Err why.TooMany)
+finish_tables text rd s e t h =
+    let p = parsed_of text rd s e h in
+    refused_imports text why.TooMany (limits text (run text start) s rd.kept rd.bytes refl p
     (goals (omega (arith, t, p.held.follows.tables_are))))

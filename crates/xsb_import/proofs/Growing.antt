@@ -1,21 +1,26 @@
 -- A rule that is begun, and a literal that is added, are written behind the bytes so far.
-use Prim.Native.Nat.{ℕ, zero, suc, ◌+◌, ◌-◌, ◌*◌, ◌≤◌, ◌<◌}
+use Rattle.std.specs.Prelude.{Some, None}
+use Rattle.std.specs.declared.option.Option as found
+use Prim.Native.Nat.{ℕ, suc, ◌+◌, ◌-◌, ◌*◌, ◌/◌, ◌%◌, ◌≤◌, ◌<◌}
 use native.Mathlib.Omega.{arith}
 use mathlib.Core.Path.{◌≡◌, sym, ap, subst, ◌∙◌}
-use mathlib.Core.Bool.{Bool, true, false, ◌||◌, false≢true}
+use mathlib.Core.Bool.{Bool, true, false, ◌||◌}
 use mathlib.Core.List.{List, [], ◌∷◌, ◌++◌, map, append_assoc}
 use lib.ListN.{length, take}
-use borrow.Author.Tests.{lt-ltb, le-ltb, ne_eqb}
+use borrow.Author.Tests.{lt-ltb, le-ltb}
 use Rattle.laws.proofs.Bools.{both_false}
 use Rattle.definitions.specs.Lists.{push, any_passes}
 use Rattle.definitions.specs.Book.{any, Literal, Positive, Negative, write_literal}
 use Rattle.papers.specs.Xsb.{Rule, is_long}
+use Rattle.xsb_import.specs.declared.Ended.{Ended}
+use Rattle.xsb_import.specs.declared.Ended.TheVariants as ended
 use Rattle.xsb_import.specs.declared.Kept.{Kept}
 use Rattle.xsb_import.specs.Keeping.{capped_to, capped_literal, capped_rule, goal_bytes, rule_bytes, flat, goals_after, last_length}
-use Rattle.xsb_import.specs.Keeping.{literals, Whole, Keeps, Adds, over_of, literal_told, Writes, KeepsOn}
+use Rattle.xsb_import.specs.Keeping.{literals, Whole, Keeps, Happens, Writes, KeepsOn, Begun, Added}
 use Rattle.xsb_import.proofs.Begun.{goals_after_push}
+use Rattle.xsb_import.proofs.Filling.{positive_bytes, negative_bytes}
 use Rattle.xsb_import.proofs.Holding.{map_push, any_push, or_second, length_push, last_length_push, literals_push, length_goal_bytes}
-use Rattle.xsb_import.proofs.Holding.{held_push, passed}
+use Rattle.xsb_import.proofs.Holding.{held_push}
 
 abbrev bare : ℕ → Rule
 bare g = record { head = g; body = [] }
@@ -31,11 +36,11 @@ begin_room k a rs goal room w few lt =
     let c = w.few_literals in
     omega arith
 
-pub begin_keeps : (k r : Kept) (a b c : List ℕ) (goal u v : ℕ) → k.over ≡ false → k.clauses < 256 → goal < 64
+pub begin_keeps : (k r : Kept) (a b c : List ℕ) (goal u v : ℕ) → k.clauses < 256 → goal < 64
     → Writes a k.used (goal_bytes ((goal + 1) - k.goals)) b u → Writes b u (0x43 ∷ 0 ∷ 0 ∷ 0 ∷ []) c v
-    → r ≡ record { goals = goal + 1; clauses = k.clauses + 1; literals = 0; used = v; over = false } → KeepsOn 1 goal k a r c
-begin_keeps k r a b c goal u v o few lt f g e n m rs after more h x =
-    let w = x.whole o in
+    → r ≡ record { goals = goal + 1; clauses = k.clauses + 1; literals = 0; used = v } → Begun goal k a (Some r) c
+begin_keeps k r a b c goal u v few lt f g e n m rs after more h x =
+    let w = x.within in
     let room = begin_room k a rs goal x.room w few lt in
     let size = length_goal_bytes ((goal + 1) - k.goals) in
     let fits : k.used + length (goal_bytes ((goal + 1) - k.goals)) ≤ length a = omega arith in
@@ -59,10 +64,9 @@ begin_keeps k r a b c goal u v o few lt f g e n m rs after more h x =
     let order : k.goals ≤ suc goal = omega (arith, w.goals_are, h.in_order) in
     let i = w.inside in
     let l = w.few_literals in
-    subst (λ (q : Kept). Keeps m after q c) (sym e) (record {
+    subst (λ (q : Kept). Keeps m after (Some q) c) (sym e) (record {
       room = g.same ∙ same ∙ x.room;
-      too_much = λ p. absurd (false≢true p);
-      whole = λ p. record {
+      within = record {
         held = bytes;
         goals_are = omega arith;
         clauses_are = omega arith;
@@ -77,30 +81,30 @@ begin_keeps k r a b c goal u v o few lt f g e n m rs after more h x =
 
 -- A literal.
 
-pub add_over : (l : Literal) (k r : Kept) (a : List ℕ) (n m : ℕ) (rs after : List Rule) → k.over ≡ false → 8 ≤ k.literals
-    → r ≡ over_of k → Adds l rs after → Keeps n rs k a → Keeps m after r a
-add_over l k r a n m rs after o h e d x =
-    let w = x.whole o in
+pub add_over : (bytes : List ℕ) (k : Kept) (a : List ℕ) → 8 ≤ k.literals → Added bytes k a None a
+add_over bytes k a h l n m rs after is more d x =
+    let w = x.within in
     let q : Rule = record { head = d.rule.head; body = push d.rule.body l } in
     let last : last_length rs ≡ length d.rule.body = ap last_length d.was ∙ last_length_push d.before d.rule in
     let long : is_long q ≡ true = lt-ltb 8 (length (push d.rule.body l))
     (omega (arith, h, last, w.literals_are, length_push d.rule.body l)) in
-    passed k r a n m rs after e x
-    (literals (ap (any_passes is_long) d.grown ∙ any_push is_long d.before q
-    ∙ or_second (any_passes is_long d.before) (is_long q) long))
+    record {
+      room = x.room;
+      within = literals (ap (any_passes is_long) d.grown ∙ any_push is_long d.before q
+          ∙ or_second (any_passes is_long d.before) (is_long q) long);
+    }
 
-pub add_keeps : (l : Literal) (k r : Kept) (a c : List ℕ) (v n m : ℕ) (rs after : List Rule) → length (write_literal (capped_literal l)) ≤ 6
-    → k.over ≡ false → k.literals < 8 → Writes a k.used (write_literal (capped_literal l)) c v
-    → r ≡ record { goals = k.goals; clauses = k.clauses; literals = k.literals + 1; used = v; over = k.over }
-    → Adds l rs after → Keeps n rs k a → Keeps m after r c
-add_keeps l k r a c v n m rs after small o few f e d x =
-    let w = x.whole o in
+pub add_keeps : (bytes : List ℕ) (k r : Kept) (a c : List ℕ) (v : ℕ) → length bytes ≤ 6 → k.literals < 8
+    → Writes a k.used bytes c v → r ≡ record { goals = k.goals; clauses = k.clauses; literals = k.literals + 1; used = v }
+    → Added bytes k a (Some r) c
+add_keeps bytes k r a c v small few f e l n m rs after is more d x =
+    let w = x.within in
     let i = w.inside in
     let q : Rule = record { head = d.rule.head; body = push d.rule.body l } in
     let x-room = x.room in
     let g-few = w.few_goals in
     let c-few = w.few_clauses in
-    let fits : k.used + length (write_literal (capped_literal l)) ≤ length a = omega arith in
+    let fits : k.used + length bytes ≤ length a = omega arith in
     let v-is = f.ends fits in
     let front = flat 0 (map capped_rule d.before) in
     let goal = goal_bytes (suc d.rule.head - goals_after 0 d.before) in
@@ -109,8 +113,8 @@ add_keeps l k r a c v n m rs after small o few f e d x =
     let longer : rule_bytes (map capped_literal q.body) ≡ body ++ one
     = ap (λ (ls : List Literal). rule_bytes ls) (map_push capped_literal d.rule.body l)
     ∙ ap (λ (t : List ℕ). 0x43 ∷ 0 ∷ 0 ∷ 0 ∷ t) (literals_push (map capped_literal d.rule.body) (capped_literal l)) in
-    let bytes : take v c ≡ flat 0 (map capped_rule after)
-    = f.written fits
+    let held : take v c ≡ flat 0 (map capped_rule after)
+    = f.written fits ∙ ap (λ (t : List ℕ). take k.used a ++ t) is
     ∙ ap (λ (t : List ℕ). t ++ one) (w.held ∙ ap (λ (qs : List Rule). flat 0 (map capped_rule qs)) d.was
     ∙ held_push d.before d.rule)
     ∙ append_assoc front (goal ++ body) one
@@ -133,11 +137,10 @@ add_keeps l k r a c v n m rs after small o few f e d x =
     ∙ sym (ap (goals_after 0) d.was ∙ goals_after_push 0 d.before d.rule) in
     let count : length after ≡ length rs
     = ap length d.grown ∙ length_push d.before q ∙ sym (ap length d.was ∙ length_push d.before d.rule) in
-    subst (λ (z : Kept). Keeps m after z c) (sym e) (record {
+    subst (λ (z : Kept). Keeps m after (Some z) c) (sym e) (record {
       room = f.same ∙ x.room;
-      too_much = λ p. absurd (false≢true (sym o ∙ p));
-      whole = λ p. record {
-        held = bytes;
+      within = record {
+        held = held;
         goals_are = w.goals_are ∙ sym reach;
         clauses_are = w.clauses_are ∙ sym count;
         literals_are = omega arith;
@@ -149,32 +152,25 @@ add_keeps l k r a c v n m rs after small o few f e d x =
       };
     })
 
--- by what it is told to be
-pub over_told : (told number : ℕ) (k r : Kept) (a : List ℕ) → (k.over ≡ false) × (2 ≤ told) → 8 ≤ k.literals → r ≡ over_of k
-    → KeepsOn told number k a r a
-over_told zero number k r a h f e n m rs after more x y = absurd (omega (arith, h.1))
-over_told (suc zero) number k r a h f e n m rs after more x y = absurd (omega (arith, h.1))
-over_told (suc (suc zero)) number k r a h f e n m rs after more x y =
-    add_over (Positive number any false) k r a n m rs after h.0 f e x y
-over_told (suc (suc (suc told))) number k r a h f e n m rs after more x y =
-    add_over (Negative number false) k r a n m rs after h.0 f e x y
+-- What is kept, by what a byte ended.
 
-pub added_told : (told number goal : ℕ) (k r : Kept) (a c : List ℕ) (v : ℕ) → (k.over ≡ false) × (2 ≤ told) → k.literals < 8
-    → goal ≡ capped_to number → Writes a k.used (write_literal (literal_told told goal)) c v
-    → r ≡ record { goals = k.goals; clauses = k.clauses; literals = k.literals + 1; used = v; over = k.over }
-    → KeepsOn told number k a r c
-added_told zero number goal k r a c v h few g f e n m rs after more x y = absurd (omega (arith, h.1))
-added_told (suc zero) number goal k r a c v h few g f e n m rs after more x y = absurd (omega (arith, h.1))
-added_told (suc (suc zero)) number goal k r a c v h few g f e n m rs after more x y =
-    add_keeps (Positive number any false) k r a c v n m rs after (omega arith) h.0 few
-    (subst (λ (i : ℕ). Writes a k.used (write_literal (Positive i any false)) c v) g f) e x y
-added_told (suc (suc (suc told))) number goal k r a c v h few g f e n m rs after more x y =
-    add_keeps (Negative number false) k r a c v n m rs after (omega arith) h.0 few
-    (subst (λ (i : ℕ). Writes a k.used (write_literal (Negative i false)) c v) g
-    (subst (λ (b : Bool). Writes a k.used (write_literal (elim b [ true ↦ Positive goal any false | false ↦ Negative goal false ])) c v)
-    (ne_eqb (suc (suc (suc told))) 2 (λ z. omega arith)) f)) e x y
+module _ (e : Ended) (k : Kept) (bytes : List ℕ) (r : found.Option Kept) (out : List ℕ) where
+  pub head_kept : (v : ℕ) → e ≡ ended.Head v → Begun v k bytes r out → KeepsOn (Some e) (Some k) bytes r out
+  head_kept v is x n m rs after more h y = x n m rs after more (subst (λ (z : Ended). Happens (Some z) m rs after) is h) y
 
--- The choice by what is told.
+  pub positive_kept : (v g : ℕ) → e ≡ ended.Positive v → g ≡ capped_to v
+      → Added (0x50 ∷ g % 256 ∷ g / 256 ∷ 0 ∷ 0 ∷ 0 ∷ []) k bytes r out → KeepsOn (Some e) (Some k) bytes r out
+  positive_kept v g is c x n m rs after more h y =
+      x (Positive v any false) n m rs after (positive_bytes v g c) more (subst (λ (z : Ended). Happens (Some z) m rs after) is h) y
 
-pub one_told : (told number : ℕ) (k r : Kept) (a c : List ℕ) → told ≡ 1 → KeepsOn 1 number k a r c → KeepsOn told number k a r c
-one_told told number k r a c e x = subst (λ (t : ℕ). KeepsOn t number k a r c) (sym e) x
+  pub negative_kept : (v g : ℕ) → e ≡ ended.Negative v → g ≡ capped_to v
+      → Added (0x4E ∷ g % 256 ∷ g / 256 ∷ 0 ∷ []) k bytes r out → KeepsOn (Some e) (Some k) bytes r out
+  negative_kept v g is c x n m rs after more h y =
+      x (Negative v false) n m rs after (negative_bytes v g c) more (subst (λ (z : Ended). Happens (Some z) m rs after) is h) y
+
+-- of whatever is kept
+pub some_kept : (e : found.Option Ended) (kept : found.Option Kept) (x : Ended) (k : Kept) (bytes : List ℕ) (r : found.Option Kept)
+    (out : List ℕ) → e ≡ Some x → kept ≡ Some k → KeepsOn (Some x) (Some k) bytes r out → KeepsOn e kept bytes r out
+some_kept e kept x k bytes r out is at h =
+    subst (λ (z : found.Option Kept). KeepsOn e z bytes r out) (sym at)
+    (subst (λ (z : found.Option Ended). KeepsOn z (Some k) bytes r out) (sym is) h)

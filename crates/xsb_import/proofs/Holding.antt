@@ -1,17 +1,21 @@
 -- The bytes hold the rules that were begun, or a limit is passed.
+use Rattle.std.specs.Prelude.{Some, None}
+use Rattle.std.specs.declared.option.Option as found
 use Prim.Native.Nat.{ℕ, zero, suc, ◌-◌, ◌*◌, ◌≤◌, ◌<◌}
 use native.Mathlib.Omega.{arith}
 use mathlib.Core.Path.{◌≡◌, refl, sym, ap, subst, ◌∙◌}
-use mathlib.Core.Bool.{Bool, true, false, ◌||◌, or-false, false≢true}
+use mathlib.Core.Bool.{Bool, true, false, ◌||◌, or-false}
 use mathlib.Core.List.{List, [], ◌∷◌, ◌++◌, map, append-nil, append_assoc}
 use lib.ListN.{length, length-append}
 use borrow.Author.Tests.{lt-ltb, ltb-true}
 use Rattle.definitions.specs.Lists.{push, any_passes}
 use Rattle.definitions.specs.Book.{any, Literal, Positive, Negative, write_literal, write_literals}
 use Rattle.papers.specs.Xsb.{Rule, is_long}
+use Rattle.xsb_import.specs.declared.Ended.{Ended}
+use Rattle.xsb_import.specs.declared.Ended.TheVariants as ended
 use Rattle.xsb_import.specs.declared.Kept.{Kept}
 use Rattle.xsb_import.specs.Keeping.{capped_literal, capped_rule, goal_bytes, rule_bytes, flat, goals_after, last_length, TooMuch}
-use Rattle.xsb_import.specs.Keeping.{goals, clauses, literals, Whole, Keeps, Begins, Adds, Happens, over_of, KeepsOn}
+use Rattle.xsb_import.specs.Keeping.{goals, clauses, literals, Whole, Begins, Adds, Happens, KeepsOn, Begun}
 
 -- Lists with one more at their end.
 
@@ -119,51 +123,36 @@ stays_added l n m rs after k a (literals h) =
     ∙ long_grown a.before a.rule (record { head = a.rule.head; body = push a.rule.body l }) (more_long a.rule l)
     (sym (ap (any_passes is_long) a.was) ∙ h))
 
-stays : (told v n m : ℕ) (rs after : List Rule) → (64 < n → 64 < m) → Happens told v m rs after → TooMuch n rs → TooMuch m after
-stays zero v n m rs after k h t = stays_same n m rs after k h t
-stays (suc zero) v n m rs after k h t = stays_begun v n m rs after k h t
-stays (suc (suc zero)) v n m rs after k h t = stays_added (Positive v any false) n m rs after k h t
-stays (suc (suc (suc told))) v n m rs after k h t = stays_added (Negative v false) n m rs after k h t
+stays : (e : found.Option Ended) (n m : ℕ) (rs after : List Rule) → (64 < n → 64 < m) → Happens e m rs after → TooMuch n rs
+    → TooMuch m after
+stays None n m rs after k h t = stays_same n m rs after k h t
+stays (Some (ended.Head v)) n m rs after k h t = stays_begun v n m rs after k h t
+stays (Some (ended.Positive v)) n m rs after k h t = stays_added (Positive v any false) n m rs after k h t
+stays (Some (ended.Negative v)) n m rs after k h t = stays_added (Negative v false) n m rs after k h t
 
 -- What is kept.
 
-pub keeps_none : (v : ℕ) (k r : Kept) (bytes : List ℕ) (told : ℕ) → told ≡ 0 → r ≡ k → KeepsOn told v k bytes r bytes
-keeps_none v k r bytes told z e n m rs after g h x =
-    let same : after ≡ rs = subst (λ (t : ℕ). Happens t v m rs after) z h in
-    subst (λ (q : Kept). Keeps m after q bytes) (sym e) (record {
-      room = x.room;
-      too_much = λ o. stays_same n m rs after g same (x.too_much o);
-      whole = λ o. subst (λ (qs : List Rule). Whole qs k bytes) (sym same) (x.whole o);
-    })
+pub keeps_none : (k : Kept) (bytes : List ℕ) → KeepsOn None (Some k) bytes (Some k) bytes
+keeps_none k bytes n m rs after g same x = record {
+  room = x.room;
+  within = subst (λ (qs : List Rule). Whole qs k bytes) (sym same) x.within;
+}
 
-pub keeps_over : (told v : ℕ) (k r : Kept) (bytes : List ℕ) → k.over ≡ true → r ≡ k → KeepsOn told v k bytes r bytes
-keeps_over told v k r bytes o e n m rs after g h x =
-    subst (λ (q : Kept). Keeps m after q bytes) (sym e) (record {
-      room = x.room;
-      too_much = λ p. stays told v n m rs after g h (x.too_much p);
-      whole = λ p. absurd (false≢true (sym p ∙ o));
-    })
+pub keeps_over : (e : found.Option Ended) (bytes : List ℕ) → KeepsOn e None bytes None bytes
+keeps_over e bytes n m rs after g h x = record { room = x.room; within = stays e n m rs after g h x.within }
 
 -- a limit is passed now
-pub passed : (k r : Kept) (bytes : List ℕ) (n m : ℕ) (rs after : List Rule) → r ≡ over_of k → Keeps n rs k bytes → TooMuch m after
-    → Keeps m after r bytes
-passed k r bytes n m rs after e x t =
-    subst (λ (q : Kept). Keeps m after q bytes) (sym e) (record {
-      room = x.room;
-      too_much = λ p. t;
-      whole = λ p. absurd (false≢true (sym p));
-    })
+pub begin_clauses : (k : Kept) (bytes : List ℕ) (goal : ℕ) → 256 ≤ k.clauses → Begun goal k bytes None bytes
+begin_clauses k bytes goal h n m rs after g b x = record {
+  room = x.room;
+  within = clauses (omega (
+    arith,
+    h,
+    x.within.clauses_are,
+    ap length b.begun,
+    length_push rs (record { head = goal; body = [] }),
+  ));
+}
 
-pub begin_clauses : (k r : Kept) (bytes : List ℕ) (goal : ℕ) → k.over ≡ false → 256 ≤ k.clauses → r
-    ≡ over_of k → KeepsOn 1 goal k bytes r bytes
-begin_clauses k r bytes goal o h e n m rs after g b x =
-    passed k r bytes n m rs after e x (clauses (omega (
-      arith,
-      h,
-      (x.whole o).clauses_are,
-      ap length b.begun,
-      length_push rs (record { head = goal; body = [] }),
-    )))
-
-pub begin_goals : (k r : Kept) (bytes : List ℕ) (goal : ℕ) → 64 ≤ goal → r ≡ over_of k → KeepsOn 1 goal k bytes r bytes
-begin_goals k r bytes goal h e n m rs after g b x = passed k r bytes n m rs after e x (goals (omega (arith, h, b.has_table)))
+pub begin_goals : (k : Kept) (bytes : List ℕ) (goal : ℕ) → 64 ≤ goal → Begun goal k bytes None bytes
+begin_goals k bytes goal h n m rs after g b x = record { room = x.room; within = goals (omega (arith, h, b.has_table)) }

@@ -1,13 +1,15 @@
 -- The bytes that were written are those of the text's book, and the desk says of them what it says of the text.
-use Prim.Native.Nat.{ℕ, ◌+◌, ◌-◌, ◌≤◌, ◌<◌}
+use Rattle.std.specs.Prelude.{Result, IfOk, Some}
+use Rattle.std.specs.declared.option.Option as found
+use Prim.Native.Nat.{ℕ, ◌+◌, ◌-◌, ◌≤◌}
 use native.Mathlib.Omega.{arith}
 use mathlib.Core.Path.{◌≡◌, refl, sym, ap, subst, ◌∙◌}
 use mathlib.Core.Bool.{Bool, true, false, not}
 use mathlib.Core.Option.{Option}
 use mathlib.Core.List.{List, [], ◌∷◌, ◌++◌, map}
 use lib.Dec.{ltb, eqb}
-use lib.ListN.{length, take, length-take, length-map}
-use borrow.Author.Tests.{eq-eqb, ne_eqb, le-ltb}
+use lib.ListN.{length, take, length-map}
+use borrow.Author.Tests.{le-ltb}
 use Rattle.definitions.specs.Refusal.{Refusable, refused, accepted, ◌refuses◌, unless}
 use Rattle.definitions.specs.Lists.{any_passes}
 use Rattle.definitions.specs.Book as said
@@ -23,50 +25,18 @@ use Rattle.papers.specs.XsbForm.{BareRule, Ordered}
 use Rattle.papers.proofs.XsbCapped.{goals_names, goals_same, ordered_capped}
 use Rattle.papers.proofs.XsbOrder.{RulesFit, parse_fits}
 use Rattle.papers.proofs.Xsb.{rules_length}
-use Rattle.book.specs.declared.Reading.{Reading}
-use Rattle.book.specs.View.{seen_by, Taken}
+use Rattle.book.specs.declared.refusal.Refusal.{Refusal}
 use Rattle.xsb_import.specs.declared.Spot.{Spot}
 use Rattle.xsb_import.specs.declared.Kept.{Kept}
 use Rattle.xsb_import.specs.declared.Reader.{Reader}
 use Rattle.xsb_import.specs.declared.Imported.{Imported}
-use Rattle.xsb_import.specs.Keeping.{capped_rule, goal_bytes, flat, goals_after, Whole, Writes}
-use Rattle.xsb_import.specs.Importing.{Reads, imported_by, refused_by, taken_by, Desks, Sized, Imports}
+use Rattle.xsb_import.specs.Keeping.{capped_rule, goal_bytes, flat, goals_after, Whole, Within, Writes}
+use Rattle.xsb_import.specs.Reading.{begun_rules}
+use Rattle.xsb_import.specs.Importing.{Reads, line_of, taken_by, Desks, Sized, Imports}
 use Rattle.xsb_import.proofs.Holding.{length_goal_bytes, goals_after_capped}
 use Rattle.xsb_import.proofs.Writing.{flat_written}
 use Rattle.xsb_import.proofs.Capping.{goals_within}
 use Rattle.xsb_import.proofs.Finishing.{parsed_of}
-
--- At the desk.
-
-pub as_many : (bytes : List ℕ) (used : ℕ) → length bytes ≡ 13441 → used ≤ 13441 → used ≡ length (take used bytes)
-as_many bytes used l h = let e = length-take used bytes in omega arith
-
-pub desks_never : (bytes : List ℕ) (used : ℕ) (r : Imported) → 13441 < used → used ≤ 13441 → Desks bytes used r
-desks_never bytes used r h k = absurd (omega arith)
-
-pub desks_refused : (bytes : List ℕ) (used : ℕ) (reading : Reading) (r : Imported) → Taken (take used bytes) reading
-    → (reading.number ≡ 0 → ⊥) → r ≡ refused_by reading.number → used ≤ 13441 → Desks bytes used r
-desks_refused bytes used reading r t n e h =
-    let other = ne_eqb reading.number 0 n in
-    let says : desk (take used bytes) ≡ refused reading.number = sym t.means ∙ ap (λ (b : Bool). seen_by b reading) other in
-    subst (Desks bytes used) (sym e) (record {
-      means = ap (λ (b : Bool). imported_by b (refused_by reading.number)) other
-          ∙ sym (ap (λ (x : Refusable said.Book). taken_by x (take used bytes)) says);
-      bare = λ x. refl;
-    })
-
-pub desks_taken : (bytes : List ℕ) (used : ℕ) (reading : Reading) (r : Imported) → length bytes ≡ 13441 → Taken (take used bytes) reading
-    → reading.number ≡ 0 → r ≡ record { number = 0; used = used; bytes = bytes } → used ≤ 13441 → Desks bytes used r
-desks_taken bytes used reading r l t z e h =
-    let says = sym t.means ∙ ap (λ (b : Bool). seen_by b reading) (eq-eqb reading.number 0 z) in
-    subst (Desks bytes used) (sym e) (record {
-      means = sym (ap (λ (x : Refusable said.Book). taken_by x (take used bytes)) says);
-      bare = λ x. absurd (x refl);
-    })
-
-pub taken_sized : (bytes : List ℕ) (used : ℕ) (r : Imported) → length bytes ≡ 13441 → used ≤ 13441
-    → r ≡ record { number = 0; used = used; bytes = bytes } → Sized r
-taken_sized bytes used r l h e = subst Sized (sym e) (record { room = l; inside = h })
 
 -- The tests at a book's end, which the numbers above all that can be named do not change.
 
@@ -172,13 +142,13 @@ written_whole n rs k a b c u v room w few o f g =
       g.same ∙ same ∙ room,
     )
 
-pub finish_book : (text : List ℕ) (rd : Reader) (s : Spot) (k : Kept) (own b c : List ℕ) (u v : ℕ) (r : Imported) → s ≡ rd.spot
-    → s.broken ≡ false → s.place ≡ 0 → k ≡ rd.kept → k.over ≡ false → s.tables ≤ 64
+pub finish_book : (text : List ℕ) (rd : Reader) (s : Spot) (k : Kept) (own b c : List ℕ) (u v : ℕ) (r : Result Imported Refusal)
+    → line_of rd.spot ≡ Some s → rd.kept ≡ Some k → s.tables ≤ 64
     → (length own ≡ 13441) × (length rd.bytes ≡ 13441 → own ≡ rd.bytes)
     → Writes own k.used (goal_bytes (s.tables - k.goals)) b u → Writes b u (0x45 ∷ []) c v
-    → Sized r × (v ≤ 13441 → Desks c v r) → Reads text rd → Imports text r
-finish_book text rd s k own b c u v r m br z j o few e f g d h =
-    let p = parsed_of text rd s m br z h in
+    → IfOk r Sized × (v ≤ 13441 → Desks c v r) → Reads text rd → Imports text r
+finish_book text rd s k own b c u v r at o few e f g d h =
+    let p = parsed_of text rd s at h in
     let st = p.state in
     let fit = parse_fits text st p.ends in
     let n = st.tables in
@@ -186,9 +156,8 @@ finish_book text rd s k own b c u v r m br z j o few e f g d h =
     let t : s.tables ≡ n = p.held.follows.tables_are in
     let same : own ≡ rd.bytes = e.1 p.held.keeps.room in
     let kept : Whole rs k own
-    = subst (Whole rs k) (sym same) (subst (λ (x : Kept). Whole rs x rd.bytes) (sym j)
-    (subst (λ (qs : List Rule). Whole qs rd.kept rd.bytes) p.at_rest
-    (p.held.keeps.whole (ap (λ (x : Kept). x.over) (sym j) ∙ o)))) in
+    = subst (Whole rs k) (sym same) (subst (λ (qs : List Rule). Whole qs k rd.bytes) p.at_rest
+    (subst (λ (x : found.Option Kept). Within n (begun_rules st) x rd.bytes) o p.held.keeps.within)) in
     let all = written_whole n rs k own b c u v e.0 kept (omega arith) (ordered_capped 65535 fit.in_order)
     (subst (λ (x : ℕ). Writes own k.used (goal_bytes (x - k.goals)) b u) t f) g in
     let desks = d.1 all.1 in
@@ -202,10 +171,10 @@ finish_book text rd s k own b c u v r m br z j o few e f g d h =
     (capped_read n rs (omega arith) few_rules kept.short st fit refl refl)
     ∙ same_desk n rs (omega arith)
     ∙ sym text_says in
-    record { means = desks.means ∙ bytes-say; sized = d.0; bare = desks.bare }
+    record { means = desks ∙ bytes-say; sized = d.0 }
 
 -- A text as a whole.
 
-pub imported : (text : List ℕ) (a b : Reader) (r : Imported) → Reads [] a → ((t : List ℕ) → Reads t a → Reads (t ++ text) b)
-    → Sized r × ((t : List ℕ) → Reads t b → Imports t r) → Imports text r
+pub imported : (text : List ℕ) (a b : Reader) (r : Result Imported Refusal) → Reads [] a → ((t : List ℕ) → Reads t a → Reads (t ++ text) b)
+    → IfOk r Sized × ((t : List ℕ) → Reads t b → Imports t r) → Imports text r
 imported text a b r start feed finish = finish.1 text (feed [] start)

@@ -1,9 +1,13 @@
 -- The bytes of the book of the rules that were begun, which are written while a text is read.
-use Rattle.std.specs.Prelude.{ℕ, zero, suc, ◌+◌, ◌-◌, ◌*◌, ◌≤◌, ◌<◌, min, ◌≡◌, true, false, List, [], ◌∷◌, ◌++◌, map, length, take, eqb}
+use Rattle.std.specs.Prelude.{ℕ, zero, suc, ◌+◌, ◌-◌, ◌*◌, ◌≤◌, ◌<◌, min, ◌≡◌, true, false, Some, None}
+use Rattle.std.specs.Prelude.{List, [], ◌∷◌, ◌++◌, map, length, take}
+use Rattle.std.specs.declared.option.Option as found
 use Rattle.definitions.specs.Lists.{push, any_passes}
-use Rattle.definitions.specs.Book.{any, Literal, Positive, Negative, write_literals}
+use Rattle.definitions.specs.Book.{any, Literal, Positive, Negative, write_literal, write_literals}
 use Rattle.papers.specs.Xsb.{Rule, is_long}
 use Rattle.papers.specs.XsbForm as form
+use Rattle.xsb_import.specs.declared.Ended.{Ended}
+use Rattle.xsb_import.specs.declared.Ended.TheVariants as ended
 use Rattle.xsb_import.specs.declared.Kept.{Kept}
 
 -- a number above the largest that a literal can name stands for all above it: no book has so many goals
@@ -58,10 +62,14 @@ pub record Whole (rules : List Rule) (k : Kept) (bytes : List ℕ) : Type 0 wher
   pub inside : k.used + 48 ≤ 2 * k.goals + 52 * k.clauses + 6 * k.literals
   pub short : any_passes is_long rules ≡ false
 
-pub record Keeps (tables : ℕ) (rules : List Rule) (k : Kept) (bytes : List ℕ) : Type 0 where
+-- or nothing is kept, since a limit is passed
+abbrev pub Within : (tables : ℕ) (rules : List Rule) → found.Option Kept → (bytes : List ℕ) → Type 0
+Within tables rules None bytes = TooMuch tables rules
+Within tables rules (Some k) bytes = Whole rules k bytes
+
+pub record Keeps (tables : ℕ) (rules : List Rule) (kept : found.Option Kept) (bytes : List ℕ) : Type 0 where
   pub room : length bytes ≡ 13441
-  pub too_much : k.over ≡ true → TooMuch tables rules
-  pub whole : k.over ≡ false → Whole rules k bytes
+  pub within : Within tables rules kept bytes
 
 -- What a byte of the text does to the rules that were begun.
 
@@ -78,19 +86,12 @@ pub record Adds (l : Literal) (rules after : List Rule) : Type 0 where
   pub was : rules ≡ push before rule
   pub grown : after ≡ push before (record { head = rule.head; body = push rule.body l })
 
--- by what it is told to have ended
-abbrev pub Happens : (told value tables : ℕ) → (rules after : List Rule) → Type 0
-Happens zero v n rs after = after ≡ rs
-Happens (suc zero) v n rs after = Begins v n rs after
-Happens (suc (suc zero)) v n rs after = Adds (Positive v any false) rs after
-Happens (suc (suc (suc told))) v n rs after = Adds (Negative v false) rs after
-
-abbrev pub over_of : Kept → Kept
-over_of k = record { goals = k.goals; clauses = k.clauses; literals = k.literals; used = k.used; over = true }
-
--- the literal that a byte is told to have ended
-abbrev pub literal_told : (told goal : ℕ) → Literal
-literal_told told g = elim (eqb told 2) [ true ↦ Positive g any false | false ↦ Negative g false ]
+-- by what it ended
+abbrev pub Happens : found.Option Ended → (tables : ℕ) → (rules after : List Rule) → Type 0
+Happens None n rs after = after ≡ rs
+Happens (Some (ended.Head v)) n rs after = Begins v n rs after
+Happens (Some (ended.Positive v)) n rs after = Adds (Positive v any false) rs after
+Happens (Some (ended.Negative v)) n rs after = Adds (Negative v false) rs after
 
 -- bytes are written behind those in use, where there is room
 pub record Writes (bytes : List ℕ) (used : ℕ) (more after : List ℕ) (r : ℕ) : Type 0 where
@@ -99,6 +100,16 @@ pub record Writes (bytes : List ℕ) (used : ℕ) (more after : List ℕ) (r : �
   pub written : used + length more ≤ length bytes → take r after ≡ take used bytes ++ more
 
 -- THE KEEPING of what a byte ended
-abbrev pub KeepsOn : (told value : ℕ) (k : Kept) (bytes : List ℕ) (r : Kept) (out : List ℕ) → Type 0
-KeepsOn told v k bytes r out =
-    (n m : ℕ) (rs after : List Rule) → (64 < n → 64 < m) → Happens told v m rs after → Keeps n rs k bytes → Keeps m after r out
+abbrev pub KeepsOn : found.Option Ended → (kept : found.Option Kept) (bytes : List ℕ) (r : found.Option Kept) (out : List ℕ) → Type 0
+KeepsOn ended kept bytes r out =
+    (n m : ℕ) (rs after : List Rule) → (64 < n → 64 < m) → Happens ended m rs after → Keeps n rs kept bytes → Keeps m after r out
+
+-- of a head
+abbrev pub Begun : (goal : ℕ) (k : Kept) (bytes : List ℕ) (r : found.Option Kept) (out : List ℕ) → Type 0
+Begun goal k bytes r out = KeepsOn (Some (ended.Head goal)) (Some k) bytes r out
+
+-- of the literal that these bytes are
+abbrev pub Added : (literal : List ℕ) (k : Kept) (bytes : List ℕ) (r : found.Option Kept) (out : List ℕ) → Type 0
+Added literal k bytes r out =
+    (l : Literal) (n m : ℕ) (rs after : List Rule) → literal ≡ write_literal (capped_literal l) → (64 < n → 64 < m)
+    → Adds l rs after → Keeps n rs (Some k) bytes → Keeps m after r out

@@ -1,16 +1,21 @@
--- The places in a text by numbers: 0 a line, 1 what is behind a literal, 2 a literal, 3 to 6 a number, and from 7 on the bytes of the form
--- that must come.
-use Rattle.std.specs.Prelude.{ℕ, ◌-◌, Bool, true, false, List, [], ◌∷◌, ◌++◌, get_or}
+-- The places in a text as the definitions have them; a place at which one byte must come is told by its number in the form.
+use Rattle.std.specs.Prelude.{ℕ, ◌+◌, ◌<◌, true, false, List, [], ◌∷◌, ◌++◌, get_or, eqb, Some, None}
+use Rattle.std.specs.declared.option.Option as found
 use Rattle.std.proofs.Math.Option.{Option, none, some}
 use Rattle.definitions.specs.Text.{ascii}
-use Rattle.papers.specs.Xsb.{Place, line, fixed, number, literal, behind, table, head, positive, negative}
+use Rattle.papers.specs.Xsb as said
+use Rattle.papers.specs.Xsb.{line, fixed, number, literal, behind, table, head, positive, negative}
+use Rattle.xsb_import.specs.declared.What.{What}
+use Rattle.xsb_import.specs.declared.What.TheVariants.{Table, Head, Positive, Negative}
+use Rattle.xsb_import.specs.declared.Place.{Place}
+use Rattle.xsb_import.specs.declared.Place.TheVariants.{Line, Fixed, Number, Literal, Behind}
 
 -- a place for each of these bytes
-abbrev pub places_of : List ℕ → (next : Place) → List Place
+abbrev pub places_of : List ℕ → (next : said.Place) → List said.Place
 places_of [] next = []
 places_of (b ∷ bs) next = fixed b bs next ∷ places_of bs next
 
-abbrev pub fixed_places : List Place
+abbrev pub fixed_places : List said.Place
 fixed_places =
     places_of (ascii "- table g") (number table none)
     ++ (places_of (ascii "0.\n") line
@@ -18,27 +23,47 @@ fixed_places =
     ++ places_of (ascii "not(g") (number negative none)))
 
 -- a number of which a digit was read, or none
-abbrev pub value_of : (digits : Bool) → (value : ℕ) → Option ℕ
-value_of false v = none
-value_of true v = some v
+abbrev pub value_seen : found.Option ℕ → Option ℕ
+value_seen None = none
+value_seen (Some v) = some v
 
-abbrev pub all_places : Option ℕ → List Place
-all_places value =
-    line ∷ behind ∷ literal ∷ number table value ∷ number head value ∷ number positive value ∷ number negative value ∷ fixed_places
+abbrev pub what_seen : What → said.What
+what_seen Table = table
+what_seen Head = head
+what_seen Positive = positive
+what_seen Negative = negative
 
-abbrev pub place_of : (place : ℕ) → Option ℕ → Place
-place_of p value = get_or (all_places value) p line
+abbrev pub place_seen : Place → said.Place
+place_seen Line = line
+place_seen (Fixed k) = get_or fixed_places k line
+place_seen (Number w v) = number (what_seen w) (value_seen v)
+place_seen Literal = literal
+place_seen Behind = behind
 
--- the bytes that must come from place 7 on
+-- its number is one of the form's
+abbrev pub Known : Place → Type 0
+Known Line = Unit {0}
+Known (Fixed k) = k < 20
+Known (Number w v) = Unit {0}
+Known Literal = Unit {0}
+Known Behind = Unit {0}
+
+-- the bytes that must come
 abbrev pub form : List ℕ
 form = ascii "- table g0.\n:- not(g"
 
-abbrev pub byte_at : (place : ℕ) → ℕ
-byte_at p = get_or form (p - 7) 0
+abbrev pub byte_at : (k : ℕ) → ℕ
+byte_at k = get_or form k 0
 
 -- the place behind each of them
-abbrev pub nexts : List ℕ
-nexts = 8 ∷ 9 ∷ 10 ∷ 11 ∷ 12 ∷ 13 ∷ 14 ∷ 15 ∷ 3 ∷ 17 ∷ 18 ∷ 0 ∷ 20 ∷ 21 ∷ 2 ∷ 23 ∷ 24 ∷ 25 ∷ 26 ∷ 6 ∷ []
-
-abbrev pub next_at : (place : ℕ) → ℕ
-next_at p = get_or nexts (p - 7) 0
+abbrev pub next_at : (k : ℕ) → Place
+next_at k = elim (eqb k 8) [
+  | true ↦ Number Table None
+  | false ↦ elim (eqb k 11) [
+    | true ↦ Line
+    | false ↦ elim (eqb k 14) [
+      | true ↦ Literal
+      | false ↦ elim (eqb k 19) [ true ↦ Number Negative None | false ↦ Fixed (k + 1) ]
+    ]
+  ]
+]

@@ -1,37 +1,35 @@
-// The book of a text, or the number by which the text is refused. A text may come in pieces of any length: `start`, `feed` for each piece,
+// The book of a text, or why the text is refused. A text may come in pieces of any length: `start`, `feed` for each piece,
 // `finish`. What is kept of it meanwhile has a fixed size.
-ghost use Rattle.std.specs.Prelude.{◌≡◌, List, [], ◌++◌, ℕ, ◌≤◌, length};
-ghost use Rattle.xsb_import.specs.Importing.{Reads, Settles, refused_by, Desks, Sized, Imports};
+ghost use Rattle.std.specs.Prelude.{◌≡◌, List, [], ◌++◌, ℕ, ◌≤◌, length, IfOk};
+ghost use Rattle.xsb_import.specs.Importing.{Reads, Settles, ended_by, line_of, Desks, Sized, Imports};
 
 use crate::keeping::{end_command, goal_commands, keep};
 use crate::places::step;
-use crate::{Imported, Kept, PLAIN_BYTES, Reader, Spot};
+use crate::{Ended, Imported, Kept, PLAIN_BYTES, Place, Reader, Spot};
+use book::Refusal;
 use book::desk::desk;
+use sizes::MOST_GOALS;
 
 // Nothing is read yet.
 pub fn start() -> Reader
     ensures { Reads [] result }
 {
     let spot = Spot {
-        place: 0,
-        digits: false,
-        value: 0,
+        place: Place::Line,
         tables: 0,
         head: 0,
         begun: false,
-        told: 0,
-        broken: false,
+        ended: None,
     };
     let kept = Kept {
         goals: 0,
         clauses: 0,
         literals: 8,
         used: 0,
-        over: false,
     };
     Reader {
-        spot,
-        kept,
+        spot: Some(spot),
+        kept: Some(kept),
         bytes: [0u8; PLAIN_BYTES],
     }
 }
@@ -41,12 +39,17 @@ fn own(bytes: [u8; PLAIN_BYTES]) -> [u8; PLAIN_BYTES]
     ensures { (length result ≡ 13441) × (length bytes ≡ 13441 → result ≡ bytes) }
 {
     let mut r = [0u8; PLAIN_BYTES];
-    let mut i: usize = 0;
-    while i < 13441 {
+    for i in 0..PLAIN_BYTES {
         r[i] = bytes[i];
-        i += 1;
     }
     r
+}
+
+// What the last byte ended, if the text may still be of the form.
+fn ended(spot: Option<Spot>) -> Option<Ended>
+    ensures { result ≡ ended_by spot }
+{
+    spot?.ended
 }
 
 // The next piece of the text.
@@ -57,11 +60,9 @@ pub fn feed(reader: Reader, piece: &[u8]) -> Reader
     let mut kept = reader.kept;
     let held = reader.bytes;
     let mut bytes = own(held);
-    let mut i: usize = 0;
-    while i < piece.len() {
-        spot = step(spot, piece[i]);
-        kept = keep(kept, &mut bytes, spot);
-        i += 1;
+    for b in piece {
+        spot = step(spot, *b);
+        kept = keep(kept, &mut bytes, ended(spot));
     }
     Reader { spot, kept, bytes }
 }
@@ -70,56 +71,40 @@ pub fn feed(reader: Reader, piece: &[u8]) -> Reader
 pub fn is_settled(reader: Reader) -> bool
     ensures { (text : List ℕ) → Reads text reader → Settles text result }
 {
-    let spot = reader.spot;
-    spot.broken
+    reader.spot.is_none()
 }
 
-fn refused(number: u8) -> Imported
-    ensures { result ≡ refused_by number }
+// The spot of a text that ends where a line may begin.
+fn at_line(spot: Option<Spot>) -> Option<Spot>
+    ensures { result ≡ line_of spot }
 {
-    Imported {
-        number,
-        used: 0,
-        bytes: [0u8; PLAIN_BYTES],
+    let s = spot?;
+    match s.place {
+        Place::Line => Some(s),
+        _ => None,
     }
 }
 
 // No text has a book that is longer than the bytes.
-fn at_desk(bytes: [u8; PLAIN_BYTES], used: usize) -> Imported
+fn at_desk(bytes: [u8; PLAIN_BYTES], used: usize) -> Result<Imported, Refusal>
     requires { length bytes ≡ 13441 }
-    ensures { Sized result × (used ≤ 13441 → Desks bytes used result) }
+    ensures { IfOk result Sized × (used ≤ 13441 → Desks bytes used result) }
 {
-    if used > 13441 {
-        return refused(5);
+    if used > PLAIN_BYTES {
+        return Err(Refusal::TooMany);
     }
-    let reading = desk(&bytes[..used]);
-    if reading.number != 0 {
-        return refused(reading.number);
-    }
-    Imported {
-        number: 0,
-        used,
-        bytes,
-    }
+    let _taken = desk(&bytes[..used])?;
+    Ok(Imported { used, bytes })
 }
 
 // The text has come to its end: that of a line.
-pub fn finish(reader: Reader) -> Imported
-    ensures { Sized result × ((text : List ℕ) → Reads text reader → Imports text result) }
+pub fn finish(reader: Reader) -> Result<Imported, Refusal>
+    ensures { IfOk result Sized × ((text : List ℕ) → Reads text reader → Imports text result) }
 {
-    let spot = reader.spot;
-    if spot.broken {
-        return refused(39);
-    }
-    if spot.place != 0 {
-        return refused(39);
-    }
-    let kept = reader.kept;
-    if kept.over {
-        return refused(5);
-    }
-    if spot.tables > 64 {
-        return refused(5);
+    let spot = at_line(reader.spot).ok_or(Refusal::NotText)?;
+    let kept = reader.kept.ok_or(Refusal::TooMany)?;
+    if spot.tables > MOST_GOALS as u64 {
+        return Err(Refusal::TooMany);
     }
     let held = reader.bytes;
     let mut bytes = own(held);
@@ -129,7 +114,7 @@ pub fn finish(reader: Reader) -> Imported
 }
 
 // A text as a whole.
-pub fn import(text: &[u8]) -> Imported
+pub fn import(text: &[u8]) -> Result<Imported, Refusal>
     ensures { Imports text.now result }
 {
     let reader = feed(start(), text);

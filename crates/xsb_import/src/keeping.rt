@@ -1,9 +1,8 @@
 // The bytes of the book of the rules that were begun.
-ghost use Rattle.std.specs.Prelude.{◌≡◌, true, false, [], ◌∷◌, ◌-◌, ◌≤◌};
-ghost use Rattle.definitions.specs.Book.{write_literal};
-ghost use Rattle.xsb_import.specs.Keeping.{Writes, goal_bytes, capped_to, literal_told, over_of, KeepsOn};
+ghost use Rattle.std.specs.Prelude.{◌≡◌, [], ◌∷◌, ◌-◌, ◌≤◌, length, Some};
+ghost use Rattle.xsb_import.specs.Keeping.{Writes, goal_bytes, capped_to, KeepsOn, Begun, Added};
 
-use crate::{Kept, Spot};
+use crate::{Ended, Kept};
 
 fn put(out: &mut [u8], at: usize, b: u8) -> usize
     ensures { Writes out.old at (b ∷ []) out.new result }
@@ -19,10 +18,8 @@ fn write(out: &mut [u8], used: usize, more: &[u8]) -> usize
     ensures { Writes out.old used more.now out.new result }
 {
     let mut at = used;
-    let mut i: usize = 0;
-    while i < more.len() {
-        at = put(out, at, more[i]);
-        i += 1;
+    for b in more {
+        at = put(out, at, *b);
     }
     at
 }
@@ -32,10 +29,8 @@ pub(crate) fn goal_commands(out: &mut [u8], used: usize, from: u64, to: u64) -> 
     ensures { Writes out.old used (goal_bytes (to - from)) out.new result }
 {
     let mut at = used;
-    let mut g = from;
-    while g < to {
+    for _goal in from..to {
         at = write(out, at, b"G\0");
-        g += 1;
     }
     at
 }
@@ -43,88 +38,78 @@ pub(crate) fn goal_commands(out: &mut [u8], used: usize, from: u64, to: u64) -> 
 pub(crate) fn end_command(out: &mut [u8], used: usize) -> usize
     ensures { Writes out.old used (0x45 ∷ []) out.new result }
 {
-    put(out, used, 0x45)
-}
-
-fn over(k: Kept) -> Kept
-    ensures { result ≡ over_of k }
-{
-    let mut r = k;
-    r.over = true;
-    r
+    put(out, used, b'E')
 }
 
 // A rule for a goal. A head of 64 or more has a table line behind the 64th.
-fn begin(k: Kept, out: &mut [u8], goal: u64) -> Kept
-    requires { k.over ≡ false }
-    ensures { KeepsOn 1 goal k out.old result out.new }
+fn begin(k: Kept, out: &mut [u8], goal: u64) -> Option<Kept>
+    ensures { Begun goal k out.old result out.new }
 {
-    if k.clauses >= 256 {
-        return over(k);
-    }
-    if goal >= 64 {
-        return over(k);
+    if k.clauses >= 256 || goal >= 64 {
+        return None;
     }
     let named = goal_commands(out, k.used, k.goals, goal + 1);
     let used = write(out, named, b"C\0\0\0");
-    Kept {
+    Some(Kept {
         goals: goal + 1,
         clauses: k.clauses + 1,
         literals: 0,
         used,
-        over: false,
-    }
+    })
 }
 
 // A number above the largest goal's that a literal can name is written as that one, which no book has.
 fn named(number: u64) -> u16
     ensures { result ≡ capped_to number }
 {
-    if number > 65535 {
-        return 65535;
-    }
-    number as u16
+    u16::try_from(number).unwrap_or(u16::MAX)
 }
 
-fn literal(out: &mut [u8], used: usize, goal: u16, told: u8) -> usize
-    ensures { Writes out.old used (write_literal (literal_told told goal)) out.new result }
-{
-    let low = (goal % 256) as u8;
-    let high = (goal / 256) as u8;
-    if told == 2 {
-        let positive = [0x50u8, low, high, 0, 0, 0];
-        return write(out, used, &positive);
-    }
-    let negative = [0x4Eu8, low, high, 0];
-    write(out, used, &negative)
-}
-
-fn add(k: Kept, out: &mut [u8], number: u64, told: u8) -> Kept
-    requires { (k.over ≡ false) × (2 ≤ told) }
-    ensures { KeepsOn told number k out.old result out.new }
+// The bytes of a literal.
+fn add(k: Kept, out: &mut [u8], literal: &[u8]) -> Option<Kept>
+    requires { length literal.now ≤ 6 }
+    ensures { Added literal.now k out.old result out.new }
 {
     if k.literals >= 8 {
-        return over(k);
+        return None;
     }
-    let used = literal(out, k.used, named(number), told);
-    let mut r = k;
-    r.literals = k.literals + 1;
-    r.used = used;
-    r
+    let used = write(out, k.used, literal);
+    Some(Kept {
+        goals: k.goals,
+        clauses: k.clauses,
+        literals: k.literals + 1,
+        used,
+    })
 }
 
-// What the last byte ended is written.
-pub(crate) fn keep(k: Kept, out: &mut [u8], s: Spot) -> Kept
-    ensures { KeepsOn s.told s.value k out.old result out.new }
+// What a byte ended is written.
+fn more(k: Kept, out: &mut [u8], ended: Ended) -> Option<Kept>
+    ensures { KeepsOn (Some ended) (Some k) out.old result out.new }
 {
-    if s.told == 0 {
-        return k;
+    match ended {
+        Ended::Head(goal) => begin(k, out, goal),
+        Ended::Positive(number) => {
+            let goal = named(number);
+            add(
+                k,
+                out,
+                &[b'P', (goal % 256) as u8, (goal / 256) as u8, 0, 0, 0],
+            )
+        }
+        Ended::Negative(number) => {
+            let goal = named(number);
+            add(k, out, &[b'N', (goal % 256) as u8, (goal / 256) as u8, 0])
+        }
     }
-    if k.over {
-        return k;
+}
+
+// Nothing is written, where the last byte ended nothing.
+pub(crate) fn keep(kept: Option<Kept>, out: &mut [u8], ended: Option<Ended>) -> Option<Kept>
+    ensures { KeepsOn ended kept out.old result out.new }
+{
+    let k = kept?;
+    match ended {
+        Some(e) => more(k, out, e),
+        None => Some(k),
     }
-    if s.told == 1 {
-        return begin(k, out, s.value);
-    }
-    add(k, out, s.value, s.told)
 }

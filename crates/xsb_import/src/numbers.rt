@@ -1,159 +1,105 @@
 // Numbers in a text: their digits, and what stands behind them.
-ghost use Rattle.std.specs.Prelude.{◌≡◌, true, suc, ◌+◌, ◌*◌, ◌≤◌, ◌<◌};
-ghost use Rattle.papers.specs.Xsb.{counted as countedOf, is_digit as isDigit};
-ghost use Rattle.xsb_import.specs.Reading.{Steps, valued, tabled, headed, NoDigit};
+ghost use Rattle.std.specs.Prelude.{◌≡◌, ◌<◌, Some};
+ghost use Rattle.papers.specs.Xsb.{is_digit as isDigit, more_digits as moreDigits};
+ghost use Rattle.xsb_import.specs.declared.What.TheVariants.{Table, Head, Negative};
+ghost use Rattle.xsb_import.specs.declared.Place.TheVariants.{Number};
+ghost use Rattle.xsb_import.specs.Places.{value_seen};
+ghost use Rattle.xsb_import.specs.Reading.{Steps, headed, NoDigit};
 
-use crate::Spot;
-use crate::spots::{at, behind, broken};
+use crate::{Ended, Place, Spot, What};
 
-// One more digit, up to the most.
-fn more(v: u64, d: u64) -> u64
+// A number with one more digit, up to the most; there is no digit behind a 0 that it begins with.
+fn more_digits(value: Option<u64>, d: u64) -> Option<u64>
     requires { d < 10 }
-    ensures { result ≡ countedOf (10 * v + d) }
+    ensures { value_seen result ≡ moreDigits (value_seen value) d }
 {
-    if v > 1844674407370955161 {
-        return u64::MAX;
+    match value {
+        None => Some(d),
+        Some(0) => None,
+        Some(v) => Some(v.saturating_mul(10).saturating_add(d)),
     }
-    if 10 * v > u64::MAX - d {
-        return u64::MAX;
-    }
-    10 * v + d
 }
 
-fn with_value(s: Spot, value: u64) -> Spot
-    ensures { result ≡ valued s value }
-{
-    let mut r = s;
-    r.digits = true;
-    r.value = value;
-    r.told = 0;
-    r
-}
-
-// There is no digit behind a 0 that a number begins with.
-fn digit(s: Spot, b: u8) -> Spot
-    requires { (3 ≤ s.place) × (s.place < 7) × (48 ≤ b) × (b ≤ 57) }
+fn ends_table(s: Spot, v: u64, b: u8) -> Option<Spot>
+    requires { (s.place ≡ Number Table (Some v)) × NoDigit b }
     ensures { Steps s b result }
 {
-    let d = b as u64 - 48;
-    if s.digits {
-        if s.value == 0 {
-            return broken(s);
-        }
-        return with_value(s, more(s.value, d));
+    if b != b'/' || v != s.tables {
+        return None;
     }
-    with_value(s, d)
+    Some(Spot {
+        place: Place::Fixed(9),
+        tables: s.tables.saturating_add(1),
+        head: s.head,
+        begun: s.begun,
+        ended: None,
+    })
 }
 
-fn table_read(s: Spot, tables: u64) -> Spot
-    ensures { result ≡ tabled s tables }
+fn head_read(s: Spot, v: u64, place: Place) -> Spot
+    ensures { result ≡ headed s v place }
 {
-    let mut r = s;
-    r.place = 16;
-    r.digits = false;
-    r.tables = tables;
-    r.told = 0;
-    r
-}
-
-fn more_by_one(n: u64) -> u64
-    ensures { result ≡ countedOf (suc n) }
-{
-    if n == u64::MAX {
-        return n;
+    Spot {
+        place,
+        tables: s.tables,
+        head: v,
+        begun: true,
+        ended: Some(Ended::Head(v)),
     }
-    n + 1
-}
-
-fn ends_table(s: Spot, b: u8) -> Spot
-    requires { (s.place ≡ 3) × (s.digits ≡ true) × NoDigit b }
-    ensures { Steps s b result }
-{
-    if b != 0x2F {
-        return broken(s);
-    }
-    if s.value != s.tables {
-        return broken(s);
-    }
-    table_read(s, more_by_one(s.tables))
-}
-
-fn head_read(s: Spot, place: u8) -> Spot
-    ensures { result ≡ headed s place }
-{
-    let mut r = s;
-    r.place = place;
-    r.digits = false;
-    r.head = s.value;
-    r.begun = true;
-    r.told = 1;
-    r
 }
 
 // A head has a table line, and none below it comes later.
-fn ends_head(s: Spot, b: u8) -> Spot
-    requires { (s.place ≡ 4) × (s.digits ≡ true) × NoDigit b }
+fn ends_head(s: Spot, v: u64, b: u8) -> Option<Spot>
+    requires { (s.place ≡ Number Head (Some v)) × NoDigit b }
     ensures { Steps s b result }
 {
-    if s.value >= s.tables {
-        return broken(s);
+    if v >= s.tables || v < s.head {
+        return None;
     }
-    if s.value < s.head {
-        return broken(s);
+    match b {
+        b'.' => Some(head_read(s, v, Place::Fixed(11))),
+        b' ' => Some(head_read(s, v, Place::Fixed(12))),
+        _ => None,
     }
-    if b == 0x2E {
-        return head_read(s, 18);
-    }
-    if b == 0x20 {
-        return head_read(s, 19);
-    }
-    broken(s)
 }
 
-fn ends_negative(s: Spot, b: u8) -> Spot
-    requires { (s.place ≡ 6) × (s.digits ≡ true) × NoDigit b }
+fn ends_negative(s: Spot, v: u64, b: u8) -> Option<Spot>
+    requires { (s.place ≡ Number Negative (Some v)) × NoDigit b }
     ensures { Steps s b result }
 {
-    if b == 0x29 {
-        return at(s, 1, 3);
+    if b == b')' {
+        Some(s.at(Place::Behind, Some(Ended::Negative(v))))
+    } else {
+        None
     }
-    broken(s)
 }
 
-fn ends(s: Spot, b: u8) -> Spot
-    requires { (3 ≤ s.place) × (s.place < 7) × (s.digits ≡ true) × NoDigit b }
+fn ends(s: Spot, what: What, v: u64, b: u8) -> Option<Spot>
+    requires { (s.place ≡ Number what (Some v)) × NoDigit b }
     ensures { Steps s b result }
 {
-    if s.place == 3 {
-        return ends_table(s, b);
+    match what {
+        What::Table => ends_table(s, v, b),
+        What::Head => ends_head(s, v, b),
+        What::Positive => s.behind(b, Some(Ended::Positive(v))),
+        What::Negative => ends_negative(s, v, b),
     }
-    if s.place == 4 {
-        return ends_head(s, b);
-    }
-    if s.place == 5 {
-        return behind(s, b, 2);
-    }
-    ends_negative(s, b)
 }
 
 fn is_digit(b: u8) -> bool
     ensures { result ≡ isDigit b }
 {
-    if b < 48 {
-        return false;
-    }
-    b <= 57
+    b >= 48 && b <= 57
 }
 
-pub(crate) fn number(s: Spot, b: u8) -> Spot
-    requires { (3 ≤ s.place) × (s.place < 7) }
+pub(crate) fn number(s: Spot, what: What, value: Option<u64>, b: u8) -> Option<Spot>
+    requires { s.place ≡ Number what value }
     ensures { Steps s b result }
 {
     if is_digit(b) {
-        return digit(s, b);
+        let v = more_digits(value, b as u64 - 48)?;
+        return Some(s.at(Place::Number(what, Some(v)), None));
     }
-    if s.digits {
-        return ends(s, b);
-    }
-    broken(s)
+    let v = value?;
+    ends(s, what, v, b)
 }

@@ -1,90 +1,83 @@
 // What a byte does to the place in a text, and to what was read of it.
-ghost use Rattle.std.specs.Prelude.{◌≡◌, true, ◌≤◌, ◌<◌};
+ghost use Rattle.std.specs.Prelude.{◌≡◌, ◌<◌, None, Some};
+ghost use Rattle.xsb_import.specs.declared.Place.TheVariants.{Line, Fixed, Literal};
 ghost use Rattle.xsb_import.specs.Places.{byte_at, next_at};
-ghost use Rattle.xsb_import.specs.Reading.{Steps};
+ghost use Rattle.xsb_import.specs.Reading.{Steps, StepsFrom};
 
-use crate::Spot;
 use crate::numbers::number;
-use crate::spots::{at, behind, broken};
+use crate::{Place, Spot, What};
 
 // A table line comes before every rule.
-fn line(s: Spot, b: u8) -> Spot
-    requires { s.place ≡ 0 }
+fn line(s: Spot, b: u8) -> Option<Spot>
+    requires { s.place ≡ Line }
     ensures { Steps s b result }
 {
-    if b == 0x67 {
-        return at(s, 4, 0);
+    match b {
+        b'g' => Some(s.at(Place::Number(What::Head, None), None)),
+        b':' if !s.begun => Some(s.at(Place::Fixed(0), None)),
+        _ => None,
     }
-    if b != 0x3A {
-        return broken(s);
-    }
-    if s.begun {
-        return broken(s);
-    }
-    at(s, 7, 0)
 }
 
-fn literal(s: Spot, b: u8) -> Spot
-    requires { s.place ≡ 2 }
+fn literal(s: Spot, b: u8) -> Option<Spot>
+    requires { s.place ≡ Literal }
     ensures { Steps s b result }
 {
-    if b == 0x67 {
-        return at(s, 5, 0);
+    match b {
+        b'g' => Some(s.at(Place::Number(What::Positive, None), None)),
+        b't' => Some(s.at(Place::Fixed(15), None)),
+        _ => None,
     }
-    if b == 0x74 {
-        return at(s, 22, 0);
-    }
-    broken(s)
 }
 
-fn fixed_byte(place: u8) -> u8
-    requires { (7 ≤ place) × (place < 27) }
-    ensures { result ≡ byte_at place }
+fn fixed_byte(k: usize) -> u8
+    requires { k < 20 }
+    ensures { result ≡ byte_at k }
 {
     let form = b"- table g0.\n:- not(g";
-    form[place as usize - 7]
+    form[k]
 }
 
-fn after_fixed(place: u8) -> u8
-    requires { (7 ≤ place) × (place < 27) }
-    ensures { result ≡ next_at place }
+fn after_fixed(k: usize) -> Place
+    requires { k < 20 }
+    ensures { result ≡ next_at k }
 {
-    let next = [
-        8u8, 9, 10, 11, 12, 13, 14, 15, 3, 17, 18, 0, 20, 21, 2, 23, 24, 25, 26, 6,
-    ];
-    next[place as usize - 7]
+    match k {
+        8 => Place::Number(What::Table, None),
+        11 => Place::Line,
+        14 => Place::Literal,
+        19 => Place::Number(What::Negative, None),
+        _ => Place::Fixed(k + 1),
+    }
 }
 
-fn fixed(s: Spot, b: u8) -> Spot
-    requires { (7 ≤ s.place) × (s.place < 27) }
+fn fixed(s: Spot, k: usize, b: u8) -> Option<Spot>
+    requires { (s.place ≡ Fixed k) × (k < 20) }
     ensures { Steps s b result }
 {
-    if b != fixed_byte(s.place) {
-        return broken(s);
+    if b == fixed_byte(k) {
+        Some(s.at(after_fixed(k), None))
+    } else {
+        None
     }
-    at(s, after_fixed(s.place), 0)
 }
 
-pub(crate) fn step(s: Spot, b: u8) -> Spot
-    ensures { Steps s b result × (s.broken ≡ true → result.broken ≡ true) }
+// No byte has a place in the form behind its end.
+fn known(s: Spot, b: u8) -> Option<Spot>
+    ensures { Steps s b result }
 {
-    if s.broken {
-        return s;
+    match s.place {
+        Place::Line => line(s, b),
+        Place::Fixed(k) if k < 20 => fixed(s, k, b),
+        Place::Fixed(_) => None,
+        Place::Number(what, value) => number(s, what, value, b),
+        Place::Literal => literal(s, b),
+        Place::Behind => s.behind(b, None),
     }
-    if s.place == 0 {
-        return line(s, b);
-    }
-    if s.place == 1 {
-        return behind(s, b, 0);
-    }
-    if s.place == 2 {
-        return literal(s, b);
-    }
-    if s.place < 7 {
-        return number(s, b);
-    }
-    if s.place < 27 {
-        return fixed(s, b);
-    }
-    broken(s)
+}
+
+pub(crate) fn step(spot: Option<Spot>, b: u8) -> Option<Spot>
+    ensures { StepsFrom spot b result }
+{
+    known(spot?, b)
 }

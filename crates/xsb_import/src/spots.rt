@@ -1,37 +1,30 @@
 // Where the reading of a text stands next: at another place, behind a literal, or nowhere, since the text is not of the form.
 ghost use Rattle.std.specs.Prelude.{◌≡◌};
-ghost use Rattle.xsb_import.specs.Reading.{moved, lost, behind_spot};
+ghost use Rattle.xsb_import.specs.Reading.{moved, behind_spot};
 
-use crate::Spot;
+use crate::{Ended, Place, Spot};
 
-pub(crate) fn at(s: Spot, place: u8, told: u8) -> Spot
-    ensures { result ≡ moved s place told }
-{
-    let mut r = s;
-    r.place = place;
-    r.digits = false;
-    r.told = told;
-    r
-}
-
-pub(crate) fn broken(s: Spot) -> Spot
-    ensures { result ≡ lost s }
-{
-    let mut r = s;
-    r.told = 0;
-    r.broken = true;
-    r
-}
-
-// Behind a literal the rule ends, or another one comes.
-pub(crate) fn behind(s: Spot, b: u8, told: u8) -> Spot
-    ensures { result ≡ behind_spot s b told }
-{
-    if b == 0x2E {
-        return at(s, 18, told);
+impl Spot {
+    pub(crate) fn at(self, place: Place, ended: Option<Ended>) -> Spot
+        ensures { result ≡ moved self place ended }
+    {
+        Spot {
+            place,
+            tables: self.tables,
+            head: self.head,
+            begun: self.begun,
+            ended,
+        }
     }
-    if b == 0x2C {
-        return at(s, 21, told);
+
+    // Behind a literal the rule ends, or another one comes.
+    pub(crate) fn behind(self, b: u8, ended: Option<Ended>) -> Option<Spot>
+        ensures { result ≡ behind_spot self b ended }
+    {
+        match b {
+            b'.' => Some(self.at(Place::Fixed(11), ended)),
+            b',' => Some(self.at(Place::Fixed(14), ended)),
+            _ => None,
+        }
     }
-    broken(s)
 }

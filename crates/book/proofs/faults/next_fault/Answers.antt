@@ -1,16 +1,7 @@
 -- `next_fault`: a lemma for each way out.
 use mathlib.Core.Path.{◌∙◌}
-use borrow.Author.Rules.{rules}
 use Rattle.book.specs.Faults.{counts}
-use Rattle.book.proofs.Tests.{
-  fault_none,
-  fault_unknown,
-  fault_short,
-  fault_goal,
-  fault_clause,
-  fault_end,
-  fault_literal,
-}
+use Rattle.book.proofs.Tests.{fault_literal}
 use Rattle.book.proofs.faults.next_fault.Goals as goal
 
 pub returns : goal.returns

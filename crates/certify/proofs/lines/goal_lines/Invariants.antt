@@ -1,16 +1,10 @@
--- `goal_lines`: at each turn the lines that are left, put down from where the pen is, are all that there is to say.
-use Prim.Native.Nat.{◌-◌}
-use mathlib.Core.Path.{◌≡◌}
-use lib.ListN.{length}
-use Rattle.pen.specs.Pen.{pen, put_all}
-use Rattle.certify.specs.Numbers.{line_told}
-use Rattle.pen.proofs.Goals.{words_left}
+-- `goal_lines`: the lines of the goals so far are put down.
+use Rattle.std.proofs.Common.{◌≡◌, take}
+use Rattle.pen.specs.Pen.{put_all}
+use Rattle.pen.specs.Goals.{words_from}
+use Rattle.certify.specs.Told.{line_told}
 use Rattle.certify.proofs.lines.goal_lines.Given as goal
 
-abbrev pub invariant-loop-g : goal.invariant-loop-g
-invariant-loop-g l =
-    (length l.out ≡ length l.initial.out) × (put_all (words_left (line_told l.what l.clause l.literal) l.by l.g) (pen l.out l.used)
-    ≡ put_all (words_left (line_told l.what l.clause l.literal) l.by 0) (pen l.initial.out l.initial.used))
-
-abbrev pub decreases-loop-g : goal.decreases-loop-g
-decreases-loop-g l = length l.by - l.g
+abbrev pub invariant-loop-goal : goal.invariant-loop-goal
+invariant-loop-goal l =
+    l.pen ≡ put_all (words_from (line_told l.s.told) 0 (take l.goal l.goals)) l.fn.pen

@@ -2,14 +2,11 @@
 -- what is lent, and the deed done to it
 use Prim.Native.Nat.{ℕ}
 use mathlib.Core.List.{List}
-use mathlib.Core.Path.{◌≡◌, refl, sym, ap, ◌∙◌}
-use borrow.Author.Rules.{rules}
+use mathlib.Core.Path.{refl, sym, ap, ◌∙◌}
 use Rattle.strands.specs.declared.Answer.{Answer}
 use Rattle.stores.specs.Places.{places}
-use Rattle.stores.proofs.PlacesMoves.{enqueued_is}
 use Rattle.control.specs.declared.decision.Deed.{Deed}
-use Rattle.control.specs.declared.decision.Deed.TheVariants.{Stop, GoesOn, GivesUp, Cycles, Pushes, Requeues, Flounders, Answers}
-use Rattle.control.specs.PerformDeed.{stack_of, answers_of, Moving, moving, Did, deed_done}
+use Rattle.control.specs.PerformDeed.{stack_of, answers_of, Moving, moving, deed_done}
 use Rattle.control.proofs.PerformDeedCases.{stack_is, moving_is, did_is}
 use Rattle.control.proofs.perform_deed.perform_deed.Goals as goal
 

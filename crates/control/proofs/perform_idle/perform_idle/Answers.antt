@@ -1,17 +1,14 @@
 -- `perform_idle` meets its contract, act by act: each is handed to its function.
 -- what is lent, and the act done to it
 use Prim.Native.Nat.{ℕ}
-use mathlib.Core.Bool.{Bool}
 use mathlib.Core.List.{List}
-use mathlib.Core.Path.{◌≡◌, refl, sym, ap, ◌∙◌}
-use borrow.Author.Rules.{rules}
+use mathlib.Core.Path.{refl, sym, ap, ◌∙◌}
 use Rattle.strands.specs.declared.Strand.{Strand}
 use Rattle.stores.specs.Places.{places}
 use Rattle.stores.specs.Queue.{store}
 use Rattle.control.specs.declared.on_no_strands_left.Idle.{Idle}
-use Rattle.control.specs.declared.on_no_strands_left.Idle.TheVariants as idle
 use Rattle.control.specs.PerformDeed.{stack_of}
-use Rattle.control.specs.PerformIdle.{clearing_flow, clearing_depth, Idling, idling, IdleDone, idle_done}
+use Rattle.control.specs.PerformIdle.{Idling, idling, idle_done}
 use Rattle.control.proofs.PerformDeedCases.{stack_is}
 use Rattle.control.proofs.PerformIdleCases.{idling_is, idled_is}
 use Rattle.control.proofs.perform_idle.perform_idle.Goals as goal

@@ -1,21 +1,9 @@
 -- `any_future_answer` meets its contract: no such table, a variant that no number of 16 bits is, a stored answer, or the queue.
--- the numbers of an array fit their width
-use Prim.Native.Nat.{ℕ, ◌%◌, ◌<◌}
-use mathlib.Core.List.{List}
+use Prim.Native.Nat.{◌%◌}
 use mathlib.Core.Logic.{inl, inr}
-use lib.ListN.{get_or}
-use mir.Syntax.{w16}
-use mir.Val.{Val}
-use denote.Array.{each}
-use denote.Plain.{UInt}
-use denote.Shadow.{shadow}
 use Rattle.forest.proofs.AnyFutureAnswerCases.{low_variant, says_unmade, says_large, says_stored, says_queued}
-use borrow.Author.Rules.{rules, elem_Fits}
 use Rattle.forest.proofs.any_future_answer.any_future_answer.Goals as goal
 use Rattle.forest.proofs.any_future_answer.any_future_answer.Goals.{then-index-gt256, else-index-gt256}
-
-small : (xs : List ℕ) (us : List Val) → shadow (each ℕ (UInt w16).own_val xs us) → (q : ℕ) → get_or xs q 0 < 65536
-small xs us h q = (elem_Fits w16 w16 xs us q h tt).fits
 
 pub returns-then-table-f : goal.returns-then-table-f
 returns-then-table-f c =
@@ -25,11 +13,8 @@ returns-then-table-f c =
 pub returns-then-variant-gt65535 : goal.returns-then-variant-gt65535
 returns-then-variant-gt65535 c =
     let a = c.args in
-    let numbers = c.well_formed.0.1.1.1.1.1.1.1.1.1.1.1.1.1.1.1.1.1.1.1.1.1.1.1.1 in
-    let after = numbers.1.1.1.1.1.1.1.1 in
-    says_large a.f a.table a.index a.variant c.if-table-f.false c.if-variant-gt65535.true
-    (small a.f.variant numbers.0.0 numbers.0.1.1)
-    (small a.f.answer_variant after.0.0 after.0.1.1)
+    says_large a.f a.table a.index a.variant c.if-table-f.false c.if-variant-gt65535.true c.all_small.ensures
+    c.all_small-then-variant-gt65535.ensures
 
 pub returns-then-any_answer : goal.returns-then-any_answer
 returns-then-any_answer c =

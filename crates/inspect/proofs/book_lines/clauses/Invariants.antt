@@ -1,16 +1,12 @@
 -- `clauses`: at each turn the clauses that are left, put down from where the pen is, are all that there is to say.
-use Rattle.pen.specs.Pen.{pen, put_all}
+use Rattle.pen.specs.Pen.{put_all}
 use Rattle.book.specs.View.{clause_viewed}
 use Rattle.inspect.proofs.Lines.{clauses_left}
-use Prim.Native.Nat.{◌≤◌, ◌<◌, ◌-◌}
+use Prim.Native.Nat.{◌≤◌, ◌<◌}
 use mathlib.Core.Path.{◌≡◌}
-use lib.ListN.{length}
 use Rattle.inspect.proofs.book_lines.clauses.Given as goal
 
 abbrev pub invariant-loop-k : goal.invariant-loop-k
-invariant-loop-k l = (l.k ≤ l.count) × (l.count < 65536) × (l.first < 65536) × (length l.out ≡ length l.initial.out) ×
-    (put_all (clauses_left l.g (clause_viewed l.book) l.first l.count l.k) (pen l.out l.used)
-    ≡ put_all (clauses_left l.g (clause_viewed l.book) l.first l.count 0) (pen l.initial.out l.initial.used))
-
-abbrev pub decreases-loop-k : goal.decreases-loop-k
-decreases-loop-k l = l.count - l.k
+invariant-loop-k l = (l.k ≤ l.count) × (l.count < 65536) × (l.first < 65536) ×
+    (put_all (clauses_left l.g (clause_viewed l.book) l.first l.count l.k) l.pen
+    ≡ put_all (clauses_left l.g (clause_viewed l.book) l.first l.count 0) l.initial.pen)

@@ -5,5 +5,5 @@ use Rattle.inspect.proofs.book_lines.goal.Goals as goal
 
 pub returns : goal.returns
 returns c =
-    goal_all c.args.g (goal_viewed c.args.book c.args.g) _ _ _
-    c.goal_line-line.ensures c.clauses.ensures
+    goal_all c.args.g (goal_viewed c.args.book.now c.args.g) _ _ _
+    c.goal_line.ensures c.clauses.ensures

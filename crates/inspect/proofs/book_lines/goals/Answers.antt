@@ -1,9 +1,8 @@
 use Rattle.inspect.proofs.Lines.{goals_step, goals_said}
-use borrow.Author.Rules.{rules}
 use Rattle.inspect.proofs.book_lines.goals.Goals as goal
 
 pub loop-g-preserved : goal.loop-g-preserved
-loop-g-preserved c = (search rules, search goals_step)
+loop-g-preserved c = search goals_step
 
 pub returns : goal.returns
 returns c = search goals_said

@@ -1,17 +1,16 @@
-use borrow.Author.Rules.{rules}
 use native.Mathlib.Omega.{arith}
 use Rattle.inspect.proofs.Looking.{clauses_step, clauses_said}
 use Rattle.inspect.proofs.Lines.{clauses_in}
 use Rattle.inspect.proofs.missing.clauses.Goals as goal
 
-pub literals-used-requires : goal.literals-used-requires
-literals-used-requires c = record {
+pub literals-requires : goal.literals-requires
+literals-requires c = record {
   formed = c.requires.formed;
-  c_bound = omega (arith, clauses_in c.args.book c.args.g c.requires.formed c.requires.g_lt_goals);
+  c_bound = omega (arith, clauses_in c.args.book.now c.args.g c.requires.formed c.requires.g_lt_goals);
 }
 
 pub loop-k-preserved : goal.loop-k-preserved
-loop-k-preserved c = (omega arith, omega arith, omega arith, search rules, search clauses_step)
+loop-k-preserved c = (omega arith, omega arith, omega arith, search clauses_step)
 
 pub returns : goal.returns
 returns c = search clauses_said

@@ -2,8 +2,8 @@
 use Rattle.inspect.proofs.Looking.{unread_said, read_said}
 use Rattle.inspect.proofs.missing.loosely.Goals as goal
 
-pub returns-then-r-ne0 : goal.returns-then-r-ne0
-returns-then-r-ne0 c = search unread_said
+pub returns-in-Ok : goal.returns-in-Ok
+returns-in-Ok c = read_said _ _ _ _ _ c.in-Ok.ensures c.goals.ensures c.missing.ensures
 
-pub returns : goal.returns
-returns c = search read_said
+pub returns-in_default : goal.returns-in_default
+returns-in_default c = unread_said _ _ _ c.in_default.ensures

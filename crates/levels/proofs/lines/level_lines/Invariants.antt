@@ -1,15 +1,8 @@
--- `level_lines`: at each turn the lines that are left, put down from where the pen is, are all that there is to say.
-use Prim.Native.Nat.{◌-◌}
-use mathlib.Core.Path.{◌≡◌}
-use lib.ListN.{length}
-use Rattle.pen.specs.Pen.{pen, put_all}
-use Rattle.levels.specs.Words.{level_line}
-use Rattle.pen.proofs.Goals.{words_left}
+-- `level_lines`: the lines of the goals so far are put down.
+use Rattle.std.proofs.Common.{◌≡◌, take}
+use Rattle.pen.specs.Pen.{put_all}
+use Rattle.levels.specs.Words.{level_lines}
 use Rattle.levels.proofs.lines.level_lines.Given as goal
 
-abbrev pub invariant-loop-g : goal.invariant-loop-g
-invariant-loop-g l = (length l.out ≡ length l.initial.out) × (put_all (words_left level_line l.levels l.g) (pen l.out l.used)
-    ≡ put_all (words_left level_line l.levels 0) (pen l.initial.out l.initial.used))
-
-abbrev pub decreases-loop-g : goal.decreases-loop-g
-decreases-loop-g l = length l.levels - l.g
+abbrev pub invariant-loop-goal : goal.invariant-loop-goal
+invariant-loop-goal l = l.pen ≡ put_all (level_lines 0 (take l.goal l.levels)) l.fn.pen

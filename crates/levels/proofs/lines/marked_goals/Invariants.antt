@@ -1,15 +1,9 @@
--- `marked_goals`: at each turn the goals that are left, put down from where the pen is, are all that there is to say.
-use Prim.Native.Nat.{◌-◌}
-use mathlib.Core.Path.{◌≡◌}
-use lib.ListN.{length}
-use Rattle.pen.specs.Pen.{pen, put_all}
+-- `marked_goals`: those of the goals so far that are marked are put down.
+use Rattle.std.proofs.Common.{◌≡◌, take}
+use Rattle.pen.specs.Pen.{put_all}
+use Rattle.pen.specs.Goals.{words_from}
 use Rattle.levels.specs.Words.{marked_words}
-use Rattle.pen.proofs.Goals.{words_left}
 use Rattle.levels.proofs.lines.marked_goals.Given as goal
 
-abbrev pub invariant-loop-g : goal.invariant-loop-g
-invariant-loop-g l = (length l.out ≡ length l.initial.out) × (put_all (words_left marked_words l.marks l.g) (pen l.out l.used)
-    ≡ put_all (words_left marked_words l.marks 0) (pen l.initial.out l.initial.used))
-
-abbrev pub decreases-loop-g : goal.decreases-loop-g
-decreases-loop-g l = length l.marks - l.g
+abbrev pub invariant-loop-goal : goal.invariant-loop-goal
+invariant-loop-goal l = l.pen ≡ put_all (words_from marked_words 0 (take l.goal l.marks)) l.fn.pen

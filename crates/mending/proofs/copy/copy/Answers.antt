@@ -2,8 +2,8 @@ use Rattle.mending.proofs.Copies.{copy_step, copy_done}
 use borrow.Author.Rules.{rules}
 use Rattle.mending.proofs.copy.copy.Goals as goal
 
-pub loop-i-preserved : goal.loop-i-preserved
-loop-i-preserved c = search (copy_step, rules)
+pub loop-b-preserved : goal.loop-b-preserved
+loop-b-preserved c = search (copy_step, rules)
 
 pub returns : goal.returns
 returns c = search copy_done

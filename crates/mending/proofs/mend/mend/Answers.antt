@@ -1,6 +1,7 @@
--- `mend`: by whether the paper is refused.
+-- `mend`: the book of a paper that is read.
 use Rattle.mending.proofs.Mends.{book_mended}
 use Rattle.mending.proofs.mend.mend.Goals as goal
 
-pub returns : goal.returns
-returns c = search book_mended
+pub returns-in-Ok : goal.returns-in-Ok
+returns-in-Ok c =
+    book_mended _ _ _ _ _ _ _ c.in-Ok.ensures c.reasons_of-reasons.ensures c.copy.ensures c.lines.ensures

@@ -1,11 +1,6 @@
 -- `book_place`: each goal before goal g is plain.
--- the goal's clauses are counted
-use Prim.Native.Nat.{◌-◌}
 use Rattle.paper_checks.proofs.Tested.{GoalsLeft}
 use Rattle.paper_checks.proofs.plain.book_place.Given as goal
 
 abbrev pub invariant-loop-g : goal.invariant-loop-g
 invariant-loop-g l = GoalsLeft l.b l.g
-
-abbrev pub decreases-loop-g : goal.decreases-loop-g
-decreases-loop-g l = l.b.goals - l.g

@@ -2,10 +2,13 @@ use Rattle.paper_checks.proofs.Spreading.{literals_begin, literals_again, litera
 use Rattle.paper_checks.proofs.spoilt.literals_spoilt.Goals as goal
 
 pub loop-j-init : goal.loop-j-init
-loop-j-init c = search literals_begin
+loop-j-init c = literals_begin c.args.told.now c.args.b.now c.args.c _ c.literal_count-count.ensures
 
-pub returns-then-spoiler-lt64 : goal.returns-then-spoiler-lt64
-returns-then-spoiler-lt64 c = search literal_found
+pub returns-in-Some : goal.returns-in-Some
+returns-in-Some c =
+    literal_found c.args.told.now c.args.b.now c.args.c _ _ c.loop-j.invariant _ c.loop-j-test.true c.literal-l.ensures _ c.in-Some.ensures
 
 pub loop-j-preserved : goal.loop-j-preserved
-loop-j-preserved c = search literals_again
+loop-j-preserved c =
+    literals_again c.args.told.now c.args.b.now c.args.c _ _ c.loop-j.invariant _ c.loop-j-test.true
+    c.literal-l.ensures c.in_default.ensures

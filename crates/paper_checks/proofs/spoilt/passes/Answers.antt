@@ -1,12 +1,8 @@
-use Rattle.paper_checks.proofs.Ending.{inside}
-use Rattle.paper_checks.proofs.SpoiltBooks.{stands_whole, stands_next, stands_over}
+use Rattle.paper_checks.proofs.SpoiltBooks.{stands_next, stands_over}
 use Rattle.paper_checks.proofs.spoilt.passes.Goals as goal
 
-pub pass-by-requires : goal.pass-by-requires
-pass-by-requires c = search (stands_whole, inside)
-
 pub loop-made-preserved : goal.loop-made-preserved
-loop-made-preserved c = search stands_next
+loop-made-preserved c = stands_next c.args.b.now c.requires.sound _ _ c.loop-made.invariant _ c.pass-told.ensures
 
 pub returns : goal.returns
-returns c = search stands_over
+returns c = stands_over c.args.b.now _ _ c.loop-made.invariant c.loop-made.auto.made-end c.loop-made-test.false

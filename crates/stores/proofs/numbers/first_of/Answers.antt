@@ -1,11 +1,11 @@
-use Prim.Native.Nat.{ℕ}
+use Prim.Native.Nat.{ℕ, min}
+use native.Mathlib.Omega.{arith}
 use mathlib.Core.Path.{◌∙◌, sym}
 use mathlib.Core.Bool.{Bool}
 use mathlib.Core.List.{List}
 use borrow.Author.Tests.{ne_eqb}
 use lib.ListN.{get_or}
 use lib.Dec.{eqb}
-use borrow.Author.Rules.{rules}
 use Rattle.stores.proofs.NumbersCases.{first_next}
 use Rattle.stores.proofs.numbers.first_of.Goals as goal
 
@@ -16,10 +16,4 @@ pub loop-i-preserved : goal.loop-i-preserved
 loop-i-preserved c =
     let a = c.args in
     let l = c.loop-i in
-    let m : ℕ = c.upto-m.result in (
-      search rules,
-      l.invariant.1,
-      l.invariant.2,
-      sym (first_next (test a.xs.now a.x) m l.i (search rules) (ne_eqb (get_or a.xs.now l.i 0) a.x c.if-xs-i.false))
-          ∙ l.invariant.3,
-    )
+    sym (first_next (test a.xs.now a.x) (min a.n 64) l.i (omega arith) (ne_eqb (get_or a.xs.now l.i 0) a.x c.if-xs-i.false)) ∙ l.invariant

@@ -1,5 +1,5 @@
 -- `first_of` meets its contract: the search from i on is what is left of the whole search.
-use Prim.Native.Nat.{◌≤◌, ◌-◌}
+use Prim.Native.Nat.{◌-◌}
 use mathlib.Core.Path.{◌≡◌}
 use lib.ListN.{get_or}
 use lib.Dec.{eqb}
@@ -8,10 +8,4 @@ use Rattle.stores.proofs.numbers.first_of.Given as goal
 
 abbrev pub invariant-loop-i : goal.invariant-loop-i
 invariant-loop-i l =
-    (l.i ≤ l.m)
-    × (l.m ≡ within l.n)
-    × (l.m ≤ 64)
-    × (first_at (λ j. eqb (get_or l.xs j 0) l.x) l.i (l.m - l.i) ≡ first_at (λ j. eqb (get_or l.xs j 0) l.x) 0 (within l.n))
-
-abbrev pub decreases-loop-i : goal.decreases-loop-i
-decreases-loop-i l = l.m - l.i
+    first_at (λ j. eqb (get_or l.xs j 0) l.x) l.i (within l.n - l.i) ≡ first_at (λ j. eqb (get_or l.xs j 0) l.x) 0 (within l.n)

@@ -1,17 +1,29 @@
--- `answer_of` keeps of the goals within the array, which are those that the view shows.
+-- The turn of the loop, by whether the goal is the table's own.
 use native.Mathlib.Omega.{arith}
-use mathlib.Core.Path.{ap}
-use lib.ListN.{take, length-take}
-use Rattle.definitions.proofs.Lists.{length_other_than}
-use Rattle.strands.specs.declared.answers.Goals.{Goals}
+use mathlib.Core.Path.{◌≡◌, ap, ◌∙◌}
+use lib.ListN.{length, get_or, length-set}
+use borrow.Author.Rules.{rules}
+use Rattle.strands.specs.Answers.{goals_of}
+use Rattle.strands.proofs.AnswerCases.{turn_kept, turn_dropped}
 use Rattle.strands.proofs.answers.answer_of.Goals as goal
+use Rattle.strands.proofs.answers.answer_of.Goals.{then-s-i, else-s-i}
 
-pub overflow_cast-result : goal.overflow_cast-result
-overflow_cast-result c =
-    let o = c.other_than-others in
+pub loop-i-preserved : goal.loop-i-preserved
+loop-i-preserved c =
     let a = c.args in
-    let n = c.within-n in
-    let kept = ap (λ (g : Goals). g.count) o.ensures in
-    let few = length_other_than a.goal (take n.result a.s.delayed) in
-    let shows = length-take n.result a.s.delayed in
-    record { fits = omega (arith, n.ensures) }
+    let l = c.loop-i in
+    let long : length c.args.s.delayed ≡ 8 = search rules in
+    elim c.if-s-i.branch [
+      | then-s-i w ↦
+          let turn = turn_kept a.goal l.i a.s.delayed (omega arith) l.kept l.count w.if-s-i.true l.invariant.counted l.invariant.kept in
+          let size = length-set l.kept l.count (get_or a.s.delayed l.i 0) in
+          record { few = omega arith; long = ap length w.kept-is ∙ size ∙ l.invariant.long; counted = w.count-is ∙ turn.0; kept = w.kept-is ∙ turn.1 }
+      | else-s-i w ↦
+          let same = turn_dropped a.goal l.i a.s.delayed (omega arith) w.if-s-i.false in
+          record {
+            few = omega arith;
+            long = ap length w.kept-is ∙ l.invariant.long;
+            counted = w.count-is ∙ l.invariant.counted ∙ ap length same;
+            kept = w.kept-is ∙ l.invariant.kept ∙ ap goals_of same;
+          }
+    ]

@@ -3,8 +3,5 @@ use mathlib.Core.Path.{◌≡◌}
 use Rattle.strands.specs.Floundering.{reconsider_down}
 use Rattle.strands.proofs.floundering.reconsider_floundered_subgoals.Given as goal
 
-abbrev pub invariant-loop-left : goal.invariant-loop-left
-invariant-loop-left l = reconsider_down l.left l.t ≡ reconsider_down l.n l.initial.t
-
-abbrev pub decreases-loop-left : goal.decreases-loop-left
-decreases-loop-left l = l.left
+abbrev pub invariant-loop-i : goal.invariant-loop-i
+invariant-loop-i l = reconsider_down l.i l.t ≡ reconsider_down l.n l.initial.t

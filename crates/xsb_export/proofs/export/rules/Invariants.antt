@@ -1,15 +1,8 @@
 -- `rules`: at each turn the goals that are left, put down from where the pen is, are all that there is to say.
-use Prim.Native.Nat.{◌-◌}
-use mathlib.Core.Path.{◌≡◌}
-use lib.ListN.{length}
-use Rattle.pen.specs.Pen.{pen, put_all}
+use Rattle.std.proofs.Common.{◌≡◌}
+use Rattle.pen.specs.Pen.{put_all}
 use Rattle.xsb_export.proofs.Exporting.{goals_left}
 use Rattle.xsb_export.proofs.export.rules.Given as goal
 
 abbrev pub invariant-loop-g : goal.invariant-loop-g
-invariant-loop-g l =
-    (length l.out ≡ length l.initial.out) × (put_all (goals_left l.b l.g) (pen l.out l.used)
-    ≡ put_all (goals_left l.b 0) (pen l.initial.out l.initial.used))
-
-abbrev pub decreases-loop-g : goal.decreases-loop-g
-decreases-loop-g l = l.b.goals - l.g
+invariant-loop-g l = put_all (goals_left l.fn.b l.g) l.pen ≡ put_all (goals_left l.fn.b 0) l.fn.pen

@@ -1,14 +1,8 @@
--- `table_lines`: at each turn the lines of the goals before are put down.
-use Prim.Native.Nat.{◌-◌, ◌≤◌}
-use mathlib.Core.Path.{◌≡◌}
-use lib.ListN.{length}
+-- `table_lines`: the lines of the goals so far are put down.
+use Rattle.std.proofs.Common.{◌≡◌}
 use Rattle.papers.specs.Xsb.{table_lines}
-use Rattle.pen.specs.Pen.{pen, put_all}
+use Rattle.pen.specs.Pen.{put_all}
 use Rattle.xsb_export.proofs.export.table_lines.Given as goal
 
-abbrev pub invariant-loop-g : goal.invariant-loop-g
-invariant-loop-g l =
-    (l.g ≤ l.goals) × (length l.out ≡ length l.initial.out) × (pen l.out l.used ≡ put_all (table_lines l.g) (pen l.initial.out l.at))
-
-abbrev pub decreases-loop-g : goal.decreases-loop-g
-decreases-loop-g l = l.goals - l.g
+abbrev pub invariant-loop-goal : goal.invariant-loop-goal
+invariant-loop-goal l = l.pen ≡ put_all (table_lines l.goal) l.fn.pen

@@ -1,9 +1,12 @@
 use Rattle.xsb_import.proofs.Feeding.{fed_next}
+use borrow.Author.Rules.{rules}
 use native.Mathlib.Omega.{arith}
 use Rattle.xsb_import.proofs.import.feed.Goals as goal
 
-pub loop-i-preserved : goal.loop-i-preserved
-loop-i-preserved c =
-    let l = c.loop-i in
-    let step = c.step-spot.ensures in
-    (omega arith, omega arith, fed_next _ _ _ _ _ _ _ _ _ _ l.i (omega arith) step c.keep-kept.ensures l.invariant.2)
+pub loop-b-preserved : goal.loop-b-preserved
+loop-b-preserved c =
+    let l = c.loop-b in (
+      omega arith,
+      fed_next _ _ _ _ _ _ _ _ _ _ _ l.b-index _ (omega arith) c.step-spot.ensures (search rules) c.ended.ensures
+          c.keep-kept.ensures l.invariant.1,
+    )

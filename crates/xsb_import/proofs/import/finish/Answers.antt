@@ -1,11 +1,12 @@
--- `finish`: another form, then the limits, then what the desk says.
-use borrow.Author.Rules.{rules}
-use Rattle.xsb_import.proofs.Finishing.{refused_sized, finish_broken, finish_inside, finish_over, finish_tables}
+-- `finish`: what the desk says of a book within the limits.
+use mathlib.Core.Path.{sym, ◌∙◌}
 use Rattle.xsb_import.proofs.Taking.{finish_book}
 use Rattle.xsb_import.proofs.import.finish.Goals as goal
 
-pub returns-then-spot-ne0 : goal.returns-then-spot-ne0
-returns-then-spot-ne0 c = search (rules, refused_sized, finish_inside)
-
 pub returns : goal.returns
-returns c = search (rules, finish_broken, finish_inside, finish_over, finish_tables, finish_book)
+returns c =
+    let spot = sym c.at_line.ensures ∙ c.in_ok-spot.ensures.ok_part in (
+      c.at_desk.ensures.0,
+      λ text h. finish_book text _ _ _ _ _ _ _ _ _ spot c.in_ok-kept.ensures.ok_part c.if-spot.false c.own-bytes.ensures
+          c.goal_commands-named.ensures c.end_command-used.ensures c.at_desk.ensures h,
+    )

@@ -5,10 +5,7 @@ use lib.ListN.{length}
 use Rattle.xsb_import.specs.Keeping.{goal_bytes, Writes}
 use Rattle.xsb_import.proofs.keeping.goal_commands.Given as goal
 
-abbrev pub invariant-loop-g : goal.invariant-loop-g
-invariant-loop-g l =
-    (l.from ≤ l.g) × (l.g - l.from ≤ l.to - l.from) × (length l.out ≡ length l.initial.out)
-    × Writes l.initial.out l.used (goal_bytes (l.g - l.from)) l.out l.at
-
-abbrev pub decreases-loop-g : goal.decreases-loop-g
-decreases-loop-g l = l.to - l.g
+abbrev pub invariant-loop-goal : goal.invariant-loop-goal
+invariant-loop-goal l =
+    (l._goal - l.from ≤ l.to - l.from) × (length l.out ≡ length l.initial.out)
+    × Writes l.initial.out l.used (goal_bytes (l._goal - l.from)) l.out l.at

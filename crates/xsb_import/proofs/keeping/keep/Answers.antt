@@ -1,8 +1,6 @@
--- `keep`: by what the last byte ended.
-use borrow.Author.Rules.{rules}
-use Rattle.xsb_import.proofs.Holding.{keeps_none, keeps_over}
-use Rattle.xsb_import.proofs.Growing.{one_told}
+-- `keep`: what the last byte ended.
+use Rattle.xsb_import.proofs.Growing.{some_kept}
 use Rattle.xsb_import.proofs.keeping.keep.Goals as goal
 
-pub returns-then-s-eq1 : goal.returns-then-s-eq1
-returns-then-s-eq1 c = search (rules, keeps_none, keeps_over, one_told)
+pub returns-in-Some : goal.returns-in-Some
+returns-in-Some c = some_kept _ _ _ _ _ _ _ c.in-Some.is c.in_ok-k.was c.more.ensures

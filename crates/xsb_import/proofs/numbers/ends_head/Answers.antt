@@ -1,9 +1,10 @@
--- `ends_head`: heads without a table line, below the last one, and the two bytes that may stand behind a head.
-use Rattle.xsb_import.proofs.Ending.{head_past, head_below, head_fact, head_rule, head_other}
+-- `ends_head`: the two bytes that may stand behind a head.
+use borrow.Author.Rules.{rules}
+use Rattle.xsb_import.proofs.Ending.{head_fact, head_rule}
 use Rattle.xsb_import.proofs.numbers.ends_head.Goals as goal
 
-pub returns-then-b-eq46 : goal.returns-then-b-eq46
-returns-then-b-eq46 c = search (head_past, head_below, head_fact, head_rule, head_other)
+pub returns-in-46 : goal.returns-in-46
+returns-in-46 c = search (rules, head_fact)
 
-pub returns-then-b-eq32 : goal.returns-then-b-eq32
-returns-then-b-eq32 c = search (head_past, head_below, head_fact, head_rule, head_other)
+pub returns-in-32 : goal.returns-in-32
+returns-in-32 c = search (rules, head_rule)

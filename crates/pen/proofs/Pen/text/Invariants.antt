@@ -1,0 +1,7 @@
+-- `text`: at each turn the bytes so far are put down.
+use Rattle.std.proofs.Common.{◌≡◌, take}
+use Rattle.pen.specs.Pen.{put_all}
+use Rattle.pen.proofs.Pen.text.Given as goal
+
+abbrev pub invariant-loop-b : goal.invariant-loop-b
+invariant-loop-b l = l.self ≡ put_all (take l.b-index l.bytes) l.fn.self

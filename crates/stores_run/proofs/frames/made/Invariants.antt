@@ -1,9 +1,0 @@
--- `made` is safe and ends: its loop counts up to a number.
-use Prim.Native.Nat.{◌≤◌, ◌-◌}
-use Rattle.stores_run.proofs.frames.made.Given as goal
-
-abbrev pub invariant-loop-i : goal.invariant-loop-i
-invariant-loop-i l = l.i ≤ 65
-
-abbrev pub decreases-loop-i : goal.decreases-loop-i
-decreases-loop-i l = 65 - l.i

@@ -1,9 +1,0 @@
--- `beside` is safe and ends: its loop counts up to a number.
-use Prim.Native.Nat.{◌≤◌, ◌-◌}
-use Rattle.stores_run.proofs.queues.beside.Given as goal
-
-abbrev pub invariant-loop-i : goal.invariant-loop-i
-invariant-loop-i l = l.i ≤ 4
-
-abbrev pub decreases-loop-i : goal.decreases-loop-i
-decreases-loop-i l = 4 - l.i

@@ -1,9 +1,0 @@
--- `filled` is safe and ends: its loop counts up to a number.
-use Prim.Native.Nat.{◌≤◌, ◌-◌}
-use Rattle.stores_run.proofs.taking.filled.Given as goal
-
-abbrev pub invariant-loop-i : goal.invariant-loop-i
-invariant-loop-i l = l.i ≤ l.count
-
-abbrev pub decreases-loop-i : goal.decreases-loop-i
-decreases-loop-i l = l.count - l.i
