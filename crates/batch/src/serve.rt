@@ -4,7 +4,7 @@ ghost use Rattle.definitions.specs.Book.{bit1};
 ghost use Rattle.book.specs.Access.{entry};
 ghost use Rattle.stores.specs.declared.stack.Stack.{Stack};
 ghost use Rattle.control.specs.SelectSubgoal.{strands_by};
-ghost use Rattle.search.specs.Walk.{standing};
+ghost use Rattle.search.specs.Walk.{standing, counts};
 ghost use Rattle.batch.specs.declared.calls.Said.TheVariants as saying;
 ghost use Rattle.batch.specs.Calls.{reply_of, reply_put};
 ghost use Rattle.batch.specs.Serve.{stage, over_with, came_to, said_at_once, opens, begins, searches, peeks, from_index, asks_future, next_call, served};
@@ -79,8 +79,9 @@ fn full(s: Serving) -> Serving
 
 // An open, refused with 20 and 9 in this order; it stops with 22 where the table's strands have no room.
 pub fn serve_open(s: Serving, book: &Book, stores: &mut Stores, goal_asked: u64) -> Serving
-    ensures { (stack : Stack) (clock : ℕ) (replies : List ℕ) → stage result (standing stores.new stack clock) replies
+    ensures serves { (stack : Stack) (clock : ℕ) (replies : List ℕ) → stage result (standing stores.new stack clock) replies
         ≡ opens book.now goal_asked (stage s (standing stores.old stack clock) replies) }
+    ensures counts_stay { (stack : Stack) → counts stores.new stack ≡ counts stores.old stack }
 {
     let c = s.course;
     if c.mark > 0 {
@@ -152,8 +153,9 @@ fn begin(
     stores: &Stores,
     stack: &mut Stack,
 ) -> Serving
-    ensures { (clock : ℕ) (replies : List ℕ) → stage result (standing stores.now stack.new clock) replies
+    ensures serves { (clock : ℕ) (replies : List ℕ) → stage result (standing stores.now stack.new clock) replies
         ≡ begins said asked index more (stage s (standing stores.now stack.old clock) replies) }
+    ensures counts_stay { counts stores.now stack.new ≡ counts stores.now stack.old }
 {
     let first = Course {
         over: false,
@@ -195,8 +197,9 @@ fn serve_search(
     stores: &Stores,
     stack: &mut Stack,
 ) -> Serving
-    ensures { (clock : ℕ) (replies : List ℕ) → stage result (standing stores.now stack.new clock) replies
+    ensures serves { (clock : ℕ) (replies : List ℕ) → stage result (standing stores.now stack.new clock) replies
         ≡ searches clock_limit call.a call.b call.c (stage s (standing stores.now stack.old clock) replies) }
+    ensures counts_stay { counts stores.now stack.new ≡ counts stores.now stack.old }
 {
     let n = refusal(s.course, stores, call.a, call.b);
     if n > 0 {
@@ -222,8 +225,9 @@ fn serve_peek(
     stores: &Stores,
     stack: &mut Stack,
 ) -> Serving
-    ensures { (clock : ℕ) (replies : List ℕ) → stage result (standing stores.now stack.new clock) replies
+    ensures serves { (clock : ℕ) (replies : List ℕ) → stage result (standing stores.now stack.new clock) replies
         ≡ peeks clock_limit call.a call.b call.c call.d (stage s (standing stores.now stack.old clock) replies) }
+    ensures counts_stay { counts stores.now stack.new ≡ counts stores.now stack.old }
 {
     let n = refusal(s.course, stores, call.a, call.b);
     if n > 0 {
@@ -323,8 +327,9 @@ pub fn serve(
     calls: &[u64; NUMBERS],
     replies: &mut [u64; NUMBERS],
 ) -> Serving
-    ensures { stage result (standing stores.new stack.new result.course.clock) replies.new
+    ensures serves { stage result (standing stores.new stack.new result.course.clock) replies.new
         ≡ served book.now clock_limit calls.now (stage s (standing stores.old stack.old s.course.clock) replies.old) }
+    ensures counts_stay { counts stores.new stack.new ≡ counts stores.old stack.old }
 {
     if s.busy {
         return tell(s, replies);

@@ -1,7 +1,7 @@
 // The loop over the calls: each pass is one turn of the search at hand, or serves a call.
 ghost use Rattle.std.specs.Prelude.{◌≡◌, ◌≤◌};
 ghost use Rattle.definitions.specs.{MAX};
-ghost use Rattle.search.specs.Walk.{standing};
+ghost use Rattle.search.specs.Walk.{standing, counts};
 ghost use Rattle.batch.specs.Serve.{stage};
 ghost use Rattle.batch.specs.ServeAll.{runs, with_course, Serves};
 
@@ -39,9 +39,10 @@ pub fn serve_all(
     calls: &[u64; NUMBERS],
     replies: &mut [u64; NUMBERS],
 ) -> Serving
-    ensures { Serves book.now clock_limit calls.now count
+    ensures serves { Serves book.now clock_limit calls.now count
         (stage from (standing stores.old stack.old from.course.clock) replies.old)
         (stage result (standing stores.new stack.new result.course.clock) replies.new) }
+    ensures counts_stay { counts stores.new stack.new ≡ counts stores.old stack.old }
 {
     let mut s = from;
     while s.at < count {

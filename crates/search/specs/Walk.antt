@@ -60,6 +60,21 @@ standing s k clock = lent_of s.tables s.strands s.answers k clock
 abbrev pub walking : Course → Stores → Stack → Walk
 walking c s k = walk c (standing s k c.clock)
 
+-- THE COUNTS that the stores and the stack have themselves: a course has its own in their place, and leaves these as they are
+pub record Counts : Type 0 where
+  pub tables : ℕ
+  pub strands : ℕ
+  pub answers : ℕ
+  pub entries : ℕ
+
+abbrev pub counts : Stores → Stack → Counts
+counts s k = record {
+  tables = s.tables.count;
+  strands = s.strands.places.top;
+  answers = s.answers.places.top;
+  entries = k.depth;
+}
+
 -- the numbers that a turn leaves
 abbrev pub numbers_of : Lent → Carried
 numbers_of w = record {

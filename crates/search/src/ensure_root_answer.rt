@@ -2,7 +2,7 @@
 // an answer, each by the place that was named.
 ghost use Rattle.std.specs.Prelude.{◌≡◌, get_or};
 ghost use Rattle.stores.specs.View.{unread_strand, unread_answer};
-ghost use Rattle.search.specs.Walk.{numbered, standing, walking, goes_on, conclude, pass_with, Comes};
+ghost use Rattle.search.specs.Walk.{numbered, standing, walking, counts, goes_on, conclude, pass_with, Comes};
 ghost use Rattle.search.specs.EnsureRootAnswer.{place_read, looked, picked};
 
 use crate::course::{Asked, Course, carried, carry, is_turn};
@@ -150,7 +150,8 @@ fn goes_on(asked: Asked, c: Course) -> bool
 // After a turn: the search goes on, or ends and is put back, and the next search of a peek starts. The root's entry is written wherever a
 // search has ended, whether another one starts or not.
 pub fn conclude(asked: Asked, c: Course, stores: &mut Stores, stack: &mut Stack) -> Course
-    ensures { walking result stores.new stack.new ≡ conclude asked c (numbered c (standing stores.old stack.old c.clock)) }
+    ensures concludes { walking result stores.new stack.new ≡ conclude asked c (numbered c (standing stores.old stack.old c.clock)) }
+    ensures counts_stay { counts stores.new stack.new ≡ counts stores.old stack.old }
 {
     if goes_on(asked, c) {
         return Course {
@@ -195,9 +196,10 @@ pub fn pass(
     stores: &mut Stores,
     stack: &mut Stack,
 ) -> Course
-    ensures { walking result stores.new stack.new
+    ensures passes { walking result stores.new stack.new
         ≡ pass_with book.now asked c l k (get_or stores.old.answers.answers k.chosen.place unread_answer)
         (numbered c (standing stores.old stack.old c.clock)) }
+    ensures counts_stay { counts stores.new stack.new ≡ counts stores.old stack.old }
 {
     let chosen = k.chosen;
     let a = stores.answers.answers[chosen.place as usize];
@@ -273,7 +275,8 @@ pub fn ensure_root_answer(
     stores: &mut Stores,
     stack: &mut Stack,
 ) -> Course
-    ensures { Comes book.now asked (walking from stores.old stack.old) (walking result stores.new stack.new) }
+    ensures comes { Comes book.now asked (walking from stores.old stack.old) (walking result stores.new stack.new) }
+    ensures counts_stay { counts stores.new stack.new ≡ counts stores.old stack.old }
 {
     let mut course = from;
     while !course.over {

@@ -1,7 +1,7 @@
 // Turns that numbers settle (crate `number_turns`), one after the other, until one needs a strand or only one is left of those that were
 // asked for: no search ends here. Whether the course is over is not asked: whoever calls has asked it.
 ghost use Rattle.std.specs.Prelude.{◌≡◌};
-ghost use Rattle.search.specs.Walk.{walking, may_settle, settled_flow, settled_done, settles_on, Settles};
+ghost use Rattle.search.specs.Walk.{walking, counts, may_settle, settled_flow, settled_done, settles_on, Settles};
 
 use crate::course::{Asked, Course, is_turn};
 use crate::root_answer::one_more;
@@ -36,7 +36,8 @@ fn settles_on(settled: bool, asked: Asked, done: u64) -> bool
 }
 
 pub fn settle(asked: Asked, from: Course, stores: &mut Stores, stack: &mut Stack) -> Course
-    ensures { Settles asked (walking from stores.old stack.old) (walking result stores.new stack.new) }
+    ensures settles { Settles asked (walking from stores.old stack.old) (walking result stores.new stack.new) }
+    ensures counts_stay { counts stores.new stack.new ≡ counts stores.old stack.old }
 {
     let mut c = from;
     let mut more = may_settle(asked, c.done);

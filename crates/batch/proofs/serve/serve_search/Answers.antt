@@ -4,10 +4,10 @@ use Rattle.search.specs.Walk.{standing}
 use Rattle.batch.proofs.ServeCases.{searches_begun}
 use Rattle.batch.proofs.serve.serve_search.Goals as goal
 
-pub returns : goal.returns
-returns c =
+pub returns-clause-serves : goal.returns-clause-serves
+returns-clause-serves c =
     let a = c.args in
-    λ clock replies. c.begin.ensures clock replies
+    λ clock replies. c.begin.ensures.serves clock replies
     ∙ searches_begun a.s (standing a.stores.now a.stack.now clock) replies a.clock_limit
     a.call.a a.call.b c.refusal-n.result c.refusal-n.ensures a.call.c
     c.if-n-gt0.false c.if-call-eq0.false

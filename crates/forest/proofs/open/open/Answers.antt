@@ -20,4 +20,4 @@ returns c =
     }) s.course in
     rw c.carry.ensures
     (open_served f c.args.goal_asked c.first_serving.result c.first_serving.ensures s left
-    c.opening_of-opening.result c.opening_of-opening.ensures (c.serve_open-s.ensures blank_stack f.clock []) refl)
+    c.opening_of-opening.result c.opening_of-opening.ensures (c.serve_open-s.ensures.serves blank_stack f.clock []) refl)

@@ -19,5 +19,5 @@ returns c =
     } in
     rw c.carry.ensures
     (runs_loop a.f a.asked a.c c.blank_stack-stack.result c.blank_stack-stack.ensures k p.1 p.2 p.3 p.4 p.5
-    c.ensure_root_answer-course.result _ c.ensure_root_answer-course.new.stack c.ensure_root_answer-course.ensures
+    c.ensure_root_answer-course.result _ c.ensure_root_answer-course.new.stack c.ensure_root_answer-course.ensures.comes
     (record { book = refl; limit = refl; mark = refl; count = refl; clock = refl; used = refl; answer_used = refl }))

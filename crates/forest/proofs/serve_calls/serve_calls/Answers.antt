@@ -19,4 +19,4 @@ returns c =
     λ o. rw c.carry.ensures
     (calls_served a.f a.count c.at_most.result c.at_most.ensures a.calls.now a.replies.now
     c.all_fit.ensures c.first_serving.result c.first_serving.ensures c.blank_stack-stack.result c.blank_stack-stack.ensures
-    s left c.serve_all-s.new.replies c.serve_all-s.new.stack c.serve_all-s.ensures refl o)
+    s left c.serve_all-s.new.replies c.serve_all-s.new.stack c.serve_all-s.ensures.serves refl o)

@@ -1,4 +1,4 @@
-use mathlib.Core.Path.{◌≡◌, sym, ◌∙◌}
+use mathlib.Core.Path.{◌≡◌, refl, sym, ◌∙◌}
 use Rattle.stores.specs.declared.Stores.{Stores}
 use Rattle.stores.specs.declared.stack.Stack.{Stack}
 use Rattle.search.proofs.Settling.{rest_none, rest_going, rest_settles, turn_settles, still_may, fewer}
@@ -9,6 +9,7 @@ pub loop-more-init : goal.loop-more-init
 loop-more-init c = (
   λ e. sym c.may_settle-more.ensures ∙ e,
   λ u h. rest_settles c.args.asked _ c.may_settle-more.result c.may_settle-more.ensures u h,
+  refl,
 )
 
 pub loop-more-preserved : goal.loop-more-preserved
@@ -48,4 +49,5 @@ loop-more-preserved c =
           (c.number_turn-t.ensures l.c.count s.tables.goal s.strands.strands s.strands.variant l.c.used s.answers.answers s.answers.variant
           s.answers.key s.answers.ambiguous l.c.answer_used)
           c.done_after-done.ensures c.flow_after-flow.ensures c.settles_on-more.result c.settles_on-more.ensures u h)),
+      l.invariant.2,
     )
