@@ -12,6 +12,7 @@ use lib.Seq.{get_or-take}
 use lib.Dec.{eqb, ltb}
 use borrow.Author.Tests.{lt-ltb, le-ltb, ltb-true, ne_eqb}
 use Rattle.std.specs.Prelude as code
+use Rattle.std.specs.Option.{unwrap_or}
 use Rattle.laws.proofs.Maps.{get_elem_map, get_elem_map_past}
 use Rattle.definitions.specs.Book as books
 use Rattle.definitions.specs.Strand.{SelectedSubgoal}
@@ -28,7 +29,7 @@ use Rattle.stores.specs.declared.queue.Spot.{Spot}
 use Rattle.stores.specs.declared.queue.Strands.{Strands}
 use Rattle.stores.specs.Places.{places, ring, unlinked_at, taken_if, taken, taken_place, has_one, first_of, TookPlace}
 use Rattle.stores.specs.Numbers.{waits_fresh, flag_number}
-use Rattle.stores.specs.Queue.{is_not, waits_on, waits_for, waits_of, spot_if, spot_from, is_found, place_found, before_found, TookStrand}
+use Rattle.stores.specs.Queue.{is_not, waits_on, waits_for, waits_of, spot_if, spot_from, is_found, TookStrand}
 use Rattle.stores.specs.Queue.{with_places, made_fresh, fresh_if, fresh_stored, fresh_each, store, Does}
 use Rattle.stores.proofs.ListsSpans.{ltb_suc}
 use Rattle.stores.proofs.PlacesViews.{length_ring}
@@ -64,7 +65,7 @@ waits_written x = for_no_mark (clause x).subgoals (selected x.selected)
 -- THE LOOP
 module _ (test : ℕ → Bool) (next : List ℕ) (n a : ℕ) (h : 0 < n) where
   pub spot_here : test (get_or next a 0) ≡ true
-      → spot_from test a (walk n next a) ≡ code.Some (record { before = a; place = get_or next a 0 })
+      → spot_from test a (walk n next a) ≡ record { before = a; place = code.Some (get_or next a 0) }
   spot_here e =
       ap (spot_from test a) (walk_step n next a h)
       ∙ ap (λ (b : Bool). spot_if b a (get_or next a 0) (spot_from test (get_or next a 0) (walk (n - 1) next (get_or next a 0)))) e
@@ -75,15 +76,16 @@ module _ (test : ℕ → Bool) (next : List ℕ) (n a : ℕ) (h : 0 < n) where
       ap (spot_from test a) (walk_step n next a h)
       ∙ ap (λ (b : Bool). spot_if b a (get_or next a 0) (spot_from test (get_or next a 0) (walk (n - 1) next (get_or next a 0)))) e
 
-pub spot_over : (test : ℕ → Bool) (next : List ℕ) (n a : ℕ) → n ≤ 0 → spot_from test a (walk n next a) ≡ code.None
+pub spot_over : (test : ℕ → Bool) (next : List ℕ) (n a : ℕ) → n ≤ 0
+    → spot_from test a (walk n next a) ≡ record { before = a; place = code.None }
 spot_over test next n a h = let e : n ≡ 0 = omega arith in ap (λ (m : ℕ). spot_from test a (walk m next a)) e
 
 -- what is found, by where the first that passes the test stands
-abbrev pub spot_by : (there : Bool) → (before place : ℕ) → code.Option Spot
-spot_by true before place = code.Some (record { before = before; place = place })
-spot_by false before place = code.None
+abbrev pub spot_by : (there : Bool) → (before place : ℕ) → Spot
+spot_by true before place = record { before = before; place = code.Some place }
+spot_by false before place = record { before = before; place = code.None }
 
-abbrev pub spot_at : (a j : ℕ) → List ℕ → code.Option Spot
+abbrev pub spot_at : (a j : ℕ) → List ℕ → Spot
 spot_at a j l = spot_by (ltb j (length l)) (end a (take j l)) (get_or l j 0)
 
 pub spot_is : (test : ℕ → Bool) (a : ℕ) (l : List ℕ) → spot_from test a l ≡ spot_at a (first_index test l) l
@@ -101,18 +103,18 @@ pub found_by : (b : Bool) (before place : ℕ) → is_found (spot_by b before pl
 found_by true before place = refl
 found_by false before place = refl
 
-none_by : (b : Bool) (before place : ℕ) → spot_by b before place ≡ code.None → b ≡ false
+none_by : (b : Bool) (before place : ℕ) → (spot_by b before place).place ≡ code.None → b ≡ false
 none_by true before place e = cc
 none_by false before place e = refl
 
-some_by : (b : Bool) (before place : ℕ) (s : Spot) → spot_by b before place ≡ code.Some s
-    → (b ≡ true) × (s.before ≡ before) × (s.place ≡ place)
-some_by true before place s e = (refl, sym (ap before_found e), sym (ap place_found e))
-some_by false before place s e = cc
+some_by : (b : Bool) (before place q : ℕ) → (spot_by b before place).place ≡ code.Some q
+    → (b ≡ true) × ((spot_by b before place).before ≡ before) × (q ≡ place)
+some_by true before place q e = (refl, refl, sym (ap (λ (o : code.Option ℕ). unwrap_or o 0) e))
+some_by false before place q e = cc
 
 -- LOOKING AND THEN UNLINKING IS TAKING
 module _ (test : ℕ → Bool) (t : ℕ) (p : Places) where
-  abbrev found : code.Option Spot
+  abbrev found : Spot
   found = spot_from test (get_or p.tail t 0) (ring p t)
 
   abbrev j : ℕ
@@ -124,23 +126,27 @@ module _ (test : ℕ → Bool) (t : ℕ) (p : Places) where
   looked : found ≡ spot_at (get_or p.tail t 0) j (ring p t)
   looked = spot_is test (get_or p.tail t 0) (ring p t)
 
-  pub looked_none : found ≡ code.None → (256 ≡ taken_place test t p) × (p ≡ taken test t p)
+  pub looked_none : found.place ≡ code.None → (256 ≡ taken_place test t p) × (p ≡ taken test t p)
   looked_none e =
-      let n : has_one test t p ≡ false = none_by (has_one test t p) behind (get_or (ring p t) j 0) (sym looked ∙ e) in
+      let n : has_one test t p ≡ false =
+      none_by (has_one test t p) behind (get_or (ring p t) j 0) (sym (ap (λ (s : Spot). s.place) looked) ∙ e) in
       (ap (λ (b : Bool). place_if b (get_or (ring p t) j 0)) (sym n), ap (λ (b : Bool). taken_if b t j p) (sym n))
 
-  module _ (s : Spot) (e : found ≡ code.Some s) where
-    here : (has_one test t p ≡ true) × (s.before ≡ behind) × (s.place ≡ get_or (ring p t) j 0)
-    here = some_by (has_one test t p) behind (get_or (ring p t) j 0) s (sym looked ∙ e)
+  module _ (q : ℕ) (e : found.place ≡ code.Some q) where
+    here : (has_one test t p ≡ true) × (found.before ≡ behind) × (q ≡ get_or (ring p t) j 0)
+    here =
+        let found_there = some_by (has_one test t p) behind (get_or (ring p t) j 0) q
+        (sym (ap (λ (s : Spot). s.place) looked) ∙ e) in
+        (found_there.0, ap (λ (s : Spot). s.before) looked ∙ found_there.1, found_there.2)
 
-    pub looked_unlinked : (s.place ≡ taken_place test t p) × (unlinked_at t s.before p ≡ taken test t p)
+    pub looked_unlinked : (q ≡ taken_place test t p) × (unlinked_at t found.before p ≡ taken test t p)
     looked_unlinked = (
       here.2 ∙ ap (λ (b : Bool). place_if b (get_or (ring p t) j 0)) (sym here.0),
       ap (λ (b : ℕ). unlinked_at t b p) here.1 ∙ ap (λ (b : Bool). taken_if b t j p) (sym here.0),
     )
 
     -- what is found is behind the place before it
-    pub looked_behind : get_or p.next s.before 0 ≡ s.place
+    pub looked_behind : get_or p.next found.before 0 ≡ q
     looked_behind =
         let h : j < length (ring p t) = ltb-true j (length (ring p t)) here.0 in
         ap (λ (b : ℕ). get_or p.next b 0) here.1
@@ -148,22 +154,25 @@ module _ (test : ℕ → Bool) (t : ℕ) (p : Places) where
         ∙ sym here.2
 
 -- `take_strand` at the answers of looking
-module _ (test : ℕ → Bool) (t : ℕ) (next tail len : List ℕ) where
-  pub strand_none : code.None ≡ spot_from test (get_or tail t 0) (ring_of next tail len t)
-      → TookStrand test t next tail len next tail len 256
+module _ (test : ℕ → Bool) (t : ℕ) (next tail len : List ℕ) (s : Spot)
+    (is : s ≡ spot_from test (get_or tail t 0) (ring_of next tail len t)) where
+  looked_at : (o : code.Option ℕ) → s.place ≡ o → (spot_from test (get_or tail t 0) (ring_of next tail len t)).place ≡ o
+  looked_at o e = ap (λ (x : Spot). x.place) (sym is) ∙ e
+
+  pub strand_none : s.place ≡ code.None → TookStrand test t next tail len next tail len 256
   strand_none e =
       let none : (top : ℕ) → (256 ≡ taken_place test t (places next tail len top))
       × (places next tail len top ≡ taken test t (places next tail len top)) =
-      λ top. looked_none test t (places next tail len top) (sym e) in
+      λ top. looked_none test t (places next tail len top) (looked_at code.None e) in
       record { is = (none 0).0; left = λ top. (none top).1 }
 
-  pub strand_taken : (s : Spot) → code.Some s ≡ spot_from test (get_or tail t 0) (ring_of next tail len t)
-      → (next' tail' len' : List ℕ) → next' ≡ unlinked next s.before
-      → tail' ≡ set tail t s.before → len' ≡ shortened len t → TookStrand test t next tail len next' tail' len' s.place
-  strand_taken s e next' tail' len' en et el = record {
-    is = (looked_unlinked test t (places next tail len 0) s (sym e)).0;
+  pub strand_taken : (q : ℕ) → s.place ≡ code.Some q → (next' tail' len' : List ℕ) → next' ≡ unlinked next s.before
+      → tail' ≡ set tail t s.before → len' ≡ shortened len t → TookStrand test t next tail len next' tail' len' q
+  strand_taken q e next' tail' len' en et el = record {
+    is = (looked_unlinked test t (places next tail len 0) q (looked_at (code.Some q) e)).0;
     left = λ top. places_is next' (unlinked next s.before) tail' (set tail t s.before) len' (shortened len t) top top en et el refl
-        ∙ (looked_unlinked test t (places next tail len top) s (sym e)).1;
+        ∙ ap (λ (x : Spot). unlinked_at t x.before (places next tail len top)) is
+        ∙ (looked_unlinked test t (places next tail len top) q (looked_at (code.Some q) e)).1;
   }
 
 -- A FRESH PLACE, by what `take_place` found

@@ -23,6 +23,7 @@ use Rattle.std.specs.Prelude.{
   ltb,
 }
 use Rattle.std.specs.Prelude as code
+use Rattle.std.specs.Option.{is_some, unwrap_or}
 use Rattle.std.proofs.Math.Option.{Option, none, some}
 use Rattle.std.proofs.Math.ListN.{get_elem?}
 use Rattle.definitions.specs.Book as books
@@ -120,27 +121,25 @@ eligible_at time ambiguous clock complete = ltb time clock && not (complete && n
 abbrev pub eligible : (time ambiguous : List ℕ) → (clock : ℕ) → (complete : Bool) → ℕ → Bool
 eligible time ambiguous clock complete p = eligible_at (get_or time p 0) (get_or ambiguous p 0) clock complete
 
--- `find_strand`: the first of a list of places that passes the test, and the place before it, where a is before the list
-abbrev pub spot_if : Bool → (a x : ℕ) → code.Option Spot → code.Option Spot
-spot_if true a x s = code.Some (record { before = a; place = x })
+-- `find_strand`: the first of a list of places that passes the test, and the place before it, where a is before the list; where none
+-- passes, `before` is the last of the list, or a where it is empty
+abbrev pub spot_if : Bool → (a x : ℕ) → Spot → Spot
+spot_if true a x s = record { before = a; place = code.Some x }
 spot_if false a x s = s
 
-abbrev pub spot_from : (ℕ → Bool) → ℕ → List ℕ → code.Option Spot
-spot_from test a [] = code.None
+abbrev pub spot_from : (ℕ → Bool) → ℕ → List ℕ → Spot
+spot_from test a [] = record { before = a; place = code.None }
 spot_from test a (x ∷ l) = spot_if (test x) a x (spot_from test x l)
 
--- whether a place was found, and its numbers; 0 where none was
-abbrev pub is_found : code.Option Spot → Bool
-is_found code.None = false
-is_found (code.Some s) = true
+-- whether a place was found, which, 0 where none was, and the place before it or the last one looked at
+abbrev pub is_found : Spot → Bool
+is_found s = is_some s.place
 
-abbrev pub place_found : code.Option Spot → ℕ
-place_found code.None = 0
-place_found (code.Some s) = s.place
+abbrev pub place_found : Spot → ℕ
+place_found s = unwrap_or s.place 0
 
-abbrev pub before_found : code.Option Spot → ℕ
-before_found code.None = 0
-before_found (code.Some s) = s.before
+abbrev pub before_found : Spot → ℕ
+before_found s = s.before
 
 -- `take_strand`: what it gives, and what it leaves, wherever the places that were never used begin
 pub record TookStrand (test : ℕ → Bool) (t : ℕ) (next tail len next' tail' len' : List ℕ) (r : ℕ) : Type 0 where

@@ -220,11 +220,12 @@ pub fn fresh_places(
     }
 }
 
-// What looking along a queue finds: the place of a strand that is eligible, and the place before it in the ring.
+// Where looking along a queue came to: the place of a strand that is eligible, and the place before it in the ring. Where none is
+// eligible, `before` is the last place looked at, or the table's `tail` where its queue is empty.
 #[derive(Clone, Copy)]
 pub struct Spot {
     pub before: u8,
-    pub place: u8,
+    pub place: Option<u8>,
 }
 
 fn may_take(time: u64, ambiguous: u8, clock: u64, complete: bool) -> bool
@@ -245,7 +246,7 @@ pub fn find_strand(
     ambiguous: &[u8; PLACES],
     clock: u64,
     complete: bool,
-) -> Option<Spot>
+) -> Spot
     ensures { result ≡ spot_from (eligible time.now ambiguous.now clock complete)
         (get_or tail.now t 0) (ring_of next.now tail.now len.now t) }
 {
@@ -254,14 +255,17 @@ pub fn find_strand(
         let p = next[wide(prev)];
         let k = wide(p);
         if may_take(time[k], ambiguous[k], clock, complete) {
-            return Some(Spot {
+            return Spot {
                 before: prev,
-                place: p,
-            });
+                place: Some(p),
+            };
         }
         prev = p;
     }
-    None
+    Spot {
+        before: prev,
+        place: None,
+    }
 }
 
 // `dequeue_next_strand_that`: the place of the first eligible strand, which is in no queue from now on.
@@ -278,9 +282,14 @@ pub fn take_strand(
     ensures { TookStrand (eligible time.now ambiguous.now clock complete) t
         next.old tail.old len.old next.new tail.new len.new (place_number result) }
 {
-    let s = find_strand(next, tail, len, t, time, ambiguous, clock, complete)?;
-    ring_unlink(next, tail, len, t, s.before);
-    Some(s.place)
+    let s = find_strand(next, tail, len, t, time, ambiguous, clock, complete);
+    match s.place {
+        Some(place) => {
+            ring_unlink(next, tail, len, t, s.before);
+            Some(place)
+        }
+        None => None,
+    }
 }
 
 // The test of `any_future_answer` over the queue. No key is looked for, and the times stand in for keys.

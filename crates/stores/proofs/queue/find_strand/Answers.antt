@@ -17,7 +17,7 @@ returns-then-may_take c =
     let left : ℕ = get_or a.len.now a.t 0 - l._step in
     let e : f (get_or a.next.now l.prev 0) ≡ true =
     rw (← c.wide.ensures.0, ← c.wide-k.ensures.0) (sym c.may_take.ensures ∙ c.if-may_take.true) in
-    ap (λ (p : ℕ). code.Some (record { before = l.prev; place = get_or a.next.now p 0 })) c.wide.ensures.0
+    ap (λ (p : ℕ). record { before = l.prev; place = code.Some (get_or a.next.now p 0) }) c.wide.ensures.0
     ∙ sym (spot_here f a.next.now left l.prev (omega arith) e)
     ∙ l.invariant
 
