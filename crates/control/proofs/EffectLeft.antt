@@ -9,7 +9,6 @@ use lib.Dec.{ltb}
 use lib.ListN.{length, get_or, set, drop, take, length-map}
 use lib.Seq.{get_or-set_same}
 use borrow.Author.Tests.{ltb-true, ltb-false}
-use Rattle.std.specs.Prelude as code
 use Rattle.definitions.specs.{TimeStamp}
 use Rattle.definitions.specs.Lists.{rotate_left}
 use Rattle.definitions.specs.Strand as held
@@ -29,7 +28,7 @@ use Rattle.stores.specs.Stack.{top_written}
 use Rattle.stores.specs.View.{FirstStrands, strand_at}
 use Rattle.stores.proofs.ListsSpans.{rotate_front}
 use Rattle.stores.proofs.PlacesViews.{length_ring}
-use Rattle.stores.proofs.QueueCases.{spot_by, spot_at, spot_is}
+use Rattle.stores.proofs.QueueCases.{spot_by, spot_is}
 use Rattle.stores.proofs.QueueSound.{taken_there}
 use Rattle.stores.proofs.QueueViews.{tables_changed}
 use Rattle.stores.proofs.StackCases.{top_some}
@@ -139,11 +138,8 @@ module _ (root index first : ℕ) (z : Stores) (o : SoundStores root index first
   abbrev first_one : ℕ
   first_one = first_of (test_at clock complete z.strands) t z.strands.places
 
-  abbrev spot : code.Option Spot
+  abbrev spot : Spot
   spot = spot_from (test_at clock complete z.strands) tail queue
-
-  abbrev found_spot : code.Option Spot
-  found_spot = spot_at tail first_one queue
 
   sounds : Sounds [] z
   sounds = sounds_of root index first z o n d
@@ -156,9 +152,12 @@ module _ (root index first : ℕ) (z : Stores) (o : SoundStores root index first
       ∙ ap (λ (i : ℕ). get_or (set z.stack.active i 256) n 0) last
       ∙ get_or-set_same z.stack.active n 256 0 (omega (arith, o.stack.few, o.stack.long_active))
 
-  from_spot : (b : Bool) → ltb first_one (length queue) ≡ b → is_found (spot_by b (end tail (take first_one queue)) (get_or queue first_one 0)) ≡ true
-      → place ≡ 256
-      → Leaves z n (next_by false place (spot_by b (end tail (take first_one queue)) (get_or queue first_one 0))) t (split.was_queued first_one)
+  -- what is found, by whether a strand is eligible
+  abbrev found_by : (there : Bool) → Spot
+  found_by there = spot_by there (end tail (take first_one queue)) (get_or queue first_one 0)
+
+  from_spot : (b : Bool) → ltb first_one (length queue) ≡ b → is_found (found_by b) ≡ true → place ≡ 256
+      → Leaves z n (next_by false place (found_by b)) t (split.was_queued first_one)
   from_spot false q e idle = absurd (false≢true e)
   from_spot true q e idle =
       let there : first_one < length queue = ltb-true first_one (length queue) q in
@@ -182,7 +181,7 @@ module _ (root index first : ℕ) (z : Stores) (o : SoundStores root index first
       }
   leaves_by false e found =
       let all : place ≡ 256 = omega (arith, ltb-false place 256 e, o.stack.places n (omega arith)) in
-      subst (λ (x : code.Option Spot). is_found x ≡ true → Leaves z n (next_by false place x) t (split.was_queued first_one))
+      subst (λ (x : Spot). is_found x ≡ true → Leaves z n (next_by false place x) t (split.was_queued first_one))
       (sym (spot_is (test_at clock complete z.strands) tail queue)) (λ there. from_spot (ltb first_one (length queue)) refl there all) found
 
   -- by the numbers of any top

@@ -8,7 +8,6 @@ use mathlib.Core.Path.{◌≡◌, refl, sym, ap, subst, ◌∙◌}
 use lib.Dec.{eqb, ltb}
 use lib.ListN.{get_or}
 use borrow.Author.Tests.{ltb-true, ltb-false}
-use Rattle.std.specs.Prelude as code
 use Rattle.definitions.specs as said_numbers
 use Rattle.definitions.specs.{MAX}
 use Rattle.definitions.specs.Logic as logic
@@ -90,7 +89,7 @@ module _ (len waits positive negative active : List ℕ) (x : Top) where
   root_without false = root_left (eqb (get_or len x.table 0) 0) x.complete
 
 -- no strand was found: the top's entry has none
-none_active : (place : ℕ) (b : Bool) → ltb place 256 ≡ b → (s : code.Option Spot) → (next_by b place s).found ≡ false → 256 ≤ place
+none_active : (place : ℕ) (b : Bool) → ltb place 256 ≡ b → (s : Spot) → (next_by b place s).found ≡ false → 256 ≤ place
 none_active place true e s is = absurd (true≢false is)
 none_active place false e s is = ltb-false place 256 e
 

@@ -9,7 +9,6 @@ use mathlib.Core.Path.{◌≡◌, refl, sym, ap, subst, ◌∙◌}
 use lib.Dec.{ltb}
 use lib.ListN.{length, get_or, get_elem?, take}
 use borrow.Author.Tests.{ltb-true, ltb-false, eq-eqb, ne_eqb}
-use Rattle.std.specs.Prelude as code
 use Rattle.definitions.specs.{TimeStamp}
 use Rattle.definitions.specs.Lists.{position}
 use Rattle.definitions.specs.Strand as held
@@ -103,7 +102,7 @@ module _ (root index first : ℕ) (z : Stores) (o : SoundStores root index first
   abbrev queue : List ℕ
   queue = ring z.strands.places t
 
-  abbrev spot : code.Option Spot
+  abbrev spot : Spot
   spot = spot_from (test_at clock complete z.strands) (get_or z.strands.places.tail t 0) queue
 
   abbrev first_one : ℕ
@@ -155,7 +154,7 @@ module _ (root index first : ℕ) (z : Stores) (o : SoundStores root index first
       ∙ from_queue_is any refl
       ∙ taken_spot any (end (get_or z.strands.places.tail t 0) (take first_one queue)) (get_or queue first_one 0)
       ∙ sym
-      (ap (λ (x : code.Option Spot). taken_by (is_found x) (shown (place_found x)) (was_queued first_one))
+      (ap (λ (x : Spot). taken_by (is_found x) (shown (place_found x)) (was_queued first_one))
       (spot_is (test_at clock complete z.strands) (get_or z.strands.places.tail t 0) queue))
 
   -- by the numbers of any top

@@ -7,12 +7,13 @@ use mathlib.Core.Path.{◌≡◌, sym, ap, ap₂, ◌∙◌}
 use lib.Dec.{eqb, ltb}
 use lib.ListN.{get_or, set}
 use borrow.Author.Tests.{lt-ltb, le-ltb, eq-eqb, ne_eqb}
-use Rattle.std.specs.Prelude.{true, false, Option, Some, None}
+use Rattle.std.specs.Prelude.{true, false}
 use Rattle.book.specs.Access.{literal_read}
 use Rattle.book.specs.declared.Literal.{Literal}
 use Rattle.strands.specs.declared.Strand.{Strand}
 use Rattle.strands.specs.Making.{blank_strand, strand_of}
 use Rattle.stores.specs.declared.queue.Spot.{Spot}
+use Rattle.stores.specs.Queue.{is_found, place_found}
 use Rattle.control.specs.declared.ensure_root_answer.Top.{Top}
 use Rattle.control.specs.EnsureRootAnswer.{no_top, topmost, top_by, top_of, next_by, clause_literals}
 use Rattle.control.specs.EnsureRootAnswer.{first_by, in_hand_by, strand_in_hand}
@@ -31,20 +32,16 @@ module _ (entry_table entry_clock active complete : List ℕ) (depth : ℕ) wher
       → topmost entry_table entry_clock active complete depth ≡ top_of entry_table entry_clock active complete depth
   says_topmost n h = sym (ap₂ says (ne_eqb depth 0 n) (le-ltb 64 depth h))
 
-next_is : (place : ℕ) (was s : Option Spot) (active : Bool) → ltb place 256 ≡ active → was ≡ s
-    → next_by active place was ≡ next_by (ltb place 256) place s
-next_is place was s active e is = ap₂ (λ (b : Bool) (r : Option Spot). next_by b place r) (sym e) is
-
-pub says_active : (place : ℕ) (s : Option Spot) → place < 256 → next_by true place None ≡ next_by (ltb place 256) place s
+pub says_active : (place : ℕ) (s : Spot) → place < 256
+    → record { found = true; queued = false; place = place; before = 0 } ≡ next_by (ltb place 256) place s
 says_active place s h = ap (λ (b : Bool). next_by b place s) (sym (lt-ltb place 256 h))
 
-pub says_queued : (place : ℕ) (was : Spot) (s : Option Spot) → 256 ≤ place → Some was ≡ s
-    → record { found = true; queued = true; place = was.place; before = was.before } ≡ next_by (ltb place 256) place s
-says_queued place was s h is = next_is place (Some was) s false (le-ltb place 256 h) is
-
-pub says_no_strand : (place : ℕ) (s : Option Spot) → 256 ≤ place → None ≡ s
-    → record { found = false; queued = true; place = 0; before = 0 } ≡ next_by (ltb place 256) place s
-says_no_strand place s h is = next_is place None s false (le-ltb place 256 h) is
+-- the queue was looked along: `was` is what that came to
+pub says_queued : (place : ℕ) (was s : Spot) (found : Bool) (q : ℕ) → 256 ≤ place → was ≡ s → found ≡ is_found was → q ≡ place_found was
+    → record { found = found; queued = true; place = q; before = was.before } ≡ next_by (ltb place 256) place s
+says_queued place was s found q h is there at =
+    ap₂ (λ (b : Bool) (n : ℕ). record { found = b; queued = true; place = n; before = was.before }) there at
+    ∙ ap₂ (λ (b : Bool) (r : Spot). next_by b place r) (sym (le-ltb place 256 h)) is
 
 -- one more literal is read
 pub read_next : (kind goal want : List ℕ) (c i : ℕ) (was : List Literal) (l : Literal) → was ≡ clause_literals kind goal want c i

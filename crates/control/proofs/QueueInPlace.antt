@@ -8,6 +8,7 @@ use mathlib.Core.Path.{◌≡◌, refl, sym, ap, subst}
 use lib.ListN.{get_or}
 use borrow.Author.Tests.{le-ltb}
 use Rattle.std.specs.Prelude as code
+use Rattle.std.specs.Option.{is_some, unwrap_or}
 use Rattle.definitions.specs.Turn as turns
 use Rattle.rings.specs.Rings.{place_if}
 use Rattle.stores.specs.declared.places.Places.{Places}
@@ -57,21 +58,20 @@ module _ (root index first : ℕ) (z : Stores) (o : SoundStores root index first
   abbrev SaysOf : Next → (table : ℕ) → Type 0
   SaysOf x table = Says (taken_out x.found x table z.strands) (place_if x.found x.place)
 
-  abbrev spot : code.Option Spot
+  abbrev spot : Spot
   spot = spot_from (test_at clock complete z.strands) (get_or p.tail t 0) (ring p t)
 
   -- what was found is taken, by what `take_strand` gives and leaves
-  taken_by_spot : (s : code.Option Spot) → spot ≡ s
-      → Says (taken_out (is_found s) (next_by false 256 s) t z.strands) (place_if (is_found s) (place_found s))
-  taken_by_spot s e = let (is, left) = two s e in rw (is, left) whole
+  taken_by_spot : Says (taken_out (is_found spot) (next_by false 256 spot) t z.strands) (place_if (is_found spot) (place_found spot))
+  taken_by_spot = let (is, left) = two spot.place refl in rw (is, left) whole
     where
       whole : Says (taken_strand clock complete t z.strands) (strand_place clock complete t z.strands)
       whole = in_place (first_strands z.book) z.tables z.answers z.strands (held_places z) t clock
           (table_made root index first z o n d) o.strands
 
-      two : (s : code.Option Spot) → spot ≡ s → (place_if (is_found s) (place_found s) ≡ strand_place clock complete t z.strands)
-          × (taken_out (is_found s) (next_by false 256 s) t z.strands ≡ taken_strand clock complete t z.strands)
-      two (code.Some s) f = let l = looked_unlinked (test_at clock complete z.strands) t p s f in (l.0, ap (with_places z.strands) l.1)
+      two : (o : code.Option ℕ) → spot.place ≡ o → (place_if (is_some o) (unwrap_or o 0) ≡ strand_place clock complete t z.strands)
+          × (taken_out (is_some o) (next_by false 256 spot) t z.strands ≡ taken_strand clock complete t z.strands)
+      two (code.Some q) f = let l = looked_unlinked (test_at clock complete z.strands) t p q f in (l.0, ap (with_places z.strands) l.1)
       two code.None f = let l = looked_none (test_at clock complete z.strands) t p f in (l.0, ap (with_places z.strands) l.1)
 
   -- by the numbers of any top
@@ -82,7 +82,7 @@ module _ (root index first : ℕ) (z : Stores) (o : SoundStores root index first
   found_in_place =
       subst (λ (x : Top). SaysOf (next_under x) x.table) (sym (top_is root index first z o n d))
       (subst (λ (b : Bool). SaysOf (next_by b (get_or z.stack.active n 0) spot) t)
-      (sym (le-ltb (get_or z.stack.active n 0) 256 (omega arith))) (taken_by_spot spot refl))
+      (sym (le-ltb (get_or z.stack.active n 0) 256 (omega arith))) taken_by_spot)
 
   pub control_in_place : TakesInPlace z n
   control_in_place =

@@ -1,6 +1,6 @@
 -- The head of the loop of `ensure_root_answer`: the top of the stack, the strand that it goes on with, and that strand where its place is
 -- fresh.
-use Rattle.std.specs.Prelude.{ℕ, zero, suc, ◌-◌, Bool, true, false, List, eqb, ltb, get_or, set, replicate, Option}
+use Rattle.std.specs.Prelude.{ℕ, zero, suc, ◌-◌, Bool, true, false, List, eqb, ltb, get_or, set, replicate}
 use Rattle.book.specs.Access.{literal_read}
 use Rattle.book.specs.declared.Literal.{Literal}
 use Rattle.sizes.specs.Limits.{most_clauses, most_entries, most_places}
@@ -39,7 +39,7 @@ module _ (entry_table entry_clock active complete : List ℕ) (depth : ℕ) wher
 
 -- The strand that it goes on with: the active one, or what the queue was looked along for.
 
-abbrev pub next_by : (active : Bool) → (place : ℕ) → Option Spot → Next
+abbrev pub next_by : (active : Bool) → (place : ℕ) → Spot → Next
 next_by true place s = record { found = true; queued = false; place = place; before = 0 }
 next_by false place s = record { found = is_found s; queued = true; place = place_found s; before = before_found s }
 

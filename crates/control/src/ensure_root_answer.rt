@@ -22,7 +22,8 @@ pub struct Top {
     pub active: u16,
 }
 
-// The place of the strand that the top goes on with, and whether it waits in the queue, behind the place `before`.
+// The place of the strand that the top goes on with, and whether it waits in the queue, behind the place `before`. Where no strand is
+// found, `before` is where looking along the queue ended, as in `Spot`.
 #[derive(Clone, Copy)]
 pub struct Next {
     pub found: bool,
@@ -91,7 +92,7 @@ pub fn next_strand(
             before: 0,
         };
     }
-    let spot = find_strand(
+    let s = find_strand(
         next,
         tail,
         len,
@@ -101,19 +102,11 @@ pub fn next_strand(
         top.clock,
         top.complete,
     );
-    match spot {
-        Some(s) => Next {
-            found: true,
-            queued: true,
-            place: s.place,
-            before: s.before,
-        },
-        None => Next {
-            found: false,
-            queued: true,
-            place: 0,
-            before: 0,
-        },
+    Next {
+        found: s.place.is_some(),
+        queued: true,
+        place: s.place.unwrap_or(0),
+        before: s.before,
     }
 }
 
