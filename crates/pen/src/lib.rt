@@ -13,11 +13,10 @@ pub mod refusals;
 
 ghost use Rattle.std.specs.Prelude.{◌≡◌, false, ◌++◌, ◌<◌, length};
 ghost use Rattle.definitions.specs.Text.{decimal};
-ghost use Rattle.pen.specs.Pen.{pen, put, put_all};
+ghost use Rattle.pen.specs.Pen.{pen, put, put_all, content, lender};
 
 use itoa::Buffer;
 use std::io::{Stderr, Stdout};
-use std::marker::Model;
 
 // The streams that a program writes to, of those that `main` is given.
 #[derive(Clone, Copy)]
@@ -34,14 +33,6 @@ pub struct Pen<'a> {
     pub used: usize,
 }
 
-impl<'a> Model for Pen<'a> {
-    ghost use Rattle.pen.specs.Pen.{Pen as ThePen, pen};
-
-    ghost Value = { ThePen };
-
-    ghost view = { λ p. pen p.buffer.now p.used };
-}
-
 // Answers whether all that is in use was written.
 fn send(to: &impl Print, out: &[u8], used: usize) -> bool
     ensures { length out.now < used → result ≡ false }
@@ -52,10 +43,38 @@ fn send(to: &impl Print, out: &[u8], used: usize) -> bool
     }
 }
 
+// For who holds a buffer, and how much of it is in use, and no pen: to standard output. Answers whether all that is in use was written.
+pub fn flush(to: Streams, out: &[u8], at: usize) -> bool
+    ensures { length out.now < at → result ≡ false }
+{
+    send(&to.output, out, at)
+}
+
+// The same to standard error.
+pub fn tell(to: Streams, out: &[u8], at: usize) -> bool
+    ensures { length out.now < at → result ≡ false }
+{
+    send(&to.errors, out, at)
+}
+
+// And bytes put down. Answers how much is then in use.
+pub fn text(to: Streams, out: &mut [u8], at: usize, bytes: &[u8]) -> usize
+    ensures { pen out.new result ≡ put_all bytes.now (pen out.old at) }
+{
+    let mut pen = Pen {
+        to,
+        buffer: out,
+        used: at,
+    };
+    pen.text(bytes);
+    pen.used
+}
+
 impl<'a> Pen<'a> {
     // Nothing is in use yet.
     pub fn new(to: Streams, buffer: &'a mut [u8]) -> Self
-        ensures { result ≡ pen buffer.old 0 }
+        ensures holds { content result ≡ pen buffer.old 0 }
+        ensures same_buffer { lender result ≡ buffer.entry.ghost_name }
     {
         Pen {
             to,
@@ -68,16 +87,16 @@ impl<'a> Pen<'a> {
 impl Pen<'_> {
     // To standard output. Answers whether all that is in use was written.
     pub fn flush(&self) -> bool
-        ensures { length self.now.buffer < self.now.used → result ≡ false }
+        ensures { length self.now.buffer.now < self.now.used → result ≡ false }
     {
-        send(&self.to.output, self.buffer, self.used)
+        flush(self.to, self.buffer, self.used)
     }
 
     // The same to standard error.
     pub fn tell(&self) -> bool
-        ensures { length self.now.buffer < self.now.used → result ≡ false }
+        ensures { length self.now.buffer.now < self.now.used → result ≡ false }
     {
-        send(&self.to.errors, self.buffer, self.used)
+        tell(self.to, self.buffer, self.used)
     }
 
     // A full buffer is written out, and where that fails, it is told.
@@ -91,7 +110,8 @@ impl Pen<'_> {
 
     #[tactic(auto, using(crate::proofs::Putting::put_room, crate::proofs::Putting::put_full, crate::proofs::Putting::put_none))]
     pub fn byte(&mut self, b: u8)
-        ensures { self.new ≡ put b self.old }
+        ensures puts { content self.new ≡ put b (content self.old) }
+        ensures same_buffer { lender self.new ≡ lender self.old }
     {
         if self.used < self.buffer.len() {
             self.buffer[self.used] = b;
@@ -108,7 +128,8 @@ impl Pen<'_> {
 
     #[tactic(auto, using(crate::proofs::Putting::put_nothing, crate::proofs::Putting::put_next))]
     pub fn text(&mut self, bytes: &[u8])
-        ensures { self.new ≡ put_all bytes.now self.old }
+        ensures puts { content self.new ≡ put_all bytes.now (content self.old) }
+        ensures same_buffer { lender self.new ≡ lender self.old }
     {
         for b in bytes {
             self.byte(*b);
@@ -118,14 +139,16 @@ impl Pen<'_> {
     // A number in decimal.
     #[tactic(auto, using(crate::proofs::Numbers::decimal_printed))]
     pub fn number(&mut self, n: u64)
-        ensures { self.new ≡ put_all (decimal n) self.old }
+        ensures puts { content self.new ≡ put_all (decimal n) (content self.old) }
+        ensures same_buffer { lender self.new ≡ lender self.old }
     {
         self.text(Buffer::new().format(n).as_bytes());
     }
 
     // A word, and the number behind it.
     pub fn counted(&mut self, word: &[u8], n: u64)
-        ensures { self.new ≡ put_all (word.now ++ decimal n) self.old }
+        ensures puts { content self.new ≡ put_all (word.now ++ decimal n) (content self.old) }
+        ensures same_buffer { lender self.new ≡ lender self.old }
     {
         self.text(word);
         self.number(n);

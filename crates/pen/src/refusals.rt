@@ -1,6 +1,6 @@
 // The refusals as the programs say them to whoever wrote the paper: a line with the number, and below it the number's sentence.
 ghost use Rattle.std.specs.Prelude.{◌≡◌};
-ghost use Rattle.pen.specs.Pen.{put_all};
+ghost use Rattle.pen.specs.Pen.{put_all, content, lender};
 ghost use Rattle.pen.specs.Refusals.{sentence as sentenceOf, refusal_line, refusal_lines};
 
 use crate::Pen;
@@ -8,7 +8,8 @@ use crate::Pen;
 impl Pen<'_> {
     #[tactic(auto, unfolding(crate::specs::Refusals::sentence))]
     fn sentence(&mut self, number: u8)
-        ensures { self.new ≡ put_all (sentenceOf number) self.old }
+        ensures puts { content self.new ≡ put_all (sentenceOf number) (content self.old) }
+        ensures same_buffer { lender self.new ≡ lender self.old }
     {
         match number {
             1 => self.text(b"a command, an operand or the end is missing\n"),
@@ -32,7 +33,8 @@ impl Pen<'_> {
     // The line alone, for a reader that goes by numbers.
     #[tactic(auto, using(crate::proofs::Sentences::line_said))]
     pub fn refusal_line(&mut self, number: u8)
-        ensures { self.new ≡ put_all (refusal_line number) self.old }
+        ensures puts { content self.new ≡ put_all (refusal_line number) (content self.old) }
+        ensures same_buffer { lender self.new ≡ lender self.old }
     {
         self.counted(b"refused ", number as u64);
         self.text(b"\n");
@@ -40,7 +42,8 @@ impl Pen<'_> {
 
     #[tactic(auto, using(crate::proofs::Putting::put_all_append), unfolding(crate::specs::Refusals::refusal_lines))]
     pub fn refusal(&mut self, number: u8)
-        ensures { self.new ≡ put_all (refusal_lines number) self.old }
+        ensures puts { content self.new ≡ put_all (refusal_lines number) (content self.old) }
+        ensures same_buffer { lender self.new ≡ lender self.old }
     {
         self.refusal_line(number);
         self.sentence(number);
