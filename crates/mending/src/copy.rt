@@ -4,7 +4,7 @@ ghost use Rattle.std.specs.declared.option.Option as found;
 ghost use Rattle.laws.specs.Spans.{span};
 ghost use Rattle.definitions.specs.Book.{command, width as width_of};
 ghost use Rattle.papers.specs.Mend.{at_other, at_clause, at_command, if_stays, copied};
-ghost use Rattle.pen.specs.Pen.{put_all};
+ghost use Rattle.pen.specs.Pen.{put_all, content, lender};
 ghost use Rattle.mending.specs.declared.reasons.Reason.{Reason};
 ghost use Rattle.mending.specs.Reasons.{reason_at};
 ghost use Rattle.mending.specs.Copying.{copying, Goes};
@@ -102,7 +102,8 @@ impl Copying {
 
 #[tactic(auto, using(pen::proofs::Putting::put_nothing, pen::proofs::Putting::put_one))]
 fn put_if(pen: &mut Pen, stays: bool, b: u8)
-    ensures { pen.new ≡ put_all (if_stays stays b []) pen.old }
+    ensures puts { content pen.new ≡ put_all (if_stays stays b []) (content pen.old) }
+    ensures same_buffer { lender pen.new ≡ lender pen.old }
 {
     if stays {
         pen.byte(b);
@@ -111,7 +112,8 @@ fn put_if(pen: &mut Pen, stays: bool, b: u8)
 
 // What stays.
 pub(crate) fn copy(pen: &mut Pen, reasons: &[Option<Reason>; MOST_CLAUSES], bytes: &[u8])
-    ensures { pen.new ≡ put_all (copied bytes.now (span (reason_at reasons.now) 0 256)) pen.old }
+    ensures puts { content pen.new ≡ put_all (copied bytes.now (span (reason_at reasons.now) 0 256)) (content pen.old) }
+    ensures same_buffer { lender pen.new ≡ lender pen.old }
 {
     let mut c = Copying {
         skip: 0,

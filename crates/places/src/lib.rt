@@ -4,14 +4,15 @@
 ghost use Rattle.std.specs.Prelude.{◌≡◌};
 ghost use Rattle.std.proofs.Math.Option.{some};
 ghost use Rattle.paper_checks.specs.Places.{fault_seen, seen_place, place_seen};
-ghost use Rattle.pen.specs.Pen.{put_all};
+ghost use Rattle.pen.specs.Pen.{put_all, content, lender};
 ghost use Rattle.places.specs.Words.{fault_words, place_line};
 
 use paper_checks::{Fault, NotPlain};
 use pen::Pen;
 
 fn fault(pen: &mut Pen, fault: Fault)
-    ensures { pen.new ≡ put_all (fault_words (some (fault_seen fault))) pen.old }
+    ensures puts { content pen.new ≡ put_all (fault_words (some (fault_seen fault))) (content pen.old) }
+    ensures same_buffer { lender pen.new ≡ lender pen.old }
 {
     match fault {
         Fault::Flag => pen.text(b": a flag\n"),
@@ -22,7 +23,8 @@ fn fault(pen: &mut Pen, fault: Fault)
 }
 
 fn line(pen: &mut Pen, p: NotPlain)
-    ensures { pen.new ≡ put_all (place_line (some (seen_place p))) pen.old }
+    ensures puts { content pen.new ≡ put_all (place_line (some (seen_place p))) (content pen.old) }
+    ensures same_buffer { lender pen.new ≡ lender pen.old }
 {
     match p {
         NotPlain::Goal { goal, fault: f } => {
@@ -55,7 +57,8 @@ fn line(pen: &mut Pen, p: NotPlain)
 // Of no place nothing is said.
 #[tactic(auto, using(pen::proofs::Putting::put_nothing))]
 pub fn place(pen: &mut Pen, p: Option<NotPlain>)
-    ensures { pen.new ≡ put_all (place_line (place_seen p)) pen.old }
+    ensures puts { content pen.new ≡ put_all (place_line (place_seen p)) (content pen.old) }
+    ensures same_buffer { lender pen.new ≡ lender pen.old }
 {
     match p {
         Some(p) => line(pen, p),

@@ -5,5 +5,5 @@ use Rattle.mending.proofs.copy.copy.Goals as goal
 pub loop-b-preserved : goal.loop-b-preserved
 loop-b-preserved c = search (copy_step, rules)
 
-pub returns : goal.returns
-returns c = search copy_done
+pub returns-clause-puts : goal.returns-clause-puts
+returns-clause-puts c = search copy_done

@@ -7,7 +7,7 @@ clause_lines-requires c = search goal_few
 pub loop-g-preserved : goal.loop-g-preserved
 loop-g-preserved c =
     goals_step _ c.requires.formed c.loop-g.g _ _ c.loop-g-test.true c.first_clause.ensures c.clause_count.ensures
-    _ _ _ _ c.requires.reasoned c.loop-g.invariant c.clause_lines.ensures
+    _ _ _ _ c.requires.reasoned c.loop-g.invariant.puts c.clause_lines.ensures.puts
 
-pub returns : goal.returns
-returns c = search goals_said
+pub returns-clause-puts : goal.returns-clause-puts
+returns-clause-puts c = search goals_said

@@ -2,5 +2,5 @@
 use Rattle.xsb_export.proofs.Exporting.{text_said}
 use Rattle.xsb_export.proofs.export.book_text.Goals as goal
 
-pub returns : goal.returns
-returns c = search text_said
+pub returns-clause-puts : goal.returns-clause-puts
+returns-clause-puts c = search text_said

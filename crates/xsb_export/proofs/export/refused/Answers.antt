@@ -2,5 +2,5 @@
 use Rattle.xsb_export.proofs.Exporting.{refusal_said}
 use Rattle.xsb_export.proofs.export.refused.Goals as goal
 
-pub returns : goal.returns
-returns c = search refusal_said
+pub returns-clause-puts : goal.returns-clause-puts
+returns-clause-puts c = search refusal_said

@@ -2,8 +2,8 @@
 use Rattle.xsb_export.proofs.Exporting.{fact_said, body_said}
 use Rattle.xsb_export.proofs.rules.body.Goals as goal
 
-pub returns-then-count-eq0 : goal.returns-then-count-eq0
-returns-then-count-eq0 c = search fact_said
+pub returns-then-count-eq0-clause-puts : goal.returns-then-count-eq0-clause-puts
+returns-then-count-eq0-clause-puts c = search fact_said
 
-pub returns : goal.returns
-returns c = search body_said
+pub returns-clause-puts : goal.returns-clause-puts
+returns-clause-puts c = search body_said

@@ -2,5 +2,5 @@
 use Rattle.xsb_export.proofs.Exporting.{rule_said}
 use Rattle.xsb_export.proofs.rules.rule_line.Goals as goal
 
-pub returns : goal.returns
-returns c = search rule_said
+pub returns-clause-puts : goal.returns-clause-puts
+returns-clause-puts c = search rule_said
