@@ -6,8 +6,8 @@
 #![tactic(auto)]
 
 use intake::input;
-use mending::mend::mend;
-use pen::{Pen, Streams};
+use mending::mend::mend_to;
+use pen::{Streams, flush, tell};
 use sizes::READ_AHEAD;
 
 // What an input comes to is settled by its first 20,480 bytes (`mend_take`, in the proofs of `definitions`): what follows is not read. A
@@ -16,11 +16,9 @@ use sizes::READ_AHEAD;
 fn answer(to: Streams, bytes: &[u8]) {
     let mut out = [0u8; READ_AHEAD];
     let mut lines = [0u8; 4096];
-    let mut book = Pen::new(to, &mut out);
-    let mut told = Pen::new(to, &mut lines);
-    let _ = mend(&mut book, &mut told, bytes);
-    told.tell();
-    if !book.flush() {
+    let mended = mend_to(to, &mut out, &mut lines, bytes);
+    tell(to, &lines, mended.told);
+    if !flush(to, &out, mended.used) {
         let _ = eprintln!(to.errors; "mend: the book can't be written");
     }
 }

@@ -5,9 +5,9 @@
 #![tactic(auto)]
 
 use intake::input;
-use pen::{Pen, Streams};
+use pen::{Streams, flush, tell};
 use sizes::READ_AHEAD;
-use xsb_export::export::export;
+use xsb_export::export::export_to;
 
 // What an input comes to is settled by its first 20,480 bytes (`export_take`, in the proofs of `xsb_export`): what follows is not read.
 // The longest text is 25,334 bytes: 64 lines of at most 16 for the goals, and 256 of at most 95 for the clauses. So it is all in the buffer
@@ -15,11 +15,9 @@ use xsb_export::export::export;
 fn answer(to: Streams, bytes: &[u8]) {
     let mut out = [0u8; 32768];
     let mut lines = [0u8; 128];
-    let mut text = Pen::new(to, &mut out);
-    let mut told = Pen::new(to, &mut lines);
-    let _ = export(&mut text, &mut told, bytes);
-    told.tell();
-    if !text.flush() {
+    let exported = export_to(to, &mut out, &mut lines, bytes);
+    tell(to, &lines, exported.told);
+    if !flush(to, &out, exported.used) {
         let _ = eprintln!(to.errors; "to_xsb: the text can't be written");
     }
 }

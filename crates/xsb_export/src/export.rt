@@ -82,14 +82,16 @@ pub fn export(out: &mut Pen, told: &mut Pen, bytes: &[u8]) -> Result<(), Refusal
     }
 }
 
-// What an export comes to, and how much is in use of each of two buffers.
+// What an export comes to: how much is in use of the buffer for the text; or a refusal, and how much is in use of that for its lines. Of the
+// other buffer nothing is.
+#[derive(Clone, Copy)]
 pub struct Exported {
     pub answer: Result<(), Refusal>,
     pub used: usize,
     pub told: usize,
 }
 
-// The same for who holds the two buffers and no pens: from their starts on.
+// The same for who holds two buffers and no pens: both are put down from the start of their buffers on.
 pub fn export_to(to: Streams, out: &mut [u8], told: &mut [u8], bytes: &[u8]) -> Exported
     ensures { (fault_number result.answer, pen out.new result.used, pen told.new result.told)
         ≡ exported (check_export bytes.now) (not_plain_place bytes.now) (pen out.old 0) (pen told.old 0) }

@@ -2,6 +2,6 @@
 use Rattle.mending.proofs.Mends.{book_mended}
 use Rattle.mending.proofs.mend.mend.Goals as goal
 
-pub returns-in-Ok : goal.returns-in-Ok
-returns-in-Ok c =
-    book_mended _ _ _ _ _ _ _ c.in-Ok.ensures c.reasons_of-reasons.ensures c.copy.ensures c.lines.ensures
+pub returns-in-Ok-clause-says : goal.returns-in-Ok-clause-says
+returns-in-Ok-clause-says c =
+    book_mended _ _ _ _ _ _ _ c.in-Ok.ensures c.reasons_of-reasons.ensures c.copy.ensures.puts c.lines.ensures.puts
