@@ -7,7 +7,7 @@
 // One that is refused has its number and the number's sentence.
 ghost use Rattle.std.specs.Prelude.{◌≡◌, get_or};
 ghost use Rattle.definitions.specs.Desk.{desk};
-ghost use Rattle.pen.specs.Pen.{put_all};
+ghost use Rattle.pen.specs.Pen.{put_all, content};
 ghost use Rattle.pen.specs.Goals.{words_from};
 ghost use Rattle.certify.specs.Words.{not_words, spoilt_words, certify_words};
 ghost use Rattle.certify.specs.Told.{own_words, reason_told, verdict_told, line_told};
@@ -19,7 +19,7 @@ use pen::Pen;
 
 #[tactic(auto, using(pen::proofs::Putting::put_all_append), unfolding(pen::specs::Pen::put_all))]
 fn a_not(pen: &mut Pen, clause: u8, literal: u8)
-    ensures { pen.new ≡ put_all (not_words clause literal) pen.old }
+    ensures { content pen.new ≡ put_all (not_words clause literal) (content pen.old) }
 {
     pen.counted(b": a \"not\" in clause ", clause as u64);
     pen.counted(b", literal ", literal as u64);
@@ -27,7 +27,7 @@ fn a_not(pen: &mut Pen, clause: u8, literal: u8)
 
 // What a goal spoils by itself.
 fn own_spoil(pen: &mut Pen, own: OwnSpoil)
-    ensures { pen.new ≡ put_all (own_words own) pen.old }
+    ensures { content pen.new ≡ put_all (own_words own) (content pen.old) }
 {
     match own {
         OwnSpoil::Coinductive => pen.text(b": coinductive"),
@@ -37,7 +37,7 @@ fn own_spoil(pen: &mut Pen, own: OwnSpoil)
 
 #[tactic(auto, using(pen::proofs::Putting::put_nothing))]
 fn reason(pen: &mut Pen, own: Option<OwnSpoil>)
-    ensures { pen.new ≡ put_all (reason_told own) pen.old }
+    ensures { content pen.new ≡ put_all (reason_told own) (content pen.old) }
 {
     match own {
         Some(own) => own_spoil(pen, own),
@@ -59,7 +59,7 @@ fn own_of(s: &Spoilers, goal: u8) -> Option<OwnSpoil>
 // By which goal another one is spoilt, and what that one spoils by.
 #[tactic(auto, using(pen::proofs::Putting::put_all_append), unfolding(pen::specs::Pen::put_all))]
 fn spoilt(pen: &mut Pen, by: u8, own: Option<OwnSpoil>)
-    ensures { pen.new ≡ put_all (spoilt_words by (reason_told own)) pen.old }
+    ensures { content pen.new ≡ put_all (spoilt_words by (reason_told own)) (content pen.old) }
 {
     pen.counted(b" spoilt by goal ", by as u64);
     reason(pen, own);
@@ -67,7 +67,7 @@ fn spoilt(pen: &mut Pen, by: u8, own: Option<OwnSpoil>)
 }
 
 fn verdict(pen: &mut Pen, s: &Spoilers, by: Option<u8>)
-    ensures { pen.new ≡ put_all (verdict_told s.now.told by) pen.old }
+    ensures { content pen.new ≡ put_all (verdict_told s.now.told by) (content pen.old) }
 {
     match by {
         Some(by) => spoilt(pen, by, own_of(s, by)),
@@ -77,7 +77,7 @@ fn verdict(pen: &mut Pen, s: &Spoilers, by: Option<u8>)
 
 #[tactic(auto, using(pen::proofs::Putting::put_all_append), unfolding(pen::specs::Pen::put_all, crate::specs::Told::line_told))]
 fn goal_line(pen: &mut Pen, s: &Spoilers, goal: usize, spoiler: Spoiler)
-    ensures { pen.new ≡ put_all (line_told s.now.told goal spoiler) pen.old }
+    ensures { content pen.new ≡ put_all (line_told s.now.told goal spoiler) (content pen.old) }
 {
     pen.number(goal as u64);
     verdict(pen, s, spoiler.by);
@@ -85,7 +85,7 @@ fn goal_line(pen: &mut Pen, s: &Spoilers, goal: usize, spoiler: Spoiler)
 
 #[tactic(auto, using(pen::proofs::Goals::words_start, pen::proofs::Goals::words_next))]
 fn goal_lines(pen: &mut Pen, s: &Spoilers, goals: &[Spoiler])
-    ensures { pen.new ≡ put_all (words_from (line_told s.now.told) 0 goals.now) pen.old }
+    ensures { content pen.new ≡ put_all (words_from (line_told s.now.told) 0 goals.now) (content pen.old) }
 {
     for (goal, spoiler) in goals.iter().enumerate() {
         goal_line(pen, s, goal, *spoiler);
@@ -94,7 +94,7 @@ fn goal_lines(pen: &mut Pen, s: &Spoilers, goals: &[Spoiler])
 
 // What is said of a byte string.
 pub(crate) fn say(pen: &mut Pen, bytes: &[u8])
-    ensures { pen.new ≡ put_all (certify_words (desk bytes.now)) pen.old }
+    ensures { content pen.new ≡ put_all (certify_words (desk bytes.now)) (content pen.old) }
 {
     match spoilers(bytes) {
         Ok(s) => goal_lines(pen, &s, &s.told[..s.goals]),

@@ -10,7 +10,7 @@
 // its mark.
 ghost use Rattle.std.specs.Prelude.{◌≡◌, ◌<◌, ◌/◌, ◌%◌};
 ghost use Rattle.definitions.specs.Book.{bit0 as bit0Of, bit1 as bit1Of};
-ghost use Rattle.pen.specs.Pen.{put_all};
+ghost use Rattle.pen.specs.Pen.{put_all, content};
 ghost use Rattle.book.specs.View.{Formed, wanted, bit2 as bit2Of, kept, clause_viewed, goal_viewed, view};
 ghost use Rattle.inspect.specs.Words.{mark as mark_of, slashed as slashedOf, ranged as rangedOf, want_words, name_words};
 ghost use Rattle.inspect.specs.Words.{literal_words, before, head_words};
@@ -41,7 +41,7 @@ fn bit2(kind: u8) -> bool
 
 #[tactic(auto, using(pen::proofs::Putting::put_all_append), unfolding(pen::specs::Pen::put_all))]
 fn mark(pen: &mut Pen, on: bool, words: &[u8])
-    ensures { pen.new ≡ put_all (mark_of on words.now) pen.old }
+    ensures { content pen.new ≡ put_all (mark_of on words.now) (content pen.old) }
 {
     if on {
         pen.text(words);
@@ -51,7 +51,7 @@ fn mark(pen: &mut Pen, on: bool, words: &[u8])
 // A number, and another one behind a slash if it isn't 0.
 #[tactic(auto, using(pen::proofs::Putting::put_all_append), unfolding(pen::specs::Pen::put_all, crate::specs::Words::slashed))]
 fn slashed(pen: &mut Pen, n: usize, v: u16)
-    ensures { pen.new ≡ put_all (slashedOf n v) pen.old }
+    ensures { content pen.new ≡ put_all (slashedOf n v) (content pen.old) }
 {
     pen.number(n as u64);
     if v == 0 {
@@ -64,7 +64,7 @@ fn slashed(pen: &mut Pen, n: usize, v: u16)
 // A number, and the ends of a range behind a slash.
 #[tactic(auto, using(pen::proofs::Putting::put_all_append), unfolding(pen::specs::Pen::put_all, crate::specs::Words::ranged))]
 fn ranged(pen: &mut Pen, n: usize, low: u16, high: u16)
-    ensures { pen.new ≡ put_all (rangedOf n low high) pen.old }
+    ensures { content pen.new ≡ put_all (rangedOf n low high) (content pen.old) }
 {
     pen.number(n as u64);
     pen.text(b"/");
@@ -75,7 +75,7 @@ fn ranged(pen: &mut Pen, n: usize, low: u16, high: u16)
 
 // A goal, and what a literal wants of it.
 fn want(pen: &mut Pen, range: bool, goal: usize, low: u16, high: u16)
-    ensures { pen.new ≡ put_all (want_words goal (wanted range low high)) pen.old }
+    ensures { content pen.new ≡ put_all (want_words goal (wanted range low high)) (content pen.old) }
 {
     if range {
         ranged(pen, goal, low, high);
@@ -86,8 +86,8 @@ fn want(pen: &mut Pen, range: bool, goal: usize, low: u16, high: u16)
 
 #[tactic(auto, using(pen::proofs::Putting::put_all_append), unfolding(pen::specs::Pen::put_all))]
 fn name(pen: &mut Pen, kind: u8, goal: u16, ends: u32)
-    ensures { pen.new
-        ≡ put_all (name_words (bit1Of kind) goal (wanted (bit2Of kind) (ends % 65536) (ends / 65536))) pen.old }
+    ensures { content pen.new
+        ≡ put_all (name_words (bit1Of kind) goal (wanted (bit2Of kind) (ends % 65536) (ends / 65536))) (content pen.old) }
 {
     if bit1(kind) {
         pen.text(b"not ");
@@ -100,7 +100,7 @@ fn name(pen: &mut Pen, kind: u8, goal: u16, ends: u32)
 
 // The literal's kind has the mark in bit 0, "not" in bit 1 and that it wants a range in bit 2.
 fn literal(pen: &mut Pen, kind: u8, goal: u16, ends: u32)
-    ensures { pen.new ≡ put_all (literal_words (kept kind goal ends)) pen.old }
+    ensures { content pen.new ≡ put_all (literal_words (kept kind goal ends)) (content pen.old) }
 {
     name(pen, kind, goal, ends);
     mark(pen, bit0(kind), b" [outsized]");
@@ -109,7 +109,7 @@ fn literal(pen: &mut Pen, kind: u8, goal: u16, ends: u32)
 // What stands before the literal j of a clause.
 #[tactic(auto, using(pen::proofs::Putting::put_all_append), unfolding(crate::specs::Words::before))]
 fn between(pen: &mut Pen, j: usize)
-    ensures { pen.new ≡ put_all (before j) pen.old }
+    ensures { content pen.new ≡ put_all (before j) (content pen.old) }
 {
     if j == 0 {
         pen.text(b" :- ");
@@ -119,7 +119,7 @@ fn between(pen: &mut Pen, j: usize)
 }
 
 fn head(pen: &mut Pen, goal: usize, variant: u16, flags: u8)
-    ensures { pen.new ≡ put_all (head_words goal variant (bit0Of flags) (bit1Of flags)) pen.old }
+    ensures { content pen.new ≡ put_all (head_words goal variant (bit0Of flags) (bit1Of flags)) (content pen.old) }
 {
     slashed(pen, goal, variant);
     mark(pen, bit0(flags), b" [cannot prove]");
@@ -128,7 +128,7 @@ fn head(pen: &mut Pen, goal: usize, variant: u16, flags: u8)
 
 #[tactic(auto, using(pen::proofs::Putting::put_all_append), unfolding(pen::specs::Pen::put_all, crate::specs::Words::goal_line))]
 fn goal_line(pen: &mut Pen, goal: usize, flags: u8)
-    ensures { pen.new ≡ put_all (goalLine goal (bit0Of flags) (bit1Of flags)) pen.old }
+    ensures { content pen.new ≡ put_all (goalLine goal (bit0Of flags) (bit1Of flags)) (content pen.old) }
 {
     pen.text(b"goal ");
     pen.number(goal as u64);
@@ -141,7 +141,7 @@ fn goal_line(pen: &mut Pen, goal: usize, flags: u8)
 fn clause_line(pen: &mut Pen, book: &Book, goal: usize, c: usize)
     requires formed { Formed book.now }
     requires c_bound { c < 256 }
-    ensures { pen.new ≡ put_all (clause_words goal (clause_viewed book.now c)) pen.old }
+    ensures { content pen.new ≡ put_all (clause_words goal (clause_viewed book.now c)) (content pen.old) }
 {
     let count = wide(book.clause_len[c]);
     head(pen, goal, book.clause_variant[c], book.clause_flags[c]);
@@ -162,7 +162,7 @@ fn clause_line(pen: &mut Pen, book: &Book, goal: usize, c: usize)
 fn clauses(pen: &mut Pen, book: &Book, g: usize)
     requires formed { Formed book.now }
     requires g_lt_goals { g < book.now.goals }
-    ensures { pen.new ≡ put_all (clauses_words g (goal_viewed book.now g).clauses) pen.old }
+    ensures { content pen.new ≡ put_all (clauses_words g (goal_viewed book.now g).clauses) (content pen.old) }
 {
     let first = wide16(book.goal_first[g]);
     let count = wide16(book.goal_len[g]);
@@ -175,7 +175,7 @@ fn clauses(pen: &mut Pen, book: &Book, g: usize)
 fn goal(pen: &mut Pen, book: &Book, g: usize)
     requires formed { Formed book.now }
     requires g_lt_goals { g < book.now.goals }
-    ensures { pen.new ≡ put_all (goal_words g (goal_viewed book.now g)) pen.old }
+    ensures { content pen.new ≡ put_all (goal_words g (goal_viewed book.now g)) (content pen.old) }
 {
     goal_line(pen, g, book.goal_flags[g]);
     clauses(pen, book, g);
@@ -183,7 +183,7 @@ fn goal(pen: &mut Pen, book: &Book, g: usize)
 
 pub(crate) fn goals(pen: &mut Pen, book: &Book)
     requires { Formed book.now }
-    ensures { pen.new ≡ put_all (goals_words 0 (view book.now)) pen.old }
+    ensures { content pen.new ≡ put_all (goals_words 0 (view book.now)) (content pen.old) }
 {
     for g in 0..book.goals {
         goal(pen, book, g);

@@ -4,7 +4,7 @@
 //     goal 0, clause 2, literal 1: no goal 7
 ghost use Rattle.std.specs.Prelude.{◌≡◌, ◌<◌, ltb};
 ghost use Rattle.definitions.specs.Mend.{read_loosely};
-ghost use Rattle.pen.specs.Pen.{put_all};
+ghost use Rattle.pen.specs.Pen.{put_all, content};
 ghost use Rattle.book.specs.Refusals.{number};
 ghost use Rattle.book.specs.View.{Formed, clause_viewed, goal_viewed, view};
 ghost use Rattle.inspect.specs.Missing.{missing_by, missing_clause, missing_goal, missing_from};
@@ -18,7 +18,7 @@ use sizes::{MOST_LITERALS, wide, wide16};
 // A literal's line, if it names no goal of so many.
 #[tactic(auto, using(pen::proofs::Putting::put_all_append), unfolding(pen::specs::Pen::put_all, crate::specs::Missing::missing_by))]
 fn literal(pen: &mut Pen, goals: usize, g: usize, k: usize, j: usize, named: u16)
-    ensures { pen.new ≡ put_all (missing_by (ltb named goals) g k j named) pen.old }
+    ensures { content pen.new ≡ put_all (missing_by (ltb named goals) g k j named) (content pen.old) }
 {
     if wide16(named) < goals {
         return;
@@ -34,7 +34,7 @@ fn literal(pen: &mut Pen, goals: usize, g: usize, k: usize, j: usize, named: u16
 fn literals(pen: &mut Pen, book: &Book, g: usize, k: usize, c: usize)
     requires formed { Formed book.now }
     requires c_bound { c < 256 }
-    ensures { pen.new ≡ put_all (missing_clause book.now.goals g k (clause_viewed book.now c)) pen.old }
+    ensures { content pen.new ≡ put_all (missing_clause book.now.goals g k (clause_viewed book.now c)) (content pen.old) }
 {
     let count = wide(book.clause_len[c]);
     for j in 0..count {
@@ -47,7 +47,7 @@ fn literals(pen: &mut Pen, book: &Book, g: usize, k: usize, c: usize)
 fn clauses(pen: &mut Pen, book: &Book, g: usize)
     requires formed { Formed book.now }
     requires g_lt_goals { g < book.now.goals }
-    ensures { pen.new ≡ put_all (missing_goal book.now.goals g (goal_viewed book.now g)) pen.old }
+    ensures { content pen.new ≡ put_all (missing_goal book.now.goals g (goal_viewed book.now g)) (content pen.old) }
 {
     let first = wide16(book.goal_first[g]);
     let count = wide16(book.goal_len[g]);
@@ -58,7 +58,7 @@ fn clauses(pen: &mut Pen, book: &Book, g: usize)
 
 fn missing(pen: &mut Pen, book: &Book)
     requires { Formed book.now }
-    ensures { pen.new ≡ put_all (missing_from book.now.goals (view book.now)) pen.old }
+    ensures { content pen.new ≡ put_all (missing_from book.now.goals (view book.now)) (content pen.old) }
 {
     for g in 0..book.goals {
         clauses(pen, book, g);
@@ -66,7 +66,7 @@ fn missing(pen: &mut Pen, book: &Book)
 }
 
 fn loosely(pen: &mut Pen, bytes: &[u8])
-    ensures { pen.new ≡ put_all (loose_words (read_loosely bytes.now)) pen.old }
+    ensures { content pen.new ≡ put_all (loose_words (read_loosely bytes.now)) (content pen.old) }
 {
     if let Ok(book) = read_loosely(bytes) {
         goals(pen, &book);
@@ -76,7 +76,7 @@ fn loosely(pen: &mut Pen, bytes: &[u8])
 
 // What stands behind a refusal.
 pub(crate) fn behind(pen: &mut Pen, e: Refusal, bytes: &[u8])
-    ensures { pen.new ≡ put_all (behind_by (number e) (read_loosely bytes.now)) pen.old }
+    ensures { content pen.new ≡ put_all (behind_by (number e) (read_loosely bytes.now)) (content pen.old) }
 {
     if let Refusal::NoSuchGoal = e {
         loosely(pen, bytes);

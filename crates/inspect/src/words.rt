@@ -6,7 +6,7 @@
 //
 // Behind a refusal by 6 stand the book all the same and the literals that name no goal of it (missing.rt).
 ghost use Rattle.std.specs.Prelude.{◌≡◌};
-ghost use Rattle.pen.specs.Pen.{put_all};
+ghost use Rattle.pen.specs.Pen.{put_all, content};
 ghost use Rattle.book.specs.Repeats.{repeat_seen};
 ghost use Rattle.book.specs.Refusals.{number};
 ghost use Rattle.inspect.specs.Words.{refusal_words, desk_words};
@@ -20,7 +20,7 @@ use pen::Pen;
 
 #[tactic(auto, using(pen::proofs::Putting::put_all_append), unfolding(crate::specs::Words::refusal_words))]
 fn refusal(pen: &mut Pen, e: Refusal)
-    ensures { pen.new ≡ put_all (refusal_words (number e)) pen.old }
+    ensures { content pen.new ≡ put_all (refusal_words (number e)) (content pen.old) }
 {
     pen.refusal(u8::from(e));
     pen.text(b"neither entry takes it\n");
@@ -29,7 +29,7 @@ fn refusal(pen: &mut Pen, e: Refusal)
 // Where a clause stands for the second time, so that the desk turns the book down.
 #[tactic(auto, using(pen::proofs::Putting::put_all_append), unfolding(pen::specs::Pen::put_all, crate::specs::Words::desk_words))]
 fn at_desk(pen: &mut Pen, repeat: Option<Repeat>)
-    ensures { pen.new ≡ put_all (desk_words (repeat_seen repeat)) pen.old }
+    ensures { content pen.new ≡ put_all (desk_words (repeat_seen repeat)) (content pen.old) }
 {
     if let Some(r) = repeat {
         pen.counted(b"desk refused 36\ngoal ", r.goal as u64);
@@ -42,7 +42,7 @@ fn at_desk(pen: &mut Pen, repeat: Option<Repeat>)
 // What a byte string says as a book, in words, and what the desk says to it. Of one that is refused with 6 the book stands behind the
 // refusal, as it is read without that test, and behind it the literals that name no goal.
 pub(crate) fn say(pen: &mut Pen, bytes: &[u8])
-    ensures { pen.new ≡ put_all (paper_words bytes.now) pen.old }
+    ensures { content pen.new ≡ put_all (paper_words bytes.now) (content pen.old) }
 {
     match look(bytes) {
         Ok(looked) => {

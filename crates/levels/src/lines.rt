@@ -18,7 +18,7 @@
 //     goals on a cycle through "not": 0 1 5
 ghost use Rattle.std.specs.Prelude.{◌≡◌};
 ghost use Rattle.papers.specs.NotPlain.{not_plain_place};
-ghost use Rattle.pen.specs.Pen.{put_all};
+ghost use Rattle.pen.specs.Pen.{put_all, content};
 ghost use Rattle.pen.specs.Goals.{words_from};
 ghost use Rattle.pen.specs.Refusals.{refusal_lines};
 ghost use Rattle.book.specs.Refusals.{number};
@@ -34,7 +34,7 @@ use places::place;
 
 #[tactic(auto, using(pen::proofs::Putting::put_all_append), unfolding(pen::specs::Pen::put_all, crate::specs::Words::level_line))]
 fn level_line(pen: &mut Pen, goal: usize, level: u8)
-    ensures { pen.new ≡ put_all (levelLine goal level) pen.old }
+    ensures { content pen.new ≡ put_all (levelLine goal level) (content pen.old) }
 {
     pen.number(goal as u64);
     pen.counted(b" ", level as u64);
@@ -43,7 +43,7 @@ fn level_line(pen: &mut Pen, goal: usize, level: u8)
 
 #[tactic(auto, using(pen::proofs::Goals::words_start, pen::proofs::Goals::words_next))]
 fn level_lines(pen: &mut Pen, levels: &[u8])
-    ensures { pen.new ≡ put_all (levelLines 0 levels.now) pen.old }
+    ensures { content pen.new ≡ put_all (levelLines 0 levels.now) (content pen.old) }
 {
     for (goal, level) in levels.iter().enumerate() {
         level_line(pen, goal, *level);
@@ -53,7 +53,7 @@ fn level_lines(pen: &mut Pen, levels: &[u8])
 // The goal with a space before it, if it is marked.
 #[tactic(auto, unfolding(pen::specs::Pen::put_all, crate::specs::Words::marked_words))]
 fn marked(pen: &mut Pen, goal: usize, mark: bool)
-    ensures { pen.new ≡ put_all (marked_words goal mark) pen.old }
+    ensures { content pen.new ≡ put_all (marked_words goal mark) (content pen.old) }
 {
     if mark {
         pen.counted(b" ", goal as u64);
@@ -62,7 +62,7 @@ fn marked(pen: &mut Pen, goal: usize, mark: bool)
 
 #[tactic(auto, using(pen::proofs::Goals::words_start, pen::proofs::Goals::words_next))]
 fn marked_goals(pen: &mut Pen, marks: &[bool])
-    ensures { pen.new ≡ put_all (words_from marked_words 0 marks.now) pen.old }
+    ensures { content pen.new ≡ put_all (words_from marked_words 0 marks.now) (content pen.old) }
 {
     for (goal, mark) in marks.iter().enumerate() {
         marked(pen, goal, *mark);
@@ -71,7 +71,7 @@ fn marked_goals(pen: &mut Pen, marks: &[bool])
 
 #[tactic(auto, using(pen::proofs::Putting::put_all_append), unfolding(pen::specs::Pen::put_all, crate::specs::Words::cycle_words))]
 fn cycle_line(pen: &mut Pen, marks: &[bool])
-    ensures { pen.new ≡ put_all (cycle_words marks.now) pen.old }
+    ensures { content pen.new ≡ put_all (cycle_words marks.now) (content pen.old) }
 {
     pen.text(b"goals on a cycle through \"not\":");
     marked_goals(pen, marks);
@@ -80,7 +80,7 @@ fn cycle_line(pen: &mut Pen, marks: &[bool])
 
 // The first place that is not plain; nothing where there is none.
 fn first_place(pen: &mut Pen, bytes: &[u8])
-    ensures { pen.new ≡ put_all (place_line (not_plain_place bytes.now)) pen.old }
+    ensures { content pen.new ≡ put_all (place_line (not_plain_place bytes.now)) (content pen.old) }
 {
     place(pen, not_plain(bytes));
 }
@@ -88,7 +88,7 @@ fn first_place(pen: &mut Pen, bytes: &[u8])
 // The first line of a refusal by 37 or 38.
 #[tactic(auto, using(pen::proofs::Putting::put_nothing), unfolding(crate::specs::Words::outside_words))]
 fn outside(pen: &mut Pen, refusal: Refusal)
-    ensures { pen.new ≡ put_all (outside_words (number refusal)) pen.old }
+    ensures { content pen.new ≡ put_all (outside_words (number refusal)) (content pen.old) }
 {
     match refusal {
         Refusal::NotPlain => pen.text(b"outside demand 3\n"),
@@ -99,8 +99,8 @@ fn outside(pen: &mut Pen, refusal: Refusal)
 
 // A refusal of a paper, and where it is not plain first.
 fn refused(pen: &mut Pen, refusal: Refusal, bytes: &[u8])
-    ensures { pen.new ≡ put_all (place_line (not_plain_place bytes.now))
-        (put_all (refusal_lines (number refusal)) (put_all (outside_words (number refusal)) pen.old)) }
+    ensures { content pen.new ≡ put_all (place_line (not_plain_place bytes.now))
+        (put_all (refusal_lines (number refusal)) (put_all (outside_words (number refusal)) (content pen.old))) }
 {
     outside(pen, refusal);
     pen.refusal(u8::from(refusal));
@@ -109,7 +109,7 @@ fn refused(pen: &mut Pen, refusal: Refusal, bytes: &[u8])
 
 // What the check of a byte string says.
 pub(crate) fn say(pen: &mut Pen, bytes: &[u8])
-    ensures { Tells bytes.now pen.old pen.new }
+    ensures { Tells bytes.now (content pen.old) (content pen.new) }
 {
     match levels::levels(bytes) {
         Ok(l) => {

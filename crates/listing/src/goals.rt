@@ -1,7 +1,7 @@
 // From a book's bytes to the lines: one forest, each goal opened and peeked at from index 0 on (document 01, "The listing program").
 ghost use Rattle.std.specs.Prelude.{◌||◌, ◌≡◌, ltb};
 ghost use Rattle.papers.specs.Listing.{next_index, pages, listing};
-ghost use Rattle.pen.specs.Pen.{put_all};
+ghost use Rattle.pen.specs.Pen.{put_all, content};
 ghost use Rattle.listing.specs.Goals.{Ready, rest_lines, first_place, OpenedTo, peek_put, next_place, ToldTo};
 
 use crate::lines::{fill, line, one_line_more, settled};
@@ -49,7 +49,7 @@ fn first_place() -> Place
 // Where an open leads: a goal that is not in the book ends the listing, and so does a stop, which is written as that of a peek is: 2 is its
 // word.
 fn opened(pen: &mut Pen, opening: Opening, p: Place) -> Place
-    ensures { OpenedTo opening p pen.old result pen.new }
+    ensures { OpenedTo opening p (content pen.old) result (content pen.new) }
 {
     match opening {
         Opening::Refused(n) => Place { over: true, ..p },
@@ -103,7 +103,7 @@ fn next_index(index: u64, p: Place) -> Place
 
 // Where a peek leads, by the numbers of its reply: behind a stop nothing is listed, and behind what is no answer the next goal.
 fn told(pen: &mut Pen, replies: &[u64; NUMBERS], p: Place) -> Place
-    ensures { ToldTo replies.now p pen.old result pen.new }
+    ensures { ToldTo replies.now p (content pen.old) result (content pen.new) }
 {
     let word = replies[0];
     let value = replies[1];
@@ -138,7 +138,7 @@ fn tell(to: Streams, shown: bool, goal: u64) {
 // opening and by the numbers of a reply. So a peek is a batch of one call.
 fn list_goals(pen: &mut Pen, f: Forest, shown: bool)
     requires { Ready f }
-    ensures { pen.new ≡ put_all (pages (rest_lines 0 f)) pen.old }
+    ensures { content pen.new ≡ put_all (pages (rest_lines 0 f)) (content pen.old) }
 {
     let mut calls = [0u64; NUMBERS];
     let mut replies = [0u64; NUMBERS];
@@ -165,7 +165,7 @@ fn list_goals(pen: &mut Pen, f: Forest, shown: bool)
 
 // The listing of a byte string, whose book is taken as the desk takes it.
 pub(crate) fn list(pen: &mut Pen, bytes: &[u8], shown: bool)
-    ensures { pen.new ≡ put_all (listing bytes.now) pen.old }
+    ensures { content pen.new ≡ put_all (listing bytes.now) (content pen.old) }
 {
     let m = make_at_desk(bytes, CLOCK);
     let making = m.making;

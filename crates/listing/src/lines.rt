@@ -2,7 +2,7 @@
 // variant, behind stop the number, each in its column. It is written from the numbers of a reply (crate `batch`, calls.rt).
 ghost use Rattle.std.specs.Prelude.{◌≡◌};
 ghost use Rattle.papers.specs.Listing.{blank_line, blank_lines, lines_left};
-ghost use Rattle.pen.specs.Pen.{put_all};
+ghost use Rattle.pen.specs.Pen.{put_all, content};
 ghost use Rattle.listing.specs.Lines.{word_column, number_column, number_spaced, reply_line, settled_word, next_line};
 
 use pen::Pen;
@@ -21,7 +21,7 @@ const PAGE: usize = 60;
 
 // What is no word of a peek is not said: a call that is refused has none, and none of those that are listed is.
 fn word(pen: &mut Pen, said: u64)
-    ensures { pen.new ≡ put_all (word_column said) pen.old }
+    ensures { content pen.new ≡ put_all (word_column said) (content pen.old) }
 {
     match said {
         2 => pen.left(WORD, b"stop"),
@@ -40,7 +40,7 @@ fn word(pen: &mut Pen, said: u64)
 
 // Behind a stop, a yes and a maybe there is a number.
 fn number(pen: &mut Pen, said: u64, value: u64)
-    ensures { pen.new ≡ put_all (number_column said value) pen.old }
+    ensures { content pen.new ≡ put_all (number_column said value) (content pen.old) }
 {
     match said {
         2 => pen.right_number(NUMBER, value),
@@ -52,7 +52,7 @@ fn number(pen: &mut Pen, said: u64, value: u64)
 
 // A number in its column, and the space behind it.
 fn field(pen: &mut Pen, width: usize, n: u64)
-    ensures { pen.new ≡ put_all (number_spaced width n) pen.old }
+    ensures { content pen.new ≡ put_all (number_spaced width n) (content pen.old) }
 {
     pen.right_number(width, n);
     pen.text(b" ");
@@ -66,7 +66,7 @@ pub(crate) fn settled(said: u64, skipped: bool) -> u64
 }
 
 pub(crate) fn line(pen: &mut Pen, goal: u64, index: u64, said: u64, value: u64)
-    ensures { pen.new ≡ put_all (reply_line goal index said value) pen.old }
+    ensures { content pen.new ≡ put_all (reply_line goal index said value) (content pen.old) }
 {
     field(pen, GOAL, goal);
     field(pen, INDEX, index);
@@ -84,7 +84,7 @@ pub(crate) fn one_line_more(lines: usize) -> usize
 }
 
 fn blank(pen: &mut Pen)
-    ensures { pen.new ≡ put_all blank_line pen.old }
+    ensures { content pen.new ≡ put_all blank_line (content pen.old) }
 {
     pen.blanks(GOAL + 1 + INDEX + 1 + WORD + 1 + NUMBER);
     pen.text(b"\n");
@@ -92,7 +92,7 @@ fn blank(pen: &mut Pen)
 
 // The page that so many lines are on is filled up.
 pub(crate) fn fill(pen: &mut Pen, lines: usize)
-    ensures { pen.new ≡ put_all (blank_lines (lines_left lines)) pen.old }
+    ensures { content pen.new ≡ put_all (blank_lines (lines_left lines)) (content pen.old) }
 {
     let missing = (PAGE - lines % PAGE) % PAGE;
     for _line in 0..missing {

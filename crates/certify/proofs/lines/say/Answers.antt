@@ -9,4 +9,4 @@ pub returns-in-Ok : goal.returns-in-Ok
 returns-in-Ok c = lines_said c.args.bytes.now c.in-Ok.s c.in-Ok.ensures _ _ c.goal_lines.ensures
 
 pub returns-in-Err : goal.returns-in-Err
-returns-in-Err c = refused_said c.args.bytes.now c.in-Err.refusal _ _ _ c.in-Err.ensures c.from.ensures c.refusal.ensures
+returns-in-Err c = refused_said c.args.bytes.now c.in-Err.refusal _ _ _ c.in-Err.ensures c.from.ensures c.refusal.ensures.puts

@@ -1,5 +1,5 @@
 -- `clause_line`: at each turn the literals that are left, put down from where the pen is, are all that the head leaves to say.
-use Rattle.pen.specs.Pen.{put_all}
+use Rattle.pen.specs.Pen.{put_all, content}
 use Rattle.book.specs.View.{literal_viewed}
 use Rattle.inspect.proofs.Lines.{literals_left}
 use Prim.Native.Nat.{◌≤◌, ◌<◌, ◌*◌}
@@ -8,5 +8,5 @@ use Rattle.inspect.proofs.book_lines.clause_line.Given as goal
 
 abbrev pub invariant-loop-j : goal.invariant-loop-j
 invariant-loop-j l = (l.j ≤ l.count) × (l.count ≤ 8) × (l.c < 256) ×
-    (put_all (literals_left (literal_viewed l.book) (8 * l.c) l.count l.j) l.pen
-    ≡ put_all (literals_left (literal_viewed l.book) (8 * l.c) l.count 0) l.initial.pen)
+    (put_all (literals_left (literal_viewed l.book) (8 * l.c) l.count l.j) (content l.pen)
+    ≡ put_all (literals_left (literal_viewed l.book) (8 * l.c) l.count 0) (content l.initial.pen))

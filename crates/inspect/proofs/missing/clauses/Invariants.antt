@@ -1,5 +1,5 @@
 -- `clauses`: at each turn the clauses that are left, put down from where the pen is, are all that there is to say.
-use Rattle.pen.specs.Pen.{put_all}
+use Rattle.pen.specs.Pen.{put_all, content}
 use Rattle.inspect.proofs.Looking.{clauses_left}
 use Prim.Native.Nat.{◌≤◌, ◌<◌}
 use mathlib.Core.Path.{◌≡◌}
@@ -7,5 +7,5 @@ use Rattle.inspect.proofs.missing.clauses.Given as goal
 
 abbrev pub invariant-loop-k : goal.invariant-loop-k
 invariant-loop-k l = (l.k ≤ l.count) × (l.count < 65536) × (l.first < 65536) ×
-    (put_all (clauses_left l.book l.g l.first l.count l.k) l.pen
-    ≡ put_all (clauses_left l.book l.g l.first l.count 0) l.initial.pen)
+    (put_all (clauses_left l.book l.g l.first l.count l.k) (content l.pen)
+    ≡ put_all (clauses_left l.book l.g l.first l.count 0) (content l.initial.pen))
