@@ -1,6 +1,6 @@
--- THE THEOREM of the program: with a buffer of 20,480 bytes for the book and one of 4,096 for the lines, `mend` puts down exactly the book
--- and exactly the lines. Neither buffer is ever full before its last byte is put down, so that nothing is written out early, and what is
--- in use at the end is all that is to be said (`mend_put_down`, at the end). Assumes nothing.
+-- THE THEOREM of the program: with a buffer of 20,480 bytes for the book and one of 4,096 for the lines, `mend_to` puts down exactly the
+-- book and exactly the lines. Neither buffer is ever full before its last byte is put down, so that nothing is written out early, and what
+-- is in use at the end is all that is to be said (`mend_put_down`, at the end). Assumes nothing.
 use Prim.Native.Nat.{ℕ, ◌+◌, ◌<◌, ◌≤◌}
 use native.Mathlib.Omega.{arith}
 use mathlib.Core.Path.{◌≡◌, ap, ap₂, ◌∙◌}
@@ -45,14 +45,15 @@ refusal_short n h =
       length-append (ascii "refused " ++ decimal n) (10 ∷ []),
     )
 
--- What is in the buffers behind a call of `mend`, which answers n, `used` and `said`: the book and the lines, with number 0; or no book,
--- and the line of a refusal, with its number.
+-- What is in the buffers behind a call of `mend_to`, whose answer has the number n, and which says how much is in use of each (`used`,
+-- `said`): the book and the lines, with number 0; or no book, and the line of a refusal, with its number. So it is of two pens that begin
+-- at their buffers' starts, behind a call of `mend`.
 
 pub record PutDown (bytes out told out' told' : List ℕ) (n used said : ℕ) : Type 0 where
   pub mended : (m : Mended) → mend bytes ≡ accepted m → (n ≡ 0) × Whole m.bytes out out' used × Whole m.lines told told' said
   pub not_mended : (k : ℕ) → mend bytes ≡ refused k → (n ≡ k) × (used ≡ 0) × Whole (refusal_line k) told told' said
 
--- from what is promised of `mend`
+-- from what is promised of `mend_to`
 pub mend_put_down : (bytes out told out' told' : List ℕ) (n used said : ℕ)
     → ◌≡◌ {A = ℕ × Pen × Pen} (n, pen out' used, pen told' said) (mends (mend bytes) (pen out 0) (pen told 0))
     → 20480 ≤ length out → 4096 ≤ length told → PutDown bytes out told out' told' n used said

@@ -82,8 +82,8 @@ pub fn export(out: &mut Pen, told: &mut Pen, bytes: &[u8]) -> Result<(), Refusal
     }
 }
 
-// What an export comes to: how much is in use of the buffer for the text; or a refusal, and how much is in use of that for its lines. Of the
-// other buffer nothing is.
+// What an export comes to: how much is in use of the buffer for the text; or a refusal, and how much is in use of that for its lines. Of
+// the other buffer nothing is.
 #[derive(Clone, Copy)]
 pub struct Exported {
     pub answer: Result<(), Refusal>,
