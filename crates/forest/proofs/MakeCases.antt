@@ -1,11 +1,11 @@
 -- The ways out of `make_of`, over variables, and the two ways in.
 use Prim.Native.Nat.{ℕ, ◌≤◌, ◌<◌}
 use native.Mathlib.Omega.{arith}
-use mathlib.Core.Bool.{Bool, true, ◌||◌}
+use mathlib.Core.Bool.{Bool, true, false, ◌||◌}
 use mathlib.Core.List.{List, [], ◌∷◌}
 use mathlib.Core.Path.{◌≡◌, refl, sym, ap, ap₂, ◌∙◌, subst}
 use lib.Dec.{eqb, leb}
-use borrow.Author.Tests.{le-leb, lt-leb, eq-eqb, ne_eqb}
+use borrow.Author.Tests.{lt-leb, ne_eqb, eqb-false, leb-false}
 use Rattle.definitions.specs.{MAX}
 use Rattle.definitions.specs.Book as said_book
 use Rattle.definitions.specs.Desk.{desk}
@@ -36,10 +36,11 @@ use Rattle.stores.proofs.TablesViews.{blank_tables_sound}
 use Rattle.control.specs.InHand.{Sounds}
 use Rattle.control.specs.Stores.{first_strands}
 use Rattle.forest.specs.declared.Forest.{Forest}
+use Rattle.forest.specs.declared.make.Begun.{Begun}
 use Rattle.forest.specs.declared.make.Made.{Made}
 use Rattle.forest.specs.declared.make.Making.{Making}
 use Rattle.forest.specs.declared.make.Making.TheVariants as makings
-use Rattle.forest.specs.Make.{forest_with, bare, refused_with, MadeSays, MakeSays, MakeAtDeskSays, Stems, MakeOfSays}
+use Rattle.forest.specs.Make.{forest_with, bare, refused_with, begin_by, begin, book_kept, MadeSays, MakeSays, MakeAtDeskSays, Stems, MakeOfSays}
 use Rattle.forest.specs.View.{stores_in, view, Sound}
 
 -- which way it went
@@ -125,6 +126,30 @@ module _ (limit : ℕ) where
           sound = subst Sound (sym is) rests;
           marked = λ n never. absurd (subst WasMade never tt);
         }
+
+-- BY WHAT IS BEGUN WITH: all ways out of `make_of` at once
+module _ (limit : ℕ) where
+  abbrev made_so : Result Book Refusal → Begun → Made
+  made_so r x = record { making = x.making; forest = bare (book_kept r x.making) x.limit x.mark }
+
+  by_limit : (b : Book) → Stems (Ok b) → (zero large : Bool) → eqb limit 0 ≡ zero → leb MAX limit ≡ large
+      → MakeOfSays (Ok b) limit (made_so (Ok b) (begin_by (zero || large) limit))
+  by_limit b h true large ez el = says_limited limit b true large ez el refl _ refl
+  by_limit b h false true ez el = says_limited limit b false true ez el refl _ refl
+  by_limit b h false false ez el =
+      says_made limit b (eqb-false limit 0 ez) (leb-false MAX limit el) h (bare b limit 0) refl
+
+  begun_says : (r : Result Book Refusal) → Stems r → MakeOfSays r limit (made_so r (begin r limit))
+  begun_says (Err e) h = says_unread limit e _ refl
+  begun_says (Ok b) h = by_limit b h (eqb limit 0) (leb MAX limit) refl refl
+
+  pub says_begun : (r : Result Book Refusal) → Stems r → (x : Begun) → x ≡ begin r limit
+      → (k : Book) → k ≡ book_kept r x.making → (f : Forest) → f ≡ bare k x.limit x.mark
+      → MakeOfSays r limit (record { making = x.making; forest = f })
+  says_begun r h x is k kept f made =
+      subst (λ (g : Forest). MakeOfSays r limit (record { making = x.making; forest = g }))
+      (sym (made ∙ ap (λ (c : Book). bare c x.limit x.mark) kept))
+      (subst (λ (y : Begun). MakeOfSays r limit (made_so r y)) (sym is) (begun_says r h))
 
 -- THE WAYS IN
 

@@ -1,5 +1,6 @@
 -- What making says.
-use Rattle.std.specs.Prelude.{ℕ, List, ◌≡◌, Result, IfOk}
+use Rattle.std.specs.Prelude.{ℕ, Bool, true, false, ◌||◌, List, ◌≡◌, eqb, leb, Result, Ok, Err, IfOk}
+use Rattle.definitions.specs.{MAX}
 use Rattle.definitions.specs.Book as said_book
 use Rattle.definitions.specs.Desk.{make_at_desk}
 use Rattle.definitions.specs.Forest as said
@@ -8,6 +9,7 @@ use Rattle.definitions.specs.Tables as tables
 use Rattle.book.specs.View as books
 use Rattle.book.specs.declared.Book.{Book}
 use Rattle.book.specs.declared.refusal.Refusal.{Refusal}
+use Rattle.book.specs.Refusals.{number}
 use Rattle.stores.specs.declared.queue.Strands.{Strands}
 use Rattle.stores.specs.declared.table.Answers.{Answers}
 use Rattle.stores.specs.declared.tables.Tables.{Tables}
@@ -17,6 +19,7 @@ use Rattle.stores.specs.Table.{blank_answers}
 use Rattle.stores.specs.Tables.{blank_tables}
 use Rattle.control.specs.PerformStrand.{lent_of}
 use Rattle.forest.specs.declared.Forest.{Forest}
+use Rattle.forest.specs.declared.make.Begun.{Begun}
 use Rattle.forest.specs.declared.make.Made.{Made}
 use Rattle.forest.specs.declared.make.Making.{Making}
 use Rattle.forest.specs.declared.make.Making.TheVariants as makings
@@ -33,6 +36,24 @@ bare b limit mark = forest_with b blank_tables blank_strands blank_answers limit
 -- `refused`: what a refusal with this number leaves
 abbrev pub refused_with : (number : ℕ) → Book → Made
 refused_with n b = record { making = makings.Refused n; forest = bare b 0 n }
+
+-- what is begun with: the number by which no forest is made, if there is one
+abbrev pub refused_by : (number : ℕ) → Begun
+refused_by n = record { making = makings.Refused n; limit = 0; mark = n }
+
+abbrev pub begin_by : (limited : Bool) → (limit : ℕ) → Begun
+begin_by true limit = refused_by 13
+begin_by false limit = record { making = makings.Made; limit = limit; mark = 0 }
+
+abbrev pub begin : Result Book Refusal → (limit : ℕ) → Begun
+begin (Err e) limit = refused_by (number e)
+begin (Ok b) limit = begin_by (eqb limit 0 || leb MAX limit) limit
+
+-- the book that is kept: a blank one where no forest is made
+abbrev pub book_kept : Result Book Refusal → Making → Book
+book_kept (Err e) m = books.blank
+book_kept (Ok b) (makings.Refused n) = books.blank
+book_kept (Ok b) makings.Made = b
 
 abbrev pub made_by : Making → tables.Forest → Refusable tables.Forest
 made_by (makings.Refused n) f = refused n

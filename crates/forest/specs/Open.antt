@@ -20,6 +20,10 @@ opened_by (openings.Stopped n) f = accepted (record { table = stop n; forest = f
 abbrev pub opened_means : Opened → Refusable said.Opened
 opened_means r = opened_by r.opening (view r.forest)
 
+-- what an open came to, with the forest that it leaves
+abbrev pub opened_to : Opening → Forest → Opened
+opened_to x f = record { opening = x; forest = f }
+
 -- THE CONTRACT. For every sound forest the result is the definitions' and the forest left is sound; and whatever the forest, a refused
 -- call leaves it as it was, and a marked one is refused with 20.
 pub record OpenSays (f : Forest) (goal : ℕ) (r : Opened) : Type 0 where

@@ -19,8 +19,10 @@ use Rattle.batch.specs.Refusal.{refusal_in}
 use Rattle.forest.specs.declared.Forest.{Forest}
 use Rattle.forest.specs.declared.searches.Outcome.{Outcome}
 use Rattle.forest.specs.declared.searches.Outcome.TheVariants as outcomes
+use Rattle.forest.specs.declared.searches.PeekReply.{PeekReply}
 use Rattle.forest.specs.declared.searches.Peeked.{Peeked}
 use Rattle.forest.specs.declared.searches.Ran.{Ran}
+use Rattle.forest.specs.declared.searches.SearchReply.{SearchReply}
 use Rattle.forest.specs.declared.searches.Searched.{Searched}
 use Rattle.forest.specs.View.{book_in, lent_with, view, Sound, forest_by}
 
@@ -68,12 +70,22 @@ pub record PeekSays (f : Forest) (table index rounds limit : ℕ) (r : Peeked) :
       → r ≡ record { outcome = outcomes.Refused n; index = index; turns = 0; exceeded = 0; forest = f }
   pub marked : (f.mark ≡ 0 → ⊥) → r.outcome ≡ outcomes.Refused 20
 
+-- what a search and a peek tell, with the forest that they leave
+abbrev pub searched : SearchReply → Forest → Searched
+searched z f = record { outcome = z.outcome; turns = z.turns; forest = f }
+
+abbrev pub peeked : PeekReply → Forest → Peeked
+peeked z f = record { outcome = z.outcome; index = z.index; turns = z.turns; exceeded = z.exceeded; forest = f }
+
 -- WHAT IS TESTED FIRST: 20, 10 and 11, or 0 where none of them refuses
 abbrev pub refusal_of : Forest → (table index : ℕ) → ℕ
 refusal_of f table index = refusal_in f.mark f.stores.tables.count f.stores.tables.floundered f.stores.answers.places.len table index
 
-abbrev pub refused_peek : Forest → (index number : ℕ) → Peeked
-refused_peek f index number = record { outcome = outcomes.Refused number; index = index; turns = 0; exceeded = 0; forest = f }
+abbrev pub searching_refused : (number : ℕ) → SearchReply
+searching_refused number = record { outcome = outcomes.Refused number; turns = 0 }
+
+abbrev pub peeking_refused : (index number : ℕ) → PeekReply
+peeking_refused index number = record { outcome = outcomes.Refused number; index = index; turns = 0; exceeded = 0 }
 
 -- HOW THEY ARE RUN
 
@@ -94,6 +106,10 @@ course_in f index more = record {
   used = f.stores.strands.places.top;
   answer_used = f.stores.answers.places.top;
 }
+
+-- a course that was run, with the forest that it leaves
+abbrev pub ran : Course → Forest → Ran
+ran c f = record { course = c; forest = f }
 
 -- a forest in which only the numbers that a course carries have changed
 abbrev pub renumbered : Forest → Course → Forest

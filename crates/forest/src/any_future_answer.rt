@@ -19,38 +19,41 @@ pub fn any_future_answer(f: Forest, table: u64, index: u64, variant: u64) -> Fut
     if table >= f.stores.tables.count as u64 {
         return Future::Refused(10);
     }
-    let answers = &f.stores.answers;
-    let strands = &f.stores.strands;
+    // Numbers are copied and lent: where a part of the forest is lent, the compiler copies all of it first.
+    let answer_variants = f.stores.answers.variant;
+    let variants = f.stores.strands.variant;
     if variant > 65535 {
-        all_small(&strands.variant);
-        all_small(&answers.variant);
+        all_small(&variants);
+        all_small(&answer_variants);
         return Future::Found(false);
     }
     let t = (table % 256) as u8;
     let v = (variant % 65536) as u16;
     let from = if index > 256 { 256 } else { index as usize };
-    let ring = &answers.places;
+    let ring = f.stores.answers.places;
+    let keys = f.stores.answers.key;
     if any_answer(
         &ring.next,
         &ring.tail,
         &ring.len,
         t,
         from,
-        &answers.variant,
+        &answer_variants,
         v,
-        &answers.key,
+        &keys,
     ) {
         return Future::Found(true);
     }
-    let queue = &strands.places;
+    let queue = f.stores.strands.places;
+    let times = f.stores.strands.time;
     let any = any_strand(
         &queue.next,
         &queue.tail,
         &queue.len,
         t,
-        &strands.variant,
+        &variants,
         v,
-        &strands.time,
+        &times,
     );
     Future::Found(any)
 }

@@ -1,7 +1,6 @@
 // `Forest::new` over a book: the bytes are read, by the old entry or at the exam desk, and the clock has a limit.
 ghost use Rattle.std.specs.Prelude.{◌≡◌};
-ghost use Rattle.book.specs.View.{blank as blankBook};
-ghost use Rattle.forest.specs.Make.{bare, refused_with, MakeSays, MakeAtDeskSays, Stems, MakeOfSays};
+ghost use Rattle.forest.specs.Make.{bare, refused_by, begin, book_kept, MakeSays, MakeAtDeskSays, Stems, MakeOfSays};
 
 use crate::Forest;
 use book::desk::desk;
@@ -44,35 +43,66 @@ fn bare_forest(book: Book, clock_limit: u64, mark: u8) -> Forest
     }
 }
 
-// A forest that was not made is marked with the number, so that whoever calls it is refused, and nothing is kept of a book.
-fn refused(number: u8) -> Made
-    ensures { result ≡ refused_with number blankBook }
+// What is begun with: what making came to, the clock's limit and the mark.
+#[derive(Clone, Copy)]
+struct Begun {
+    making: Making,
+    limit: u64,
+    mark: u8,
+}
+
+// A forest that is not made is marked with the number, so that whoever calls it is refused.
+fn refused(number: u8) -> Begun
+    ensures { result ≡ refused_by number }
 {
-    Made {
+    Begun {
         making: Making::Refused(number),
-        forest: bare_forest(Book::blank(), 0, number),
+        limit: 0,
+        mark: number,
     }
 }
 
-// What both ways in do behind the reading: refused as it was, then with 13 where the clock's limit is 0 or the largest number.
+// Refused as the reading was, then with 13 where the clock's limit is 0 or the largest number.
+fn begin(r: &Result<Book, Refusal>, clock_limit: u64) -> Begun
+    ensures { result ≡ begin r.now clock_limit }
+{
+    match r {
+        Err(refusal) => refused(u8::from(*refusal)),
+        Ok(_) => {
+            if clock_limit == 0 || clock_limit >= TimeStamp::MAX.clock {
+                return refused(13);
+            }
+            Begun {
+                making: Making::Made,
+                limit: clock_limit,
+                mark: 0,
+            }
+        }
+    }
+}
+
+// Nothing is kept of a book of which no forest is made.
+fn book_kept(r: Result<Book, Refusal>, making: Making) -> Book
+    ensures { result ≡ book_kept r making }
+{
+    match r {
+        Ok(book) => match making {
+            Making::Made => book,
+            Making::Refused(_) => Book::blank(),
+        },
+        Err(_) => Book::blank(),
+    }
+}
+
+// What both ways in do behind the reading. A forest is put together in one place: each place more would have its own copies of it.
 fn make_of(r: Result<Book, Refusal>, clock_limit: u64) -> Made
     requires { Stems r }
     ensures { MakeOfSays r clock_limit result }
 {
-    match r {
-        Err(refusal) => refused(u8::from(refusal)),
-        Ok(book) => {
-            if clock_limit == 0 {
-                return refused(13);
-            }
-            if clock_limit >= TimeStamp::MAX.clock {
-                return refused(13);
-            }
-            Made {
-                making: Making::Made,
-                forest: bare_forest(book, clock_limit, 0),
-            }
-        }
+    let b = begin(&r, clock_limit);
+    Made {
+        making: b.making,
+        forest: bare_forest(book_kept(r, b.making), b.limit, b.mark),
     }
 }
 

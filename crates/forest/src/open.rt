@@ -1,6 +1,6 @@
 // `iter_answers`, its first statement: a goal's table is found or made. A forest in which its strands have no room stops with 22.
 ghost use Rattle.std.specs.Prelude.{◌≡◌};
-ghost use Rattle.forest.specs.Open.{opening_of, OpenSays};
+ghost use Rattle.forest.specs.Open.{opening_of, opened_to, OpenSays};
 
 use crate::Forest;
 use crate::serve_calls::first_serving;
@@ -32,13 +32,23 @@ fn opening_of(said: Said) -> Opening
     }
 }
 
-// The table of a goal. Refused with 20 and 9 in this order.
+impl Forest {
+    // The table of a goal, made in the forest where it lies. Refused with 20 and 9 in this order.
+    pub fn open_goal(&mut self, goal_asked: u64) -> Opening
+        ensures { OpenSays self.old goal_asked (opened_to result self.new) }
+    {
+        let first = first_serving(self);
+        let s = serve_open(first, &self.book, &mut self.stores, goal_asked);
+        self.carry(s.course);
+        opening_of(s.said)
+    }
+}
+
+// The same, of a forest by value.
 pub fn open(f: Forest, goal_asked: u64) -> Opened
     ensures { OpenSays f goal_asked result }
 {
     let mut forest = f;
-    let s = serve_open(first_serving(&f), &f.book, &mut forest.stores, goal_asked);
-    let opening = opening_of(s.said);
-    forest.carry(s.course);
+    let opening = forest.open_goal(goal_asked);
     Opened { opening, forest }
 }

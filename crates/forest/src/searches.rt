@@ -1,8 +1,9 @@
 // `root_answer` with a turn limit, and `peek_answer` with a round limit besides. What is asked is tested first; a stored answer and a
-// floundered table are found by numbers, and only then are strands and answers handed to the loop that owns them.
+// floundered table are found by numbers, and only then are the stores lent to the loop.
 ghost use Rattle.std.specs.Prelude.{◌≡◌};
 ghost use Rattle.search.specs.RootAnswer.{start};
-ghost use Rattle.forest.specs.Searches.{refusal_of, refused_peek, outcome_of, course_in, renumbered, Runs, SearchSays, PeekSays};
+ghost use Rattle.forest.specs.Searches.{refusal_of, searching_refused, peeking_refused, outcome_of, course_in, renumbered, ran, searched, peeked};
+ghost use Rattle.forest.specs.Searches.{Runs, SearchSays, PeekSays};
 
 use crate::Forest;
 use control::performed::Flow;
@@ -44,7 +45,23 @@ pub struct Peeked {
     pub forest: Forest,
 }
 
-// What was run, and the forest that it leaves.
+// What a search tells beside the forest.
+#[derive(Clone, Copy)]
+pub struct SearchReply {
+    pub outcome: Outcome,
+    pub turns: u64,
+}
+
+// What a peek tells beside the forest.
+#[derive(Clone, Copy)]
+pub struct PeekReply {
+    pub outcome: Outcome,
+    pub index: u64,
+    pub turns: u64,
+    pub exceeded: u64,
+}
+
+// What was run, and the forest that it leaves: contracts speak of both together.
 #[derive(Clone, Copy)]
 pub struct Ran {
     pub course: Course,
@@ -95,6 +112,26 @@ fn first_course(f: &Forest, index: u64, more: u64) -> Course
     }
 }
 
+fn searching_refused(number: u8) -> SearchReply
+    ensures { result ≡ searching_refused number }
+{
+    SearchReply {
+        outcome: Outcome::Refused(number),
+        turns: 0,
+    }
+}
+
+fn peeking_refused(index: u64, number: u8) -> PeekReply
+    ensures { result ≡ peeking_refused index number }
+{
+    PeekReply {
+        outcome: Outcome::Refused(number),
+        index,
+        turns: 0,
+        exceeded: 0,
+    }
+}
+
 impl Forest {
     // The numbers that a course carries are the forest's from now on.
     pub(crate) fn carry(&mut self, c: Course)
@@ -106,125 +143,124 @@ impl Forest {
         self.mark = c.mark;
         self.clock = c.clock;
     }
-}
 
-// The first search is started, and where that ends it there is nothing to run.
-fn run(f: Forest, asked: Asked, index: u64, more: u64) -> Ran
-    ensures { Runs f asked (start asked f.stores.tables.floundered f.stores.answers.places.next f.stores.answers.places.tail
-        f.stores.answers.places.len f.stores.answers.variant f.stores.answers.key f.stores.answers.ambiguous
-        (course_in f index more)) result }
-{
-    let c = start(asked, first_course(&f, index, more), &f.stores);
-    if c.over {
-        let mut forest = f;
-        forest.carry(c);
-        return Ran { course: c, forest };
+    // The first search is started, and where that ends it there is nothing to run.
+    fn run(&mut self, asked: Asked, index: u64, more: u64) -> Course
+        ensures { Runs self.old asked (start asked self.old.stores.tables.floundered self.old.stores.answers.places.next
+            self.old.stores.answers.places.tail self.old.stores.answers.places.len self.old.stores.answers.variant
+            self.old.stores.answers.key self.old.stores.answers.ambiguous (course_in self.old index more)) (ran result self.new) }
+    {
+        let c = start(asked, first_course(self, index, more), &self.stores);
+        if c.over {
+            self.carry(c);
+            return c;
+        }
+        self.run_loop(asked, c)
     }
-    run_loop(f, asked, c)
+
+    // The loop, from the root's entry on.
+    fn run_loop(&mut self, asked: Asked, c: Course) -> Course
+        ensures { Runs self.old asked c (ran result self.new) }
+    {
+        let mut stack = blank_stack();
+        push_entry(
+            &mut stack.table,
+            &mut stack.clock,
+            &mut stack.positive,
+            &mut stack.negative,
+            &mut stack.active,
+            0,
+            asked.table,
+            c.clock,
+            TimeStamp::MAX.clock,
+        );
+        let course = ensure_root_answer(asked, c, &self.book, &mut self.stores, &mut stack);
+        self.carry(course);
+        course
+    }
+
+    // A search for the answer at an index of a table, by at most so many turns, in the forest where it lies. Refused with 20, 10, 11 and 12
+    // in this order.
+    pub fn search(&mut self, table: u64, index: u64, limit: u64) -> SearchReply
+        ensures { SearchSays self.old table index limit (searched result self.new) }
+    {
+        let n = refusal(self, table, index);
+        if n > 0 {
+            return searching_refused(n);
+        }
+        if limit == 0 {
+            return searching_refused(12);
+        }
+        let asked = Asked {
+            mode: Mode::Search,
+            table: (table % 256) as u8,
+            limit,
+            clock_limit: self.clock_limit,
+        };
+        let c = self.run(asked, index, 0);
+        let ending = c.ending;
+        SearchReply {
+            outcome: outcome_of(ending),
+            turns: c.done,
+        }
+    }
+
+    // A peek from an index of a table on, by at most so many rounds and so many turns for each search, in the forest where it lies. Refused
+    // with 20, 10, 11 and 12 in this order.
+    pub fn peek(&mut self, table: u64, index: u64, rounds: u64, limit: u64) -> PeekReply
+        ensures { PeekSays self.old table index rounds limit (peeked result self.new) }
+    {
+        let n = refusal(self, table, index);
+        if n > 0 {
+            return peeking_refused(index, n);
+        }
+        if rounds == 0 {
+            return peeking_refused(index, 12);
+        }
+        if limit == 0 {
+            return peeking_refused(index, 12);
+        }
+        let asked = Asked {
+            mode: Mode::Peek,
+            table: (table % 256) as u8,
+            limit,
+            clock_limit: self.clock_limit,
+        };
+        let c = self.run(asked, index, rounds - 1);
+        let ending = c.ending;
+        PeekReply {
+            outcome: outcome_of(ending),
+            index: c.index,
+            turns: c.done,
+            exceeded: c.exceeded,
+        }
+    }
 }
 
-// The loop, from the root's entry on.
-fn run_loop(f: Forest, asked: Asked, c: Course) -> Ran
-    ensures { Runs f asked c result }
-{
-    let mut stack = blank_stack();
-    push_entry(
-        &mut stack.table,
-        &mut stack.clock,
-        &mut stack.positive,
-        &mut stack.negative,
-        &mut stack.active,
-        0,
-        asked.table,
-        c.clock,
-        TimeStamp::MAX.clock,
-    );
-    let mut forest = f;
-    let course = ensure_root_answer(asked, c, &f.book, &mut forest.stores, &mut stack);
-    forest.carry(course);
-    Ran { course, forest }
-}
-
-// A search for the answer at an index of a table, by at most so many turns. Refused with 20, 10, 11 and 12 in this order.
+// A search in a forest by value.
 pub fn search(f: Forest, table: u64, index: u64, limit: u64) -> Searched
     ensures { SearchSays f table index limit result }
 {
-    let n = refusal(&f, table, index);
-    if n > 0 {
-        return Searched {
-            outcome: Outcome::Refused(n),
-            turns: 0,
-            forest: f,
-        };
-    }
-    if limit == 0 {
-        return Searched {
-            outcome: Outcome::Refused(12),
-            turns: 0,
-            forest: f,
-        };
-    }
-    let asked = Asked {
-        mode: Mode::Search,
-        table: (table % 256) as u8,
-        limit,
-        clock_limit: f.clock_limit,
-    };
-    let r = run(f, asked, index, 0);
-    let c = r.course;
-    let ending = c.ending;
-    let outcome = outcome_of(ending);
-    let forest = r.forest;
+    let mut forest = f;
+    let s = forest.search(table, index, limit);
     Searched {
-        outcome,
-        turns: c.done,
+        outcome: s.outcome,
+        turns: s.turns,
         forest,
     }
 }
 
-fn refused_peek(f: Forest, index: u64, number: u8) -> Peeked
-    ensures { result ≡ refused_peek f index number }
-{
-    Peeked {
-        outcome: Outcome::Refused(number),
-        index,
-        turns: 0,
-        exceeded: 0,
-        forest: f,
-    }
-}
-
-// A peek from an index of a table on, by at most so many rounds and so many turns for each search. Refused with 20, 10, 11 and 12 in this
-// order.
+// A peek in a forest by value.
 pub fn peek(f: Forest, table: u64, index: u64, rounds: u64, limit: u64) -> Peeked
     ensures { PeekSays f table index rounds limit result }
 {
-    let n = refusal(&f, table, index);
-    if n > 0 {
-        return refused_peek(f, index, n);
-    }
-    if rounds == 0 {
-        return refused_peek(f, index, 12);
-    }
-    if limit == 0 {
-        return refused_peek(f, index, 12);
-    }
-    let asked = Asked {
-        mode: Mode::Peek,
-        table: (table % 256) as u8,
-        limit,
-        clock_limit: f.clock_limit,
-    };
-    let r = run(f, asked, index, rounds - 1);
-    let c = r.course;
-    let ending = c.ending;
-    let outcome = outcome_of(ending);
-    let forest = r.forest;
+    let mut forest = f;
+    let p = forest.peek(table, index, rounds, limit);
     Peeked {
-        outcome,
-        index: c.index,
-        turns: c.done,
-        exceeded: c.exceeded,
+        outcome: p.outcome,
+        index: p.index,
+        turns: p.turns,
+        exceeded: p.exceeded,
         forest,
     }
 }

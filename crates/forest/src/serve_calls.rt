@@ -62,7 +62,30 @@ pub(crate) fn first_serving(f: &Forest) -> Serving
     }
 }
 
-// As many calls as `count` says, at most 256. What the numbers of a call and of a reply say is told in crate `batch`, calls.rt.
+impl Forest {
+    // As many calls as `count` says, at most 256, served in the forest where it lies. What the numbers of a call and of a reply say is told
+    // in crate `batch`, calls.rt.
+    pub fn serve(&mut self, count: u64, calls: &[u64; NUMBERS], replies: &mut [u64; NUMBERS])
+        ensures { Sound self.old → ServeCallsSays self.old count calls.now replies.old self.new replies.new }
+    {
+        all_fit(calls);
+        let first = first_serving(self);
+        let mut stack = blank_stack();
+        let s = serve_all(
+            first,
+            at_most(count),
+            &self.book,
+            self.clock_limit,
+            &mut self.stores,
+            &mut stack,
+            calls,
+            replies,
+        );
+        self.carry(s.course);
+    }
+}
+
+// The same, of a forest by value.
 pub fn serve_calls(
     f: Forest,
     count: u64,
@@ -71,19 +94,7 @@ pub fn serve_calls(
 ) -> Forest
     ensures { Sound f → ServeCallsSays f count calls.now replies.old result replies.new }
 {
-    all_fit(calls);
     let mut forest = f;
-    let mut stack = blank_stack();
-    let s = serve_all(
-        first_serving(&f),
-        at_most(count),
-        &f.book,
-        f.clock_limit,
-        &mut forest.stores,
-        &mut stack,
-        calls,
-        replies,
-    );
-    forest.carry(s.course);
+    forest.serve(count, calls, replies);
     forest
 }

@@ -7,8 +7,8 @@ use Rattle.forest.specs.declared.open.Opened.{Opened}
 use Rattle.forest.specs.declared.open.Opening.{Opening}
 use Rattle.forest.specs.declared.searches.Peeked.{Peeked}
 use Rattle.forest.specs.declared.searches.Searched.{Searched}
-use Rattle.in_place.specs.declared.calls.SearchReply.{SearchReply}
-use Rattle.in_place.specs.declared.calls.PeekReply.{PeekReply}
+use Rattle.forest.specs.declared.searches.SearchReply.{SearchReply}
+use Rattle.forest.specs.declared.searches.PeekReply.{PeekReply}
 
 abbrev pub turned : Flow → Search → Turned
 turned flow s = record { flow = flow; search = s }

@@ -6,43 +6,20 @@ ghost use Rattle.in_place.specs.Joined.{opened, searched, peeked};
 
 use forest::Forest;
 use forest::open::Opening;
-use forest::searches::Outcome;
-
-// What a search tells beside the forest.
-#[derive(Clone, Copy)]
-pub struct SearchReply {
-    pub outcome: Outcome,
-    pub turns: u64,
-}
-
-// What a peek tells beside the forest.
-#[derive(Clone, Copy)]
-pub struct PeekReply {
-    pub outcome: Outcome,
-    pub index: u64,
-    pub turns: u64,
-    pub exceeded: u64,
-}
+pub use forest::searches::{PeekReply, SearchReply};
 
 // The table of a goal. Refused with 20 and 9 in this order.
 pub fn open(f: &mut Forest, goal: u64) -> Opening
     ensures { OpenSays f.old goal (opened result f.new) }
 {
-    let r = forest::open::open(*f, goal);
-    *f = r.forest;
-    r.opening
+    f.open_goal(goal)
 }
 
 // A search for the answer at an index of a table, by at most so many turns. Refused with 20, 10, 11 and 12 in this order.
 pub fn search(f: &mut Forest, table: u64, index: u64, limit: u64) -> SearchReply
     ensures { SearchSays f.old table index limit (searched result f.new) }
 {
-    let s = forest::searches::search(*f, table, index, limit);
-    *f = s.forest;
-    SearchReply {
-        outcome: s.outcome,
-        turns: s.turns,
-    }
+    f.search(table, index, limit)
 }
 
 // A peek from an index of a table on, by at most so many rounds and so many turns for each search. Refused with 20, 10, 11 and 12 in this
@@ -50,12 +27,5 @@ pub fn search(f: &mut Forest, table: u64, index: u64, limit: u64) -> SearchReply
 pub fn peek(f: &mut Forest, table: u64, index: u64, rounds: u64, limit: u64) -> PeekReply
     ensures { PeekSays f.old table index rounds limit (peeked result f.new) }
 {
-    let p = forest::searches::peek(*f, table, index, rounds, limit);
-    *f = p.forest;
-    PeekReply {
-        outcome: p.outcome,
-        index: p.index,
-        turns: p.turns,
-        exceeded: p.exceeded,
-    }
+    f.peek(table, index, rounds, limit)
 }

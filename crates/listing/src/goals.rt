@@ -8,8 +8,7 @@ use crate::lines::{fill, line, one_line_more, settled};
 use batch::calls::NUMBERS;
 use forest::Forest;
 use forest::make::{Making, make_at_desk};
-use forest::open::{Opening, open};
-use forest::serve_calls::serve_calls;
+use forest::open::Opening;
 use pen::{Pen, Streams};
 use search::root_answer::one_more;
 
@@ -134,8 +133,8 @@ fn tell(to: Streams, shown: bool, goal: u64) {
     }
 }
 
-// The forest stays in this function, since handing one on by value copies it whole: what the other functions need of it is told by an
-// opening and by the numbers of a reply. So a peek is a batch of one call.
+// The forest stays in this function and is lent to each call, since handing one on by value copies it whole: what the other functions need
+// of it is told by an opening and by the numbers of a reply. So a peek is a batch of one call.
 fn list_goals(pen: &mut Pen, f: Forest, shown: bool)
     requires { Ready f }
     ensures { content pen.new ≡ put_all (pages (rest_lines 0 f)) (content pen.old) }
@@ -151,14 +150,12 @@ fn list_goals(pen: &mut Pen, f: Forest, shown: bool)
         }
         if p.opens {
             tell(pen.to, shown, p.goal);
-            let o = open(forest, p.goal);
-            let opening = o.opening;
-            forest = o.forest;
+            let opening = forest.open_goal(p.goal);
             p = opened(pen, opening, p);
             continue;
         }
         ask(&mut calls, p.table, p.index);
-        forest = serve_calls(forest, 1, &calls, &mut replies);
+        forest.serve(1, &calls, &mut replies);
         p = told(pen, &replies, p);
     }
 }

@@ -1,4 +1,4 @@
-// A search: the loop that owns the strands and the answers, and all that is done before its first turn and after its last.
+// A search: the loop that is lent the stores and the stack, and all that is done before its first turn and after its last.
 #![tactic(auto)]
 
 pub mod course;

@@ -9,8 +9,8 @@ use Rattle.forest.specs.ServeCalls.{ServeCallsSays}
 use Rattle.forest.specs.Sittings as told
 use Rattle.forest.specs.Sittings.{Told, left, Gives}
 use Rattle.forest.specs.View.{Sound}
-use Rattle.in_place.specs.declared.calls.PeekReply.{PeekReply}
-use Rattle.in_place.specs.declared.calls.SearchReply.{SearchReply}
+use Rattle.forest.specs.declared.searches.PeekReply.{PeekReply}
+use Rattle.forest.specs.declared.searches.SearchReply.{SearchReply}
 use Rattle.in_place.specs.Joined.{opened, searched, peeked}
 
 -- a call of a forest that is lent: what it gave, and the forest as it lies there afterwards

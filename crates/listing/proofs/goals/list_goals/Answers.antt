@@ -16,7 +16,7 @@ pub loop-p-smaller : goal.loop-p-smaller
 loop-p-smaller c =
     let now = c.loop-p in
     let asks = c.ask.ensures in
-    let says = c.serve_calls-forest.ensures in
+    let says = c.serve.ensures in
     less_told _ _ _ _ _ now.invariant.2 c.if-p.false c.if-p-2.false
     _ _ now.calls _ _ now.invariant.0 now.invariant.1 asks says _ _ c.told-p.ensures
 
@@ -24,7 +24,7 @@ pub loop-p-preserved : goal.loop-p-preserved
 loop-p-preserved c =
     let now = c.loop-p in
     let asks = c.ask.ensures in
-    let says = c.serve_calls-forest.ensures in
+    let says = c.serve.ensures in
     let turn = turn_told _ _ _ _ _ now.invariant.2 c.if-p.false c.if-p-2.false
     _ _ now.calls _ _ now.invariant.0 now.invariant.1 asks says _ _ c.told-p.ensures in
     (turn.0, turn.1, turn.2)
