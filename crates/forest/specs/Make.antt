@@ -55,6 +55,10 @@ book_kept (Err e) m = books.blank
 book_kept (Ok b) (makings.Refused n) = books.blank
 book_kept (Ok b) makings.Made = b
 
+-- what making came to, with the forest that it leaves
+abbrev pub made_anew : Making → Forest → Made
+made_anew x f = record { making = x; forest = f }
+
 abbrev pub made_by : Making → tables.Forest → Refusable tables.Forest
 made_by (makings.Refused n) f = refused n
 made_by makings.Made f = accepted f

@@ -1,6 +1,6 @@
 // `Forest::new` over a book: the bytes are read, by the old entry or at the exam desk, and the clock has a limit.
 ghost use Rattle.std.specs.Prelude.{◌≡◌};
-ghost use Rattle.forest.specs.Make.{bare, refused_by, begin, book_kept, MakeSays, MakeAtDeskSays, Stems, MakeOfSays};
+ghost use Rattle.forest.specs.Make.{bare, refused_by, begin, book_kept, made_anew, MakeSays, MakeAtDeskSays, Stems, MakeOfSays};
 
 use crate::Forest;
 use book::desk::desk;
@@ -103,6 +103,32 @@ fn make_of(r: Result<Book, Refusal>, clock_limit: u64) -> Made
     Made {
         making: b.making,
         forest: bare_forest(book_kept(r, b.making), b.limit, b.mark),
+    }
+}
+
+impl Forest {
+    // The same, in the place of whatever this forest was.
+    fn begin_anew(&mut self, r: Result<Book, Refusal>, clock_limit: u64) -> Making
+        requires { Stems r }
+        ensures { MakeOfSays r clock_limit (made_anew result self.new) }
+    {
+        let b = begin(&r, clock_limit);
+        *self = bare_forest(book_kept(r, b.making), b.limit, b.mark);
+        b.making
+    }
+
+    // As `make`, where the forest lies.
+    pub fn make_anew(&mut self, bytes: &[u8], clock_limit: u64) -> Making
+        ensures { MakeSays bytes.now clock_limit (made_anew result self.new) }
+    {
+        self.begin_anew(read(bytes), clock_limit)
+    }
+
+    // As `make_at_desk`, where the forest lies.
+    pub fn make_anew_at_desk(&mut self, bytes: &[u8], clock_limit: u64) -> Making
+        ensures { MakeAtDeskSays bytes.now clock_limit (made_anew result self.new) }
+    {
+        self.begin_anew(desk(bytes), clock_limit)
     }
 }
 

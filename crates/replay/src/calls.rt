@@ -6,7 +6,7 @@ use crate::words::Reply;
 use batch::calls::NUMBERS;
 use forest::Forest;
 use forest::any_future_answer::any_future_answer;
-use forest::make::{Making, make, make_at_desk};
+use forest::make::{Making, make};
 use forest::open::open;
 use forest::searches::{peek, search};
 use forest::serve_calls::serve_calls;
@@ -20,13 +20,11 @@ pub(crate) fn no_forest() -> Forest {
 // A book's forest, by the old entry or as the desk takes it; and the one that a refused book leaves.
 #[inline(never)]
 pub(crate) fn take_book(f: &mut Forest, bytes: &[u8], clock_limit: u64, desk: bool) -> Making {
-    let made = if desk {
-        make_at_desk(bytes, clock_limit)
+    if desk {
+        f.make_anew_at_desk(bytes, clock_limit)
     } else {
-        make(bytes, clock_limit)
-    };
-    *f = made.forest;
-    made.making
+        f.make_anew(bytes, clock_limit)
+    }
 }
 
 #[inline(never)]
